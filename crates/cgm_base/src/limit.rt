@@ -1,0 +1,67 @@
+use std::fmt;
+
+/// A quantity that is counted and limited.
+#[derive(Clone, Copy, Debug, PartialEq, Eq)]
+pub enum Which {
+    /// Bytes of a model or earlier text.
+    TextBytes,
+    /// Bytes of a name.
+    NameBytes,
+    /// Statements after the header.
+    Statements,
+    /// Elements.
+    Elements,
+    /// Refinements.
+    Refinements,
+    /// Sources of a refinement.
+    Sources,
+    /// Nodes of all formulas together.
+    FormulaNodes,
+    /// Brackets that are open at once in a line.
+    FormulaDepth,
+    /// Objectives.
+    Objectives,
+    /// The size of the number of a value, a reward, a penalty or a term.
+    Coefficient,
+    /// The size of a variable's bound.
+    VariableBound,
+    /// The measure of a comparison.
+    Row,
+    /// The size of a generated model.
+    Trial,
+}
+
+impl fmt::Display for Which {
+    ghost use Rattle.cgm_base.specs.Words.{limit_word};
+
+    ghost output = { λ w. Some (limit_word w) };
+
+    fn fmt<W: fmt::Write>(&self, f: &mut fmt::Formatter<W>) -> fmt::Result {
+        f.write_str(match self {
+            Which::TextBytes => "text-bytes",
+            Which::NameBytes => "name-bytes",
+            Which::Statements => "statements",
+            Which::Elements => "elements",
+            Which::Refinements => "refinements",
+            Which::Sources => "sources",
+            Which::FormulaNodes => "formula-nodes",
+            Which::FormulaDepth => "formula-depth",
+            Which::Objectives => "objectives",
+            Which::Coefficient => "coefficient",
+            Which::VariableBound => "variable-bound",
+            Which::Row => "row",
+            Which::Trial => "trial",
+        })
+    }
+}
+
+/// A limit that was passed.
+#[derive(Clone, Copy, Debug, PartialEq, Eq)]
+pub struct Limit {
+    /// The quantity.
+    pub which: Which,
+    /// The limit itself.
+    pub number: u64,
+    /// The line at which the quantity passes it, from 1; 0 for the whole text.
+    pub line: u32,
+}

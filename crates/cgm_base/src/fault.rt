@@ -40,6 +40,7 @@ pub enum BadKind {
 }
 
 impl fmt::Display for BadKind {
+    ghost use Rattle.std.specs.Prelude.{Some};
     ghost use Rattle.cgm_base.specs.Words.{kind_word};
 
     ghost output = { λ k. Some (kind_word k) };

@@ -32,6 +32,7 @@ pub enum Which {
 }
 
 impl fmt::Display for Which {
+    ghost use Rattle.std.specs.Prelude.{Some};
     ghost use Rattle.cgm_base.specs.Words.{limit_word};
 
     ghost output = { λ w. Some (limit_word w) };

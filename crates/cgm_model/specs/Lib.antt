@@ -1,0 +1,9 @@
+pub mod Lists
+pub mod Name
+pub mod Graph
+pub mod Statement
+pub mod WellFormed
+pub mod Model
+pub mod Place
+pub mod Assignment
+pub mod Realization

@@ -1,0 +1,5 @@
+pub mod Inversion
+pub mod Names
+pub mod Splits
+pub mod Steps
+pub mod Unique

@@ -1,0 +1,13 @@
+use Rattle.std.proofs.Common.{◌≡◌, ◌==◌, ◌+◌, ◌-◌, ◌<◌, length, take, drop, arith, sym, nat_eq}
+use Rattle.std.proofs.lemmas.List.{take_rest, length-drop}
+use Rattle.cgm_text.proofs.Splits.{slice_split-position_none, slice_split-position_some}
+use Rattle.cgm_text.proofs.line.split_line.Goals as goal
+
+pub returns-in-None : goal.returns-in-None
+returns-in-None c = slice_split-position_none (λ byte. byte == 10) c.args.text.now (sym c.in-None.ensures)
+
+pub returns-in-Some : goal.returns-in-Some
+returns-in-Some c =
+    let cut = slice_split-position_some (λ byte. byte == 10) c.args.text.now c.in-Some.end (sym c.in-Some.ensures) in
+    let within = cut.1 in
+    rw take_rest (cut.0, simp length-drop (omega arith))

@@ -1,6 +1,7 @@
 pub mod Lists
 pub mod Name
 pub mod Graph
+pub mod Marks
 pub mod Statement
 pub mod WellFormed
 pub mod Model

@@ -3,6 +3,7 @@
 
 mod assignment;
 mod builder;
+mod cycle;
 mod lists;
 mod name;
 mod parts;

@@ -3,6 +3,7 @@ pub mod Name
 pub mod Graph
 pub mod Marks
 pub mod Statement
+pub mod Named
 pub mod WellFormed
 pub mod Model
 pub mod Place

@@ -1,5 +1,5 @@
 -- Marks that were spread from the sources of a refinement tell whether the graph has a cycle with it.
-use Rattle.std.proofs.Common.{◌≡◌, ℕ, ◌+◌, ◌<◌, ◌≤◌, ◌++◌, Bool, true, false, cond, IsTrue, List, [], ◌∷◌, Some, length, get_or, refl, All, sum_by, arith}
+use Rattle.std.proofs.Common.{◌≡◌, ℕ, ◌+◌, ◌<◌, ◌++◌, Bool, true, false, cond, List, [], ◌∷◌, Some, get_or, refl, All, sum_by, arith}
 use Rattle.std.proofs.lemmas.Bool.{false≢true}
 use Rattle.std.proofs.lemmas.List.Elements.{All-pop, All-push}
 use Rattle.std.proofs.lemmas.List.Sums.{get_or-le-sum_by}

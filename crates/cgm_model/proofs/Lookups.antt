@@ -1,5 +1,5 @@
 -- What finding a name at a place, or at none, says of the list of names.
-use Rattle.std.proofs.Common.{◌≡◌, ℕ, ◌+◌, ◌<◌, ◌++◌, ◌||◌, Bool, true, false, List, Option, Some, None, MatchOption, length, map, get_or, refl, sym, ◌∙◌, ap, All, arith}
+use Rattle.std.proofs.Common.{◌≡◌, ℕ, ◌<◌, ◌++◌, ◌||◌, true, false, List, Option, Some, None, MatchOption, length, map, get_or, refl, sym, ◌∙◌, ap}
 use Rattle.std.specs.List.{list_any}
 use Rattle.std.specs.Str.{bytes_eq}
 use Rattle.std.proofs.lemmas.Bool.{false_from_ne_true}

@@ -1,6 +1,5 @@
-use Rattle.std.proofs.Common.{◌≡◌, ◌==◌, ℕ, true, false, get_or, take, sym, ◌∙◌}
+use Rattle.std.proofs.Common.{◌≡◌, ◌==◌, true, false, get_or, take, sym, ◌∙◌}
 use Rattle.std.specs.List.{list_any}
-use Rattle.std.proofs.lemmas.Grind.{common_steps}
 use Rattle.cgm_model.proofs.Distinct.{distinct_more, distinct_fails}
 use Rattle.cgm_model.proofs.admit.are_distinct.Goals as goal
 

@@ -1,6 +1,5 @@
-use Rattle.std.proofs.Common.{◌≡◌, ◌+◌, ◌++◌, ◌∷◌, [], ℕ, List, take, get_or}
+use Rattle.std.proofs.Common.{take, get_or}
 use Rattle.std.proofs.lemmas.List.{take_more}
-use Rattle.cgm_model.specs.Marks.{MarksEach}
 use Rattle.cgm_model.proofs.Marks.{MarksEach-push}
 use Rattle.cgm_model.proofs.cycle.mark_each.Goals as goal
 

@@ -1,4 +1,4 @@
-use Rattle.std.proofs.Common.{◌≡◌, ℕ, ◌<◌, ◌∙◌, sym, false, get_or, List, All, subst}
+use Rattle.std.proofs.Common.{ℕ, ◌<◌, ◌∙◌, sym, false, get_or, List, All, subst}
 use Rattle.std.proofs.lemmas.Bool.{false≢true, not-true, not_from_false, false_from_ne_true}
 use Rattle.cgm_model.specs.Marks.{IsMarked, AreBelow, MarksEach}
 use Rattle.cgm_model.specs.Graph.{IsNumbering}

@@ -1,4 +1,4 @@
-use Rattle.std.proofs.Common.{◌≡◌, ◌∙◌, sym, map, List, ℕ}
+use Rattle.std.proofs.Common.{◌∙◌, sym, map, List, ℕ}
 use Rattle.cgm_model.specs.declared.lists.Element.{Element}
 use Rattle.cgm_model.specs.declared.lists.Refinement.{Refinement}
 use Rattle.cgm_model.proofs.Lookups.{is_some-found, any-in_first, any-in_second}

@@ -1,9 +1,4 @@
-use Rattle.std.proofs.Common.{◌≡◌, [], List, subst, sym, ◌∙◌, ap, length, ◌∷◌}
-use Rattle.cgm_model.specs.declared.lists.Element.{Element}
-use Rattle.cgm_model.specs.declared.lists.Refinement.{Refinement}
-use Rattle.cgm_model.specs.declared.lists.Assertion.{Assertion}
-use Rattle.cgm_model.specs.Lists.{Lists, no_lists}
-use Rattle.cgm_model.specs.WellFormed.{IsWellFormed}
+use Rattle.std.proofs.Common.{◌≡◌, [], ◌∙◌}
 use Rattle.cgm_model.proofs.Keeping.{IsWellFormed-none}
 use Rattle.cgm_model.proofs.builder.ModelBuilder.new.Goals as goal
 

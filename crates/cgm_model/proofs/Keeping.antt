@@ -41,7 +41,7 @@ passed : (b : Bool) (stop : AddStop) (rest : List (Option AddStop)) → first_so
 passed true stop rest e = (refl, e)
 passed false stop rest e = absurd cc
 
-pub Passes-allowed : (m : Lists) (s : Statement) → refusal m s true ≡ None → Passes m s
+Passes-allowed : (m : Lists) (s : Statement) → refusal m s true ≡ None → Passes m s
 unfolding refusal
 Passes-allowed m s e =
     let a = passed _ _ _ e in
@@ -233,7 +233,7 @@ IsWellFormed-assertion m a w proper p = record {
   refinements = w.refinements;
 }
 
-pub IsWellFormed-added : (m : Lists) (s : Statement) → IsWellFormed m → IsProper m s → IsAllowed m s → IsWellFormed (added m s)
+IsWellFormed-added : (m : Lists) (s : Statement) → IsWellFormed m → IsProper m s → IsAllowed m s → IsWellFormed (added m s)
 IsWellFormed-added m (statements.Element e) w proper allowed =
     IsWellFormed-element m e w proper (Passes-allowed m (statements.Element e) allowed.passes)
 IsWellFormed-added m (statements.Refine r) w proper allowed =

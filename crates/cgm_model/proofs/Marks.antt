@@ -8,16 +8,8 @@ use Rattle.cgm_model.specs.declared.lists.Refinement.{Refinement}
 use Rattle.cgm_model.specs.Graph.{IsNumbering}
 use Rattle.cgm_model.specs.Marks.{IsMarked, unmarked_count, AreBelow, IsClosed, Grows, MarksEach, Spreads, Fills}
 
-pub Grows-none : (marks : List Bool) → Grows marks marks false
-Grows-none marks = record {
-  length = refl;
-  kept = λ _ m. m;
-  fewer = λ e. absurd (false≢true e);
-  same = λ _. refl;
-}
-
 -- one change after another
-pub Grows-then : (a b c : List Bool) (m n : Bool) → Grows a b m → Grows b c n → Grows a c (m || n)
+Grows-then : (a b c : List Bool) (m n : Bool) → Grows a b m → Grows b c n → Grows a c (m || n)
 Grows-then a b c true true g h = record {
   length = h.length ∙ g.length;
   kept = λ x k. h.kept x (g.kept x k);
@@ -72,21 +64,6 @@ MarksEach-new marks at l e = record {
   below = λ f bound each below x m. set_below f bound marks at x (All-head (λ k. f k < bound) at [] each) below m;
 }
 
--- a mark on an element that has one
-pub MarksEach-old : (marks : List Bool) (at : ℕ) → IsMarked marks at → MarksEach (at ∷ []) marks marks false
-MarksEach-old marks at m = record {
-  grows = Grows-none marks;
-  marked = All-cons (IsMarked marks) at [] m (All-nil (IsMarked marks));
-  below = λ f bound each below. below;
-}
-
-pub MarksEach-none : (marks : List Bool) → MarksEach [] marks marks false
-MarksEach-none marks = record {
-  grows = Grows-none marks;
-  marked = All-nil (IsMarked marks);
-  below = λ f bound each below. below;
-}
-
 pub MarksEach-push : (elements : List ℕ) (at : ℕ) (a b c : List Bool) (m n : Bool) → MarksEach elements a b m → MarksEach (at ∷ []) b c n → MarksEach (elements ++ at ∷ []) a c (m || n)
 MarksEach-push elements at a b c m n g h = record {
   grows = Grows-then a b c m n g.grows h.grows;
@@ -105,21 +82,6 @@ Spreads-sources r a b more m g = record {
       let target = below r.target m in
       g.below f bound (λ k d l. let s = first k d l in omega arith) below;
   closed = λ _. All-cons (IsClosed b) r [] (λ _. g.marked) (All-nil (IsClosed b));
-}
-
--- the target is not marked
-pub Spreads-unreached : (r : Refinement) (marks : List Bool) → ¬ IsMarked marks r.target → Spreads (r ∷ []) marks marks false
-Spreads-unreached r marks n = record {
-  grows = Grows-none marks;
-  below = λ f bound each below. below;
-  closed = λ _. All-cons (IsClosed marks) r [] (λ m. absurd (n m)) (All-nil (IsClosed marks));
-}
-
-pub Spreads-none : (marks : List Bool) → Spreads [] marks marks false
-Spreads-none marks = record {
-  grows = Grows-none marks;
-  below = λ f bound each below. below;
-  closed = λ _. All-nil (IsClosed marks);
 }
 
 closed_cons : (r : Refinement) (rs : List Refinement) (b c : List Bool) (m n : Bool) → (m || n) ≡ false → (m ≡ false → All (IsClosed b) rs) → (n ≡ false → All (IsClosed c) (r ∷ [])) → (n ≡ false → c ≡ b) → All (IsClosed c) (r ∷ rs)
@@ -142,12 +104,6 @@ Spreads-cons r rs a b c m n g h = record {
 pub record Follows (refinements : List Refinement) (old new : List Bool) : Type 0 where
   pub kept : (element : ℕ) → IsMarked old element → IsMarked new element
   pub below : (f : ℕ → ℕ) (bound : ℕ) → IsNumbering f refinements → AreBelow f bound old → AreBelow f bound new
-
-pub Follows-none : (refinements : List Refinement) (marks : List Bool) → Follows refinements marks marks
-Follows-none refinements marks = record {
-  kept = λ x m. m;
-  below = λ f bound each below. below;
-}
 
 pub Follows-more : (refinements : List Refinement) (a b c : List Bool) (more : Bool) → Follows refinements a b → Spreads refinements b c more → Follows refinements a c
 Follows-more refinements a b c more g h = record {

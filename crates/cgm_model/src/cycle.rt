@@ -26,6 +26,7 @@ fn clear(marks: &mut [bool])
     }
 }
 
+/// Marks all that is reached from a marked element.
 fn fill(marks: &mut [bool], refinements: &[Refinement])
     requires { All (IsKnown (length marks.old)) refinements.now }
     ensures { Fills refinements.now marks.old marks.new }
@@ -33,6 +34,8 @@ fn fill(marks: &mut [bool], refinements: &[Refinement])
     while spread(marks, refinements) {}
 }
 
+/// Marks the sources of each refinement whose target is marked, and says whether one of them was
+/// not. Goes from the newest back, since most refinements are declared after those of their sources.
 fn spread(marks: &mut [bool], refinements: &[Refinement]) -> bool
     requires { All (IsKnown (length marks.old)) refinements.now }
     ensures { Spreads refinements.now marks.old marks.new result }
@@ -44,6 +47,7 @@ fn spread(marks: &mut [bool], refinements: &[Refinement]) -> bool
     more
 }
 
+/// Does so for one refinement.
 fn spread_one(marks: &mut [bool], r: &Refinement) -> bool
     requires { IsKnown (length marks.old) r.now }
     ensures { Spreads (r.now ∷ []) marks.old marks.new result }
@@ -55,6 +59,7 @@ fn spread_one(marks: &mut [bool], r: &Refinement) -> bool
     }
 }
 
+/// Marks these elements, and says whether one of them was not.
 fn mark_each(marks: &mut [bool], elements: &[u32]) -> bool
     requires { All (λ element. element < length marks.old) elements.now }
     ensures { MarksEach elements.now marks.old marks.new result }

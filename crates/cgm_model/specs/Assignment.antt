@@ -1,5 +1,5 @@
 -- Assignments of truth values to elements and refinements.
-use Rattle.std.specs.Prelude.{◌≡◌, ℕ, Bool, false, IsTrue, length}
+use Rattle.std.specs.Prelude.{◌≡◌, ℕ, false, IsTrue, length}
 use Rattle.std.specs.List.{slice_index_or}
 use Rattle.cgm_model.specs.declared.assignment.Assignment.{Assignment}
 use Rattle.cgm_model.specs.Lists.{Lists}

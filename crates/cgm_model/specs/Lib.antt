@@ -1,7 +1,9 @@
 pub mod Lists
 pub mod Name
 pub mod Graph
+pub mod Marks
 pub mod Statement
+pub mod Named
 pub mod WellFormed
 pub mod Model
 pub mod Place

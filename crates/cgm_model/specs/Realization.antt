@@ -1,5 +1,5 @@
 -- Which assignments are realizations, rule by rule, and the first rule that an assignment breaks.
-use Rattle.std.specs.Prelude.{◌≡◌, ℕ, ◌<◌, ◌↔◌, IsTrue, List, length, All, Option, None, Some, slice_get}
+use Rattle.std.specs.Prelude.{◌≡◌, ℕ, ◌↔◌, IsTrue, All, Some, slice_get}
 use Rattle.cgm_model.specs.declared.assignment.Assignment.{Assignment}
 use Rattle.cgm_model.specs.declared.lists.Element.{Element}
 use Rattle.cgm_model.specs.declared.lists.Refinement.{Refinement}
@@ -8,7 +8,7 @@ use Rattle.cgm_model.specs.declared.realization.Broken.{Broken}
 use Rattle.cgm_model.specs.declared.realization.Broken.TheVariants as broken
 use Rattle.cgm_model.specs.Lists.{Lists}
 use Rattle.cgm_model.specs.Place.{Each, FirstFails}
-use Rattle.cgm_model.specs.Assignment.{Fits, ElementIsTrue, RefinementIsTrue}
+use Rattle.cgm_model.specs.Assignment.{ElementIsTrue, RefinementIsTrue}
 
 -- a refinement is true exactly where all its sources are, and then its target is true
 pub record KeepsRefinement (a : Assignment) (place : ℕ) (r : Refinement) : Type 0 where

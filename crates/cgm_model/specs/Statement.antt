@@ -1,8 +1,7 @@
 -- Which statements may come after those that the lists have, and why one is refused.
-use Rattle.std.specs.Prelude.{◌≡◌, ℕ, ◌+◌, ◌<◌, ◌≤◌, ◌↔◌, Bool, true, false, ◌&&◌, ◌||◌, not, ◌==◌, nat_lt, nat_le, IsTrue, List, [], ◌∷◌, ◌++◌, length, All, Option, None, Some, slice_get, map}
+use Rattle.std.specs.Prelude.{◌≡◌, ℕ, ◌<◌, ◌↔◌, Bool, true, false, ◌&&◌, not, ◌==◌, nat_lt, nat_le, IsTrue, List, [], ◌∷◌, length, All, Option, None, Some, slice_get, map}
 use Rattle.std.specs.List.{list_all, list_any}
 use Rattle.std.specs.Str.{bytes_eq}
-use Rattle.cgm_base.specs.declared.limit.Which.{Which}
 use Rattle.cgm_base.specs.declared.limit.Which.TheVariants as limits
 use Rattle.cgm_base.specs.Words.{limit_number}
 use Rattle.cgm_model.specs.declared.lists.Statement.{Statement}
@@ -13,7 +12,6 @@ use Rattle.cgm_model.specs.declared.lists.ElementKind.{ElementKind}
 use Rattle.cgm_model.specs.declared.lists.ElementKind.TheVariants as kinds
 use Rattle.cgm_model.specs.declared.stop.AddStop.{AddStop}
 use Rattle.cgm_model.specs.declared.stop.AddStop.TheVariants as stops
-use Rattle.cgm_model.specs.declared.stop.Fault.{Fault}
 use Rattle.cgm_model.specs.declared.stop.Fault.TheVariants as faults
 use Rattle.cgm_model.specs.Lists.{Lists, added, names, element_names, refinement_names, statement_count}
 use Rattle.cgm_model.specs.Name.{is_name}

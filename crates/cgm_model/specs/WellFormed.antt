@@ -1,5 +1,5 @@
 -- Which lists are a model: what each one of their statements kept when it was added.
-use Rattle.std.specs.Prelude.{◌≡◌, ◌≢◌, ℕ, ◌<◌, ◌≤◌, IsTrue, List, length, All, AllPairs, Some, slice_get, map}
+use Rattle.std.specs.Prelude.{◌≡◌, ◌≢◌, ◌<◌, ◌≤◌, IsTrue, length, All, AllPairs, Some, slice_get, map}
 use Rattle.cgm_base.specs.declared.limit.Which.TheVariants as limits
 use Rattle.cgm_base.specs.Words.{limit_number}
 use Rattle.cgm_model.specs.declared.lists.ElementKind.TheVariants as kinds

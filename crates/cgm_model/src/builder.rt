@@ -37,7 +37,8 @@ impl marker::Model for ModelBuilder {
 impl ModelBuilder {
     /// The empty model.
     pub fn new(alloc: Global) -> ModelBuilder
-        ensures { result ≡ no_lists }
+        ensures empty { result ≡ no_lists }
+        ensures known { IsWellFormed result }
     {
         ModelBuilder {
             declared: Declarations {
@@ -69,6 +70,7 @@ impl ModelBuilder {
         ensures allowed { OnOk result (IsAllowed self.old s) }
         ensures refused { IfErr result (IsNotAdded self.old s) }
         ensures unchanged { OnErr result (self.new ≡ self.old) }
+        ensures known { IsWellFormed self.new }
     {
         admit::admit(&self.declared, self.marks.as_mut_slice(), &s)?;
         push(&mut self.declared, &mut self.marks, s)

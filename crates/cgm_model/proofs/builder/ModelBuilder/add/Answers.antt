@@ -11,3 +11,8 @@ invariant_of-self-2 c =
       IsWellFormed-after (is_ok c.push.result) (listed c.self.inside.declared) c.args.s (listed c.push.new.d) c.push.ensures.lists c.self.invariant.0 (subst Proper (sym c.self.view_is) c.requires) c.in_ok-admit.ensures,
       c.push.ensures.marked,
     )
+
+pub returns-clause-known : goal.returns-clause-known
+returns-clause-known c =
+    let Proper : Lists → Type 0 = λ m. IsProper m c.args.s in
+    IsWellFormed-after (is_ok c.push.result) (listed c.self.inside.declared) c.args.s (listed c.push.new.d) c.push.ensures.lists c.self.invariant.0 (subst Proper (sym c.self.view_is) c.requires) c.in_ok-admit.ensures

@@ -1,5 +1,5 @@
 -- What the calls of a shelf do to its files, where it tells them, and what causes their faults.
-use Rattle.std.specs.Prelude.{◌≡◌, ◌≢◌, ◌⊎◌, ℕ, ◌<◌, ◌≤◌, ◌^◌, List, ◌++◌, length, take, drop, MatchOption, IfSome, IsSomeAnd, Some, None}
+use Rattle.std.specs.Prelude.{◌≡◌, ◌≢◌, ◌⊎◌, ℕ, ◌<◌, ◌≤◌, List, ◌++◌, length, take, drop, MatchOption, IsSome, IfSome, IsSomeAnd, Some, None}
 use Rattle.std.specs.declared.option.Option.{Option}
 use Rattle.cgm_shelf.specs.Faults.{Rose}
 
@@ -10,6 +10,10 @@ Files = List ℕ → Option (List ℕ)
 -- the shelf tells its files, and none has this name
 abbrev pub IsMissing : Option Files → List ℕ → Type 0
 IsMissing told name = IsSomeAnd told (λ files. files name ≡ None)
+
+-- the shelf tells its files, and one has this name
+abbrev pub IsThere : Option Files → List ℕ → Type 0
+IsThere told name = IsSomeAnd told (λ files. IsSome (files name))
 
 -- where the shelf tells its files, one has this name, and P holds of its bytes
 abbrev pub WhereTold : Option Files → List ℕ → (List ℕ → Type 0) → Type 0

@@ -1,7 +1,7 @@
 // Whole reads and writes over a shelf or a sink.
 ghost use Rattle.std.specs.Prelude.{◌≡◌, ◌↔◌, ◌<◌, ◌≤◌, ◌+◌, ◌^◌, ◌++◌, ℕ, length, take, IsTrue, IfOk, OnOk, OnErr, IsErr, IfSome, IsSomeAnd, vec_len};
-ghost use Rattle.cgm_shelf.specs.Faults.{HasCause};
-ghost use Rattle.cgm_shelf.specs.Shelf.{IsMissing, WhereTold, MissingOrRose, Leaves, LeavesPart, ReadsNext, IsLonger};
+ghost use Rattle.cgm_shelf.specs.Faults.{Rose, HasCause};
+ghost use Rattle.cgm_shelf.specs.Shelf.{IsMissing, IsThere, WhereTold, MissingOrRose, Leaves, LeavesPart, ReadsNext, IsLonger};
 ghost use Rattle.cgm_shelf.specs.Sink.{Adds, AddsPart};
 
 use crate::{Failed, Shelf, Sink};
@@ -38,6 +38,8 @@ pub fn read_whole<F: Shelf>(
     ensures fault { result ≡ Err ReadStop.Fault → MissingOrRose (F.files shelf.old) name.now (F.read_faults shelf.old) (F.read_faults shelf.new) }
     ensures missing { IsMissing (F.files shelf.old) name.now →
         (result ≡ Err ReadStop.Fault) × (F.read_faults shelf.new ≡ F.read_faults shelf.old) }
+    ensures there { IsThere (F.files shelf.old) name.now → result ≡ Err ReadStop.Fault →
+        Rose (F.read_faults shelf.old) (F.read_faults shelf.new) }
 
     ensures too_long { result ≡ Err ReadStop.TooLong →
         IsSomeAnd limit (λ most. WhereTold (F.files shelf.old) name.now (λ file. most < length file)) }

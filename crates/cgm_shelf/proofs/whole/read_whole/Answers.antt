@@ -1,4 +1,4 @@
-use Rattle.std.proofs.Common.{◌≡◌, ◌∙◌, Ok, Err, arith}
+use Rattle.std.proofs.Common.{◌∙◌, arith}
 use Rattle.cgm_shelf.specs.Shelf.{IsMissing, WhereTold, ReadsNext}
 use Rattle.cgm_shelf.proofs.Told.{front_more}
 use Rattle.cgm_shelf.proofs.whole.read_whole.Goals as goal

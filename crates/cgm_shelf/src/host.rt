@@ -1,5 +1,5 @@
 // The host's files and its standard output. They tell no content: what the host does is trusted.
-ghost use Rattle.std.specs.Prelude.{◌≡◌, ◌<◌, ◌≤◌, ℕ, length, None, MatchResult, IfOk, IsErr};
+ghost use Rattle.std.specs.Prelude.{◌≡◌, ◌<◌, ◌≤◌, ℕ, length, None, MatchResult, IfOk, OnOk, IsErr};
 ghost use Rattle.cgm_shelf.specs.Faults.{HasCause};
 
 use crate::{Failed, Shelf, Sink};
@@ -17,7 +17,10 @@ pub struct FileShelf<'a, R: Files> {
 
 impl<'a, R: Files> FileShelf<'a, R> {
     /// The files that this runtime reaches, with no faults so far.
-    pub fn new(rt: &'a R) -> FileShelf<'a, R> {
+    pub fn new(rt: &'a R) -> FileShelf<'a, R>
+        ensures reads { ⟦<FileShelf<'a, R> as Shelf>⟧.read_faults result ≡ 0 }
+        ensures writes { ⟦<FileShelf<'a, R> as Shelf>⟧.write_faults result ≡ 0 }
+    {
         FileShelf {
             rt,
             read_faults: 0,
@@ -93,6 +96,7 @@ fn some_written(count: usize, piece: &[u8]) -> io::Result<usize>
 fn counted<T>(called: io::Result<T>, faults: &mut u64) -> Result<T, Failed>
     ensures same { MatchResult called (λ value. result ≡ Ok value) (λ _. IsErr result) }
     ensures cause { HasCause faults.old faults.new result }
+    ensures faults { OnOk result (faults.new ≡ faults.old) }
 {
     match called {
         Ok(value) => Ok(value),
@@ -112,7 +116,9 @@ pub struct OutSink<'a, R: Print> {
 
 impl<'a, R: Print> OutSink<'a, R> {
     /// The output of this runtime, with no faults so far.
-    pub fn new(rt: &'a R) -> OutSink<'a, R> {
+    pub fn new(rt: &'a R) -> OutSink<'a, R>
+        ensures { ⟦<OutSink<'a, R> as Sink>⟧.faults result ≡ 0 }
+    {
         OutSink { rt, faults: 0 }
     }
 }

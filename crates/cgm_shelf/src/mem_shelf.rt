@@ -160,6 +160,7 @@ impl Shelf for MemShelf {
 
         ensures planned { IsFailingWrite self.old → IsErr result }
         ensures unplanned { OnErr result (IsFailingWrite self.old ⊎ Rose (refused_of self.old) (refused_of self.new)) }
+        ensures faults { OnOk result (write_faults_of self.new ≡ write_faults_of self.old) }
         ensures counts { CountsWrite self.old self.new }
         ensures plan { KeepsPlan self.old self.new }
     {
@@ -193,6 +194,7 @@ impl Shelf for MemShelf {
         ensures planned { IsFailingRead self.old → IsErr result }
         ensures unplanned { OnErr result (IsFailingRead self.old ⊎ (mem_files self.old name.now ≡ None)) }
         ensures moves { IfOk result (λ count. count ≤ piece_of self.old) }
+        ensures faults { OnOk result (read_faults_of self.new ≡ read_faults_of self.old) }
         ensures counts { CountsRead self.old self.new }
         ensures plan { KeepsPlan self.old self.new }
     {
@@ -224,6 +226,7 @@ impl Shelf for MemShelf {
         ensures unplanned { OnErr result
             (IsFailingWrite self.old ⊎ (mem_files self.old name.now ≡ None) ⊎ Rose (refused_of self.old) (refused_of self.new)) }
         ensures moves { IfOk result (λ count. count ≡ min (piece_of self.old) (length piece.now)) }
+        ensures faults { OnOk result (write_faults_of self.new ≡ write_faults_of self.old) }
         ensures counts { CountsWrite self.old self.new }
         ensures plan { KeepsPlan self.old self.new }
     {

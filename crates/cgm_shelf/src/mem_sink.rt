@@ -62,7 +62,7 @@ impl MemSink {
 }
 
 impl Sink for MemSink {
-    ghost use Rattle.std.specs.Prelude.{◌≡◌, ◌⊎◌, ◌<◌, ◌≤◌, min, length, take, Some, IfOk, OnErr, IsErr};
+    ghost use Rattle.std.specs.Prelude.{◌≡◌, ◌⊎◌, ◌<◌, ◌≤◌, min, length, take, Some, IfOk, OnOk, OnErr, IsErr};
     ghost use Rattle.cgm_shelf.specs.Faults.{Rose, HasCause};
     ghost use Rattle.cgm_shelf.specs.Sink.{Adds};
     ghost use Rattle.cgm_shelf.specs.MemSink.{bytes_of, faults_of, refused_of, piece_of, CountsWrite, IsFailingWrite};
@@ -81,6 +81,7 @@ impl Sink for MemSink {
         ensures planned { IsFailingWrite self.old → IsErr result }
         ensures unplanned { OnErr result (IsFailingWrite self.old ⊎ Rose (refused_of self.old) (refused_of self.new)) }
         ensures moves { IfOk result (λ count. count ≡ min (piece_of self.old) (length piece.now)) }
+        ensures faults { OnOk result (faults_of self.new ≡ faults_of self.old) }
         ensures counts { CountsWrite self.old self.new }
     {
         self.writes.count();

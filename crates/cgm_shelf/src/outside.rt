@@ -13,7 +13,8 @@ pub struct Failed;
 ///
 /// A call fails only where the shelf's count of such faults rises in it, or stands at 2^64 - 1.
 /// Where a shelf tells its files, a read or an append of a name that isn't there fails too, and
-/// leaves both counts as they were.
+/// leaves both counts as they were. A shelf that tells its files goes on telling them, and one that
+/// doesn't tell them doesn't begin to.
 pub trait Shelf {
     /// The files, where the shelf tells them.
     ghost files: { Self → Option Files };
@@ -64,7 +65,8 @@ pub trait Shelf {
 
 /// A stream of bytes that are written one after another.
 ///
-/// A write fails only where the sink's count of faults rises in it, or stands at 2^64 - 1.
+/// A write fails only where the sink's count of faults rises in it, or stands at 2^64 - 1. A sink
+/// that tells its bytes goes on telling them, and one that doesn't tell them doesn't begin to.
 pub trait Sink {
     /// The bytes written so far, where the sink tells them.
     ghost written: { Self → Option (List ℕ) };

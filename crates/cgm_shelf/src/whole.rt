@@ -51,7 +51,8 @@ pub fn read_whole<F: Shelf>(
 {
     let mut bytes = Vec::new(alloc);
     loop {
-        if read_more(shelf, name, limit, &mut bytes)? == 0 {
+        let count = read_more(shelf, name, limit, &mut bytes)?;
+        if count == 0 {
             return Ok(bytes);
         }
     }
@@ -115,10 +116,10 @@ pub fn write_file<F: Shelf>(shelf: &mut F, name: &str, bytes: &[u8]) -> Result<(
     ensures cause { HasCause (F.write_faults shelf.old) (F.write_faults shelf.new) result }
 {
     shelf.start(name)?;
-    let mut done = 0;
-    while done < bytes.len() {
-        let (_, rest) = bytes.split_at(done);
-        done += shelf.append(name, rest)?;
+    let mut stored = 0;
+    while stored < bytes.len() {
+        let (_, rest) = bytes.split_at(stored);
+        stored += shelf.append(name, rest)?;
     }
     Ok(())
 }
@@ -129,10 +130,10 @@ pub fn write_whole<O: Sink>(sink: &mut O, bytes: &[u8]) -> Result<(), Failed>
     ensures err { OnErr result (AddsPart (O.written sink.old) (O.written sink.new) bytes.now) }
     ensures cause { HasCause (O.faults sink.old) (O.faults sink.new) result }
 {
-    let mut done = 0;
-    while done < bytes.len() {
-        let (_, rest) = bytes.split_at(done);
-        done += sink.write(rest)?;
+    let mut written = 0;
+    while written < bytes.len() {
+        let (_, rest) = bytes.split_at(written);
+        written += sink.write(rest)?;
     }
     Ok(())
 }

@@ -2,12 +2,12 @@ use Rattle.std.proofs.Common.{◌-◌, ◌≤◌, length, take}
 use Rattle.cgm_shelf.specs.Sink.{Adds}
 use Rattle.cgm_shelf.proofs.whole.write_whole.Given as goal
 
-abbrev pub invariant-loop-done : goal.invariant-loop-done
-invariant-loop-done g l = record {
-  inside : l.done ≤ length l.bytes;
-  added : Adds (g.O.Sink.written l.fn.sink) (g.O.Sink.written l.sink) (take l.done l.bytes);
+abbrev pub invariant-loop-written : goal.invariant-loop-written
+invariant-loop-written g l = record {
+  inside : l.written ≤ length l.bytes;
+  added : Adds (g.O.Sink.written l.fn.sink) (g.O.Sink.written l.sink) (take l.written l.bytes);
   later : g.O.Sink.faults l.fn.sink ≤ g.O.Sink.faults l.sink;
 }
 
-abbrev pub decreases-loop-done : goal.decreases-loop-done
-decreases-loop-done g l = length l.bytes - l.done
+abbrev pub decreases-loop-written : goal.decreases-loop-written
+decreases-loop-written g l = length l.bytes - l.written

@@ -119,7 +119,8 @@ pub fn write_file<F: Shelf>(shelf: &mut F, name: &str, bytes: &[u8]) -> Result<(
     let mut stored = 0;
     while stored < bytes.len() {
         let (_, rest) = bytes.split_at(stored);
-        stored += shelf.append(name, rest)?;
+        let count = shelf.append(name, rest)?;
+        stored += count;
     }
     Ok(())
 }
@@ -133,7 +134,8 @@ pub fn write_whole<O: Sink>(sink: &mut O, bytes: &[u8]) -> Result<(), Failed>
     let mut written = 0;
     while written < bytes.len() {
         let (_, rest) = bytes.split_at(written);
-        written += sink.write(rest)?;
+        let count = sink.write(rest)?;
+        written += count;
     }
     Ok(())
 }

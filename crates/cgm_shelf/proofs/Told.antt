@@ -1,11 +1,10 @@
 -- The steps of the loops over a shelf or a sink, where it tells its files or its bytes.
-use Rattle.std.proofs.Common.{◌≡◌, ℕ, ◌+◌, ◌<◌, ◌≤◌, List, [], ◌++◌, length, take, drop, Some, None, IfSome, IsSomeAnd, sym, ◌∙◌, ap, append_assoc, append-nil, arith}
+use Rattle.std.proofs.Common.{◌≡◌, ℕ, ◌+◌, ◌<◌, ◌≤◌, List, ◌++◌, length, take, drop, Some, None, IfSome, IsSomeAnd, sym, ◌∙◌, append_assoc, arith}
 use Rattle.std.proofs.lemmas.List.{length-append, length-take-le, length-drop, drop-drop, take-append-drop}
 use Rattle.std.proofs.Math.Seq.{take-add}
-use Rattle.std.proofs.Math.ListN.{drop_of_length-le}
 use Rattle.std.specs.declared.option.Option.{Option}
 use Rattle.cgm_shelf.specs.Sink.{Adds}
-use Rattle.cgm_shelf.specs.Shelf.{Files, IsMissing, WhereTold, Leaves, Appends, OnlyChanges, ReadsFrom, ReadsNext}
+use Rattle.cgm_shelf.specs.Shelf.{Files, WhereTold, Leaves, Appends, OnlyChanges, ReadsFrom, ReadsNext}
 
 -- these bytes are the front of the named file, where the shelf tells it
 abbrev pub IsFront : Option Files → List ℕ → List ℕ → Type 0
@@ -37,21 +36,6 @@ pub front_more : (told : Option Files) (name old new : List ℕ) (count : ℕ) �
 front_more None name old new count front next = tt
 front_more (Some files) name old new count front next = front_one (files name) old new count front next
 
-all_of : (file old new : List ℕ) (count : ℕ) → count ≡ 0 → old ++ drop (length old) file ≡ file → ReadsNext file old new count → new ≡ file
-all_of file old new count none front next =
-    let ended : drop (length old) file ≡ [] = drop_of_length-le file (next.at_end none) in
-    let same : old ≡ file = sym (append-nil old) ∙ ap (λ rest. old ++ rest) (sym ended) ∙ front in
-    rw (next.added, none, append-nil) same
-
-all_one : (o : Option (List ℕ)) (old new : List ℕ) (count : ℕ) → count ≡ 0 → IfSome o (λ file. old ++ drop (length old) file ≡ file) → IsSomeAnd o (λ file. ReadsNext file old new count) → IsSomeAnd o (λ file. new ≡ file)
-all_one None old new count none front next = next
-all_one (Some file) old new count none front next = all_of file old new count none front next
-
--- where no bytes come any more, the front is the whole file
-pub front_all : (told : Option Files) (name old new : List ℕ) (count : ℕ) → count ≡ 0 → IsFront told name old → WhereTold told name (λ file. ReadsNext file old new count) → WhereTold told name (λ file. new ≡ file)
-front_all None name old new count none front next = tt
-front_all (Some files) name old new count none front next = all_one (files name) old new count none front next
-
 changes_again : (before middle : Files) (last : Option Files) (name done bytes : List ℕ) → OnlyChanges before middle name done → IsSomeAnd last (λ now. OnlyChanges middle now name bytes) → IsSomeAnd last (λ now. OnlyChanges before now name bytes)
 changes_again before middle None name done bytes first second = second
 changes_again before middle (Some now) name done bytes first second = record { named = second.named; others = λ other apart. second.others other apart ∙ first.others other apart }
@@ -70,12 +54,6 @@ Leaves-append (Some before) (Some files) last name done more left append =
 -- a front of some bytes and a front of the rest are a front of them
 pub take_on : (bytes rest : List ℕ) (done count : ℕ) → rest ≡ drop done bytes → take done bytes ++ take count rest ≡ take (done + count) bytes
 take_on bytes rest done count e = rw e (sym (take-add done count bytes))
-
--- the file that a call has left is there
-pub Leaves-present : (old new : Option Files) (name bytes : List ℕ) → Leaves old new name bytes → IsMissing new name → ⊥
-Leaves-present None new name bytes left missing = elim (rw left at missing) [ ]
-Leaves-present (Some before) None name bytes left missing = left
-Leaves-present (Some before) (Some files) name bytes left missing = cc (left.named, missing)
 
 -- bytes that are added after others are added with them
 pub Adds-more : (first middle last : Option (List ℕ)) (done more : List ℕ) → Adds first middle done → Adds middle last more → Adds first last (done ++ more)

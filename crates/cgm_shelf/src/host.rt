@@ -1,5 +1,5 @@
 // The host's files and its standard output. They tell no content: what the host does is trusted.
-ghost use Rattle.std.specs.Prelude.{◌≡◌, ◌<◌, ◌≤◌, ℕ, length, None, MatchResult, IfOk, OnOk, IsErr};
+ghost use Rattle.std.specs.Prelude.{◌≡◌, ◌<◌, ◌≤◌, length, None, MatchResult, IfOk, OnOk, IsErr};
 ghost use Rattle.cgm_shelf.specs.Faults.{HasCause};
 
 use crate::{Failed, Shelf, Sink};

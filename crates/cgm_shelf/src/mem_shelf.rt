@@ -1,7 +1,8 @@
 // A shelf in memory, whose calls fail by a plan.
-ghost use Rattle.std.specs.Prelude.{◌≡◌, ◌⊎◌, ◌↔◌, ◌<◌, ◌≤◌, ◌+◌, ◌^◌, ℕ, min, List, length, take, drop, None, option_copied, IsSome, IfOk, OnOk, OnErr, IsErr};
-ghost use Rattle.cgm_shelf.specs.MemFiles.{files_in};
-ghost use Rattle.cgm_shelf.specs.Shelf.{OnlyChanges, Appends};
+ghost use Rattle.std.specs.Prelude.{◌≡◌, ◌⊎◌, ◌<◌, ◌≤◌, ◌^◌, ◌+◌, ℕ, min, List, [], length, take, drop, Some, None, option_copied, IsSome, IfOk, OnOk, OnErr, IsErr};
+ghost use Rattle.cgm_shelf.specs.Faults.{Rose, HasCause};
+ghost use Rattle.cgm_shelf.specs.MemFiles.{files_in, files_small};
+ghost use Rattle.cgm_shelf.specs.Shelf.{IsMissing, WhereTold, MissingOrRose, OnlyChanges, Leaves, Appends, ReadsFrom};
 
 use crate::calls::Calls;
 use crate::{Failed, OutOfMemory, Shelf};
@@ -138,11 +139,7 @@ fn set_bytes(
 }
 
 impl Shelf for MemShelf {
-    ghost use Rattle.std.specs.Prelude.{◌≡◌, ◌⊎◌, ◌↔◌, ◌<◌, ◌≤◌, ◌+◌, ◌^◌, ℕ, min, [], length, take, drop, Some, None, IfOk, OnOk, OnErr, IsErr};
-    ghost use Rattle.cgm_shelf.specs.Faults.{Rose, HasCause};
-    ghost use Rattle.cgm_shelf.specs.Shelf.{IsMissing, WhereTold, MissingOrRose, OnlyChanges, Leaves, Appends, ReadsFrom};
     ghost use Rattle.cgm_shelf.specs.MemShelf.{mem_files, read_faults_of, write_faults_of, refused_of, piece_of, KeepsPlan, CountsRead, CountsWrite, IsFailingRead, IsFailingWrite};
-    ghost use Rattle.cgm_shelf.specs.MemFiles.{files_small};
 
     ghost files = { λ shelf. Some (mem_files shelf) };
 

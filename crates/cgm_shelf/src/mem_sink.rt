@@ -1,5 +1,7 @@
 // A sink in memory, whose writes fail by a plan, and a sink that takes all.
-ghost use Rattle.std.specs.Prelude.{◌≡◌, ◌≤◌, []};
+ghost use Rattle.std.specs.Prelude.{◌≡◌, ◌⊎◌, ◌<◌, ◌≤◌, min, [], length, take, Some, None, IfOk, OnOk, OnErr, IsErr};
+ghost use Rattle.cgm_shelf.specs.Faults.{Rose, HasCause};
+ghost use Rattle.cgm_shelf.specs.Sink.{Adds};
 
 use crate::calls::Calls;
 use crate::{Failed, Sink};
@@ -62,9 +64,6 @@ impl MemSink {
 }
 
 impl Sink for MemSink {
-    ghost use Rattle.std.specs.Prelude.{◌≡◌, ◌⊎◌, ◌<◌, ◌≤◌, min, length, take, Some, IfOk, OnOk, OnErr, IsErr};
-    ghost use Rattle.cgm_shelf.specs.Faults.{Rose, HasCause};
-    ghost use Rattle.cgm_shelf.specs.Sink.{Adds};
     ghost use Rattle.cgm_shelf.specs.MemSink.{bytes_of, faults_of, refused_of, piece_of, CountsWrite, IsFailingWrite};
 
     ghost written = { λ sink. Some (bytes_of sink) };
@@ -107,8 +106,6 @@ impl Sink for MemSink {
 pub struct NullSink;
 
 impl Sink for NullSink {
-    ghost use Rattle.std.specs.Prelude.{None};
-
     ghost written = { λ _. None };
 
     ghost faults = { λ _. 0 };

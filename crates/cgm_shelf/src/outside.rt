@@ -1,7 +1,7 @@
 // Shelves of files and sinks of bytes, with counts of their faults.
 ghost use Rattle.std.specs.Prelude.{◌≡◌, ◌<◌, ◌≤◌, ◌+◌, ◌^◌, List, [], ℕ, length, take, IfOk, OnOk, OnErr, IsErr};
 ghost use Rattle.std.specs.declared.option.Option.{Option};
-ghost use Rattle.cgm_shelf.specs.Faults.{Rose, HasCause};
+ghost use Rattle.cgm_shelf.specs.Faults.{HasCause};
 ghost use Rattle.cgm_shelf.specs.Shelf.{Files, IsMissing, WhereTold, MissingOrRose, Leaves, Appends, ReadsFrom, AllBelow};
 ghost use Rattle.cgm_shelf.specs.Sink.{Adds};
 

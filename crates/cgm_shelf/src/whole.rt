@@ -1,5 +1,5 @@
 // Whole reads and writes over a shelf or a sink.
-ghost use Rattle.std.specs.Prelude.{◌≡◌, ◌↔◌, ◌<◌, ◌≤◌, ◌+◌, ◌^◌, ◌++◌, ℕ, length, take, IsTrue, IfOk, OnOk, OnErr, IsErr, IfSome, IsSomeAnd, vec_len};
+ghost use Rattle.std.specs.Prelude.{◌≡◌, ◌↔◌, ◌<◌, ◌≤◌, ◌+◌, length, IsTrue, IfOk, OnOk, OnErr, IsErr, IfSome, IsSomeAnd, vec_len};
 ghost use Rattle.cgm_shelf.specs.Faults.{Rose, HasCause};
 ghost use Rattle.cgm_shelf.specs.Shelf.{IsMissing, IsThere, WhereTold, MissingOrRose, Leaves, LeavesPart, ReadsNext, IsLonger};
 ghost use Rattle.cgm_shelf.specs.Sink.{Adds, AddsPart};

@@ -3,3 +3,4 @@ pub mod Names
 pub mod Splits
 pub mod Steps
 pub mod Unique
+pub mod Whole

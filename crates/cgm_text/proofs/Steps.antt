@@ -1,8 +1,9 @@
 -- How the lines of a text lead from lists to lists, one line at a time.
-use Rattle.std.proofs.Common.{◌≡◌, ◌≢◌, ℕ, ◌+◌, List, [], ◌∷◌, refl, sym, inl, inr, subst}
+use Rattle.std.proofs.Common.{◌≡◌, ◌≢◌, ℕ, ◌+◌, ◌==◌, List, [], ◌∷◌, length, refl, sym, ap, inl, inr, subst, arith}
+use Rattle.std.proofs.lemmas.List.Splits.{length-slice_split}
 use Rattle.cgm_model.specs.declared.lists.Statement.{Statement}
 use Rattle.cgm_model.specs.Lists.{Lists, added}
-use Rattle.cgm_text.specs.Line.{Says, MakesStatement}
+use Rattle.cgm_text.specs.Line.{lines, Says, MakesStatement}
 use Rattle.cgm_text.specs.Text.{Leads, FailsAt}
 
 pub leads_step : (m next n : Lists) (line : List ℕ) (rest : List (List ℕ)) → MakesStatement m line next → Leads next rest n → Leads m (line ∷ rest) n
@@ -18,3 +19,6 @@ fails_step m next number faulty line (more ∷ others) made fails =
 pub fails_here : (m : Lists) (number : ℕ) (line : List ℕ) (rest : List (List ℕ)) → rest ≢ [] → ((s : Statement) → ¬ Says m line s) → FailsAt m number (line ∷ rest) number
 fails_here m number line [] there none = absurd (there refl)
 fails_here m number line (more ∷ others) there none = inl (refl, none)
+
+pub lines_there : (text : List ℕ) → lines text ≢ []
+lines_there text none = absurd (omega (arith, length-slice_split (λ byte. byte == 10) text, ap (λ l. length l) none))

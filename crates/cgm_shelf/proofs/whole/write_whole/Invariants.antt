@@ -1,0 +1,13 @@
+use Rattle.std.proofs.Common.{◌-◌, ◌≤◌, length, take}
+use Rattle.cgm_shelf.specs.Sink.{Adds}
+use Rattle.cgm_shelf.proofs.whole.write_whole.Given as goal
+
+abbrev pub invariant-loop-written : goal.invariant-loop-written
+invariant-loop-written g l = record {
+  inside : l.written ≤ length l.bytes;
+  added : Adds (g.O.Sink.written l.fn.sink) (g.O.Sink.written l.sink) (take l.written l.bytes);
+  later : g.O.Sink.faults l.fn.sink ≤ g.O.Sink.faults l.sink;
+}
+
+abbrev pub decreases-loop-written : goal.decreases-loop-written
+decreases-loop-written g l = length l.bytes - l.written

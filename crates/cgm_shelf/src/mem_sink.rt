@@ -1,0 +1,116 @@
+// A sink in memory, whose writes fail by a plan, and a sink that takes all.
+ghost use Rattle.std.specs.Prelude.{◌≡◌, ◌⊎◌, ◌<◌, ◌≤◌, min, [], length, take, Some, None, IfOk, OnOk, OnErr, IsErr};
+ghost use Rattle.cgm_shelf.specs.Faults.{Rose, HasCause};
+ghost use Rattle.cgm_shelf.specs.Sink.{Adds};
+
+use crate::calls::Calls;
+use crate::{Failed, Sink};
+use std::alloc::Global;
+
+/// Bytes in memory. It tells them, and its writes fail by a plan.
+///
+/// Writes are numbered from 1, and one whose number is in the list fails. Each takes the whole piece,
+/// but at most `piece` bytes of it.
+#[derive(Drop)]
+pub struct MemSink {
+    bytes: Vec<u8>,
+    piece: usize,
+    writes: Calls,
+    refused: u64,
+    ghost moves: { 1 ≤ piece },
+}
+
+impl MemSink {
+    ghost use Rattle.cgm_shelf.specs.MemSink.{bytes_of, faults_of, refused_of, piece_of, failing_writes, writes_made};
+
+    /// A sink with no bytes, whose writes with these numbers fail.
+    pub fn new(alloc: Global, piece: usize, fail_writes: Vec<u64>) -> Self
+        requires { 1 ≤ piece }
+        ensures empty { bytes_of result ≡ [] }
+        ensures piece { piece_of result ≡ piece }
+        ensures failing { failing_writes result ≡ fail_writes.items }
+        ensures made { writes_made result ≡ 0 }
+        ensures faults { faults_of result ≡ 0 }
+        ensures refused { refused_of result ≡ 0 }
+    {
+        MemSink {
+            bytes: Vec::new(alloc),
+            piece,
+            writes: Calls::new(fail_writes),
+            refused: 0,
+        }
+    }
+
+    /// The bytes written so far.
+    pub fn written(&self) -> &[u8]
+        ensures { result.now ≡ bytes_of self.now }
+    {
+        self.bytes.as_slice()
+    }
+
+    /// How many writes have failed for want of memory, up to 2^64 - 1.
+    pub fn refused(&self) -> u64
+        ensures { result ≡ refused_of self.now }
+    {
+        self.refused
+    }
+
+    /// How many writes have failed, up to 2^64 - 1.
+    pub fn faults(&self) -> u64
+        ensures { result ≡ faults_of self.now }
+    {
+        self.writes.faults
+    }
+}
+
+impl Sink for MemSink {
+    ghost use Rattle.cgm_shelf.specs.MemSink.{bytes_of, faults_of, refused_of, piece_of, CountsWrite, IsFailingWrite};
+
+    ghost written = { λ sink. Some (bytes_of sink) };
+
+    ghost faults = { faults_of };
+
+    fn write(&mut self, piece: &[u8]) -> Result<usize, Failed>
+        ensures within { IfOk result (λ count. count ≤ length piece.now) }
+        ensures some { IfOk result (λ count. 0 < length piece.now → 0 < count) }
+        ensures ok { IfOk result (λ count. Adds (Some (bytes_of self.old)) (Some (bytes_of self.new)) (take count piece.now)) }
+        ensures err { OnErr result (Some (bytes_of self.new) ≡ Some (bytes_of self.old)) }
+        ensures cause { HasCause (faults_of self.old) (faults_of self.new) result }
+
+        ensures planned { IsFailingWrite self.old → IsErr result }
+        ensures unplanned { OnErr result (IsFailingWrite self.old ⊎ Rose (refused_of self.old) (refused_of self.new)) }
+        ensures moves { IfOk result (λ count. count ≡ min (piece_of self.old) (length piece.now)) }
+        ensures faults { OnOk result (faults_of self.new ≡ faults_of self.old) }
+        ensures counts { CountsWrite self.old self.new }
+    {
+        self.writes.count();
+        if self.writes.is_failing() {
+            self.writes.fail();
+            return Err(Failed);
+        }
+        let count = self.piece.min(piece.len());
+        let (front, _) = piece.split_at(count);
+        match self.bytes.extend_from_slice(front) {
+            Ok(()) => Ok(count),
+            Err(_) => {
+                self.refused = self.refused.saturating_add(1);
+                self.writes.fail();
+                Err(Failed)
+            }
+        }
+    }
+}
+
+/// A sink that takes every piece whole, never fails and tells nothing.
+#[derive(Clone, Copy, Debug)]
+pub struct NullSink;
+
+impl Sink for NullSink {
+    ghost written = { λ _. None };
+
+    ghost faults = { λ _. 0 };
+
+    fn write(&mut self, piece: &[u8]) -> Result<usize, Failed> {
+        Ok(piece.len())
+    }
+}

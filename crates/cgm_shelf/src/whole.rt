@@ -1,0 +1,141 @@
+// Whole reads and writes over a shelf or a sink.
+ghost use Rattle.std.specs.Prelude.{◌≡◌, ◌↔◌, ◌<◌, ◌≤◌, ◌+◌, length, IsTrue, IfOk, OnOk, OnErr, IsErr, IfSome, IsSomeAnd, vec_len};
+ghost use Rattle.cgm_shelf.specs.Faults.{Rose, HasCause};
+ghost use Rattle.cgm_shelf.specs.Shelf.{IsMissing, IsThere, WhereTold, MissingOrRose, Leaves, LeavesPart, ReadsNext, IsLonger};
+ghost use Rattle.cgm_shelf.specs.Sink.{Adds, AddsPart};
+
+use crate::{Failed, Shelf, Sink};
+use std::alloc::Global;
+use thiserror::Error;
+
+/// Why a whole file wasn't read.
+#[derive(Clone, Copy, Debug, PartialEq, Eq, Error)]
+pub enum ReadStop {
+    /// A read failed, or the shelf tells that the file isn't there.
+    #[error("the file can't be read")]
+    Fault,
+    /// The file has more bytes than the limit.
+    #[error("the file is too long")]
+    TooLong,
+    /// The memory for the bytes was refused.
+    #[error("out of memory")]
+    Memory,
+}
+
+/// How many bytes one read asks for.
+const READ_SIZE: usize = 4096;
+
+/// Reads the named file to its end. With a limit, a file of more bytes than that is `TooLong`.
+pub fn read_whole<F: Shelf>(
+    alloc: Global,
+    shelf: &mut F,
+    name: &str,
+    limit: Option<u64>,
+) -> Result<Vec<u8>, ReadStop>
+    ensures ok { IfOk result (λ bytes. WhereTold (F.files shelf.old) name.now (λ file. bytes.items ≡ file)) }
+    ensures fits { IfOk result (λ bytes. IfSome limit (λ most. vec_len bytes ≤ most)) }
+
+    ensures fault { result ≡ Err ReadStop.Fault → MissingOrRose (F.files shelf.old) name.now (F.read_faults shelf.old) (F.read_faults shelf.new) }
+    ensures missing { IsMissing (F.files shelf.old) name.now →
+        (result ≡ Err ReadStop.Fault) × (F.read_faults shelf.new ≡ F.read_faults shelf.old) }
+    ensures there { IsThere (F.files shelf.old) name.now → result ≡ Err ReadStop.Fault →
+        Rose (F.read_faults shelf.old) (F.read_faults shelf.new) }
+
+    ensures too_long { result ≡ Err ReadStop.TooLong →
+        IsSomeAnd limit (λ most. WhereTold (F.files shelf.old) name.now (λ file. most < length file)) }
+    ensures longer { IsLonger (F.files shelf.old) name.now limit → IsErr result }
+
+    ensures files { F.files shelf.new ≡ F.files shelf.old }
+    ensures writes { F.write_faults shelf.new ≡ F.write_faults shelf.old }
+    ensures later { F.read_faults shelf.old ≤ F.read_faults shelf.new }
+{
+    let mut bytes = Vec::new(alloc);
+    loop {
+        let count = read_more(shelf, name, limit, &mut bytes)?;
+        if count == 0 {
+            return Ok(bytes);
+        }
+    }
+}
+
+/// Adds the file's next bytes, and answers how many they are: 0 at the file's end.
+fn read_more<F: Shelf>(
+    shelf: &mut F,
+    name: &str,
+    limit: Option<u64>,
+    bytes: &mut Vec<u8>,
+) -> Result<usize, ReadStop>
+    requires { IfSome limit (λ most. vec_len bytes.old ≤ most) }
+    ensures ok { IfOk result (λ count. WhereTold (F.files shelf.old) name.now
+        (λ file. ReadsNext file bytes.old.items bytes.new.items count)) }
+    ensures grows { IfOk result (λ count. vec_len bytes.new ≡ vec_len bytes.old + count) }
+    ensures fits { OnOk result (IfSome limit (λ most. vec_len bytes.new ≤ most)) }
+
+    ensures fault { result ≡ Err ReadStop.Fault → MissingOrRose (F.files shelf.old) name.now (F.read_faults shelf.old) (F.read_faults shelf.new) }
+    ensures missing { IsMissing (F.files shelf.old) name.now →
+        (result ≡ Err ReadStop.Fault) × (F.read_faults shelf.new ≡ F.read_faults shelf.old) }
+    ensures too_long { result ≡ Err ReadStop.TooLong →
+        IsSomeAnd limit (λ most. WhereTold (F.files shelf.old) name.now (λ file. most < length file)) }
+
+    ensures files { F.files shelf.new ≡ F.files shelf.old }
+    ensures writes { F.write_faults shelf.new ≡ F.write_faults shelf.old }
+    ensures later { F.read_faults shelf.old ≤ F.read_faults shelf.new }
+{
+    let mut buffer = [0; READ_SIZE];
+    match shelf.read(name, bytes.len() as u64, &mut buffer) {
+        Ok(count) => {
+            if is_past(limit, bytes.len() + count) {
+                return Err(ReadStop::TooLong);
+            }
+            let (front, _) = buffer.split_at(count);
+            match bytes.extend_from_slice(front) {
+                Ok(()) => Ok(count),
+                Err(_) => Err(ReadStop::Memory),
+            }
+        }
+        Err(Failed) => Err(ReadStop::Fault),
+    }
+}
+
+/// Whether this many bytes are more than the limit, if there is one.
+fn is_past(limit: Option<u64>, count: usize) -> bool
+    ensures { IsTrue result ↔ IsSomeAnd limit (λ most. most < count) }
+{
+    match limit {
+        Some(most) => most < count as u64,
+        None => false,
+    }
+}
+
+/// Makes the named file hold exactly these bytes. After a fault it is as before, or holds a front of
+/// them.
+pub fn write_file<F: Shelf>(shelf: &mut F, name: &str, bytes: &[u8]) -> Result<(), Failed>
+    ensures ok { OnOk result (Leaves (F.files shelf.old) (F.files shelf.new) name.now bytes.now) }
+    ensures err { OnErr result (LeavesPart (F.files shelf.old) (F.files shelf.new) name.now bytes.now) }
+    ensures reads { F.read_faults shelf.new ≡ F.read_faults shelf.old }
+    ensures cause { HasCause (F.write_faults shelf.old) (F.write_faults shelf.new) result }
+{
+    shelf.start(name)?;
+    let mut stored = 0;
+    while stored < bytes.len() {
+        let (_, rest) = bytes.split_at(stored);
+        let count = shelf.append(name, rest)?;
+        stored += count;
+    }
+    Ok(())
+}
+
+/// Adds exactly these bytes to the sink. After a fault a front of them was added.
+pub fn write_whole<O: Sink>(sink: &mut O, bytes: &[u8]) -> Result<(), Failed>
+    ensures ok { OnOk result (Adds (O.written sink.old) (O.written sink.new) bytes.now) }
+    ensures err { OnErr result (AddsPart (O.written sink.old) (O.written sink.new) bytes.now) }
+    ensures cause { HasCause (O.faults sink.old) (O.faults sink.new) result }
+{
+    let mut written = 0;
+    while written < bytes.len() {
+        let (_, rest) = bytes.split_at(written);
+        let count = sink.write(rest)?;
+        written += count;
+    }
+    Ok(())
+}

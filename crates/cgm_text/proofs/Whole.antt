@@ -5,6 +5,8 @@ use Rattle.cgm_base.specs.declared.fault.BadKind.TheVariants as kinds
 use Rattle.cgm_model.specs.Lists.{Lists, no_lists}
 use Rattle.cgm_text.specs.declared.reader.TextStop.{TextStop}
 use Rattle.cgm_text.specs.declared.reader.TextStop.TheVariants as stops
+use Rattle.cgm_model.specs.Model.{lists_of}
+use Rattle.cgm_text.specs.declared.reader.Reading.{Reading}
 use Rattle.cgm_text.specs.Line.{lines}
 use Rattle.cgm_text.specs.Text.{Leads, FailsAt, AreLinesOf, AreFaultyAt, IsTextOf, HasFault, IsNotRead, IsStopAfter, header}
 
@@ -38,3 +40,11 @@ is_not_read text rest (stops.Bad line kind) e fails =
     (fails.0, subst (λ list. AreFaultyAt list line) (sym e) (are_faulty rest line fails.1))
 is_not_read text rest (stops.Limit limit) e fails = fails
 is_not_read text rest stops.Memory e fails = tt
+
+pub read_whole : (text : List ℕ) (rest : List (List ℕ)) (r : Result Reading TextStop) → lines text ≡ header ∷ rest → IfOk r (λ reading. Leads no_lists rest (lists_of reading.model)) → IfOk r (λ reading. IsTextOf text (lists_of reading.model))
+read_whole text rest (Ok reading) e leads = is_text text rest (lists_of reading.model) e leads
+read_whole text rest (Err stop) e leads = tt
+
+pub stopped_whole : (text : List ℕ) (rest : List (List ℕ)) (r : Result Reading TextStop) → lines text ≡ header ∷ rest → IfErr r (IsStopAfter rest) → IfErr r (IsNotRead text)
+stopped_whole text rest (Ok reading) e stopped = tt
+stopped_whole text rest (Err stop) e stopped = is_not_read text rest stop e stopped

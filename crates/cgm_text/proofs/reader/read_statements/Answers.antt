@@ -11,5 +11,5 @@ returns-in-Err-Faulty-clause-faulty c =
     let after = c.in-Some.after.now in
     let none = rw c.in-Err-Faulty.field-0-is at c.in-Err-Faulty.ensures.faulty in
     let here = fails_here m number c.in-Some.line.now (lines after) (lines_there after) (none refl) in
-    let fails = subst (λ list. FailsAt m number list number) (sym ?) here in
+    let fails = subst (λ list. FailsAt m number list number) (sym c.in-Some.ensures.0) here in
     rw c.not_yet.ensures (refl, c.loop-line.invariant.1 number fails)

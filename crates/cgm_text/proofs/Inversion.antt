@@ -1,16 +1,15 @@
 -- What the first word of a statement says of it.
-use Rattle.std.proofs.Common.{◌≡◌, ◌≢◌, ℕ, Bool, true, false, ◌&&◌, IsTrue, List, [], ◌∷◌, get_or, codes, Option, None, Some, refl, sym, ap, ◌∙◌, arith}
+use Rattle.std.proofs.Common.{◌≡◌, ℕ, Bool, true, false, ◌&&◌, IsTrue, List, [], ◌∷◌, get_or, codes, Option, None, refl, sym, ap, ◌∙◌, arith}
 use Rattle.cgm_model.specs.declared.lists.ElementKind.{ElementKind}
 use Rattle.cgm_model.specs.declared.lists.ElementKind.TheVariants.{Goal, Task, Assume}
 use Rattle.cgm_model.specs.declared.lists.Element.{Element}
 use Rattle.cgm_model.specs.declared.lists.Refinement.{Refinement}
-use Rattle.cgm_model.specs.declared.lists.Statement.{Statement}
 use Rattle.cgm_model.specs.declared.lists.Statement.TheVariants as statements
 use Rattle.cgm_model.specs.declared.stop.AddStop.{AddStop}
 use Rattle.cgm_model.specs.Lists.{Lists}
 use Rattle.cgm_model.specs.Name.{is_name}
 use Rattle.cgm_model.specs.Statement.{IsAllowed, IsProper, refusal, first_some, unless}
-use Rattle.cgm_text.specs.Line.{IsWrittenAs, SaysNothing, element_arguments, refinement_arguments, kind_word}
+use Rattle.cgm_text.specs.Line.{SaysNothing, element_arguments, refinement_arguments, kind_word}
 
 pub kind_is : (one other : ElementKind) → kind_word one ≡ kind_word other → one ≡ other
 kind_is Goal Goal e = refl

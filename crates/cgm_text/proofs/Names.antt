@@ -1,14 +1,14 @@
 -- Names are ASCII text, and a name stands for one element or one refinement.
-use Rattle.std.proofs.Common.{◌≡◌, ◌≢◌, ℕ, zero, suc, lit<, ◌+◌, ◌<◌, ◌≤◌, Bool, true, false, ◌&&◌, ◌||◌, not, ◌==◌, IsTrue, List, [], ◌∷◌, ◌++◌, length, map, get_or, All, AllPairs, None, Some, slice_get, Option, refl, sym, ap, subst, ◌∙◌, arith, rules}
-use Rattle.std.specs.List.{list_all, slice_index_or}
-use Rattle.std.specs.Str.{IsUtf8, IsAscii}
+use Rattle.std.proofs.Common.{◌≡◌, ◌≢◌, ℕ, zero, suc, lit<, ◌+◌, ◌<◌, Bool, true, false, ◌&&◌, not, IsTrue, List, [], ◌∷◌, ◌++◌, length, map, get_or, All, AllPairs, Some, slice_get, refl, sym, ◌∙◌, arith}
+use Rattle.std.specs.List.{list_all}
+use Rattle.std.specs.Str.{IsUtf8}
 use Rattle.std.proofs.lemmas.Bool.Decides.{nat_tests}
 use Rattle.std.proofs.lemmas.List.{length-append, length-map, get_or_append_left, get_or-append-add, map_push}
 use Rattle.std.proofs.lemmas.List.Elements.{All-push}
-use Rattle.std.proofs.lemmas.Option.{slice_get_within, get_or_from_slice_get, slice_get-get_or, slice_get-map}
+use Rattle.std.proofs.lemmas.Option.{slice_get_within, get_or_from_slice_get, slice_get-get_or}
 use Rattle.std.proofs.lemmas.Str.{IsUtf8-from_ascii}
 use Rattle.cgm_model.specs.declared.lists.Element.{Element}
-use Rattle.cgm_model.specs.Lists.{Lists, element_names, refinement_names, names}
+use Rattle.cgm_model.specs.Lists.{Lists, element_names}
 use Rattle.cgm_model.specs.Name.{is_name, is_spelled, is_reserved, starts_name, continues_name}
 use Rattle.cgm_text.specs.Line.{element_name}
 

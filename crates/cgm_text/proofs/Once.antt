@@ -1,5 +1,5 @@
 -- A text leads to one model at most, and one that does has no fault.
-use Rattle.std.proofs.Common.{◌≡◌, ◌≢◌, ℕ, ◌+◌, true, List, [], ◌∷◌, refl, sym, ◌∙◌, inl, inr, subst}
+use Rattle.std.proofs.Common.{◌≡◌, ℕ, ◌+◌, true, List, [], ◌∷◌, refl, sym, ◌∙◌, inl, inr, subst}
 use Rattle.cgm_base.specs.declared.fault.BadKind.{BadKind}
 use Rattle.cgm_model.specs.declared.lists.Statement.{Statement}
 use Rattle.cgm_model.specs.Lists.{Lists, no_lists, added}

@@ -1,8 +1,8 @@
 -- How the lines of a text lead from lists to lists, one line at a time.
-use Rattle.std.proofs.Common.{◌≡◌, ◌≢◌, ℕ, ◌+◌, ◌==◌, List, [], ◌∷◌, length, refl, sym, ap, inl, inr, subst, arith}
+use Rattle.std.proofs.Common.{◌≢◌, ℕ, ◌+◌, ◌==◌, List, [], ◌∷◌, length, refl, ap, inl, inr, subst, arith}
 use Rattle.std.proofs.lemmas.List.Splits.{length-slice_split}
 use Rattle.cgm_model.specs.declared.lists.Statement.{Statement}
-use Rattle.cgm_model.specs.Lists.{Lists, added}
+use Rattle.cgm_model.specs.Lists.{Lists}
 use Rattle.cgm_text.specs.Line.{lines, Says, MakesStatement}
 use Rattle.cgm_text.specs.Text.{Leads, FailsAt}
 

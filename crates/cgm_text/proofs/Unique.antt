@@ -1,5 +1,5 @@
 -- After well-formed lists the words of a line are those of one statement at most.
-use Rattle.std.proofs.Common.{◌≡◌, ◌≢◌, ℕ, zero, suc, ◌<◌, ◌+◌, Bool, true, false, IsTrue, ◌↔◌, List, [], ◌∷◌, ◌++◌, length, map, get_or, All, AllPairs, codes, Option, None, Some, refl, sym, ap, inl, inr, ◌∙◌, arith}
+use Rattle.std.proofs.Common.{◌≡◌, ◌≢◌, ℕ, suc, ◌<◌, Bool, true, false, List, [], ◌∷◌, length, map, get_or, All, AllPairs, None, Some, refl, sym, ap, inl, inr, ◌∙◌, arith}
 use Rattle.std.proofs.lemmas.Bool.{cases_lt}
 use Rattle.std.proofs.lemmas.List.{length-append, length-map, get_or_append_left}
 use Rattle.cgm_model.specs.declared.lists.ElementKind.{ElementKind}
@@ -11,7 +11,7 @@ use Rattle.cgm_model.specs.declared.lists.Statement.TheVariants as statements
 use Rattle.cgm_model.specs.declared.stop.AddStop.{AddStop}
 use Rattle.cgm_model.specs.Lists.{Lists, names, element_names, refinement_names}
 use Rattle.cgm_model.specs.Statement.{IsAllowed, IsRefused, refusal}
-use Rattle.cgm_text.specs.Line.{IsWrittenAs, element_name, must_words, truth_word, kind_word}
+use Rattle.cgm_text.specs.Line.{IsWrittenAs, element_name, must_words, truth_word}
 use Rattle.cgm_text.proofs.Inversion.{kind_is, kind_is_no_refine, kind_is_no_assert, refine_is_no_assert}
 
 pub refused_is_not_allowed : (m : Lists) (s : Statement) (stop : AddStop) → IsRefused m s stop → IsAllowed m s → ⊥

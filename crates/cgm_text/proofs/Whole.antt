@@ -1,6 +1,5 @@
 -- A text by its first line and the lines after it.
 use Rattle.std.proofs.Common.{◌≡◌, ◌≢◌, ℕ, List, [], ◌∷◌, refl, sym, inl, inr, subst, Result, IfErr, IfOk, Ok, Err}
-use Rattle.cgm_base.specs.declared.fault.BadKind.{BadKind}
 use Rattle.cgm_base.specs.declared.fault.BadKind.TheVariants as kinds
 use Rattle.cgm_model.specs.Lists.{Lists, no_lists}
 use Rattle.cgm_text.specs.declared.reader.TextStop.{TextStop}

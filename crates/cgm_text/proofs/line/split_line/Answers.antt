@@ -1,4 +1,4 @@
-use Rattle.std.proofs.Common.{◌≡◌, ◌==◌, ◌+◌, ◌-◌, ◌<◌, length, take, drop, arith, sym, nat_eq}
+use Rattle.std.proofs.Common.{◌==◌, arith, sym}
 use Rattle.std.proofs.lemmas.List.{take_rest, length-drop}
 use Rattle.cgm_text.proofs.Splits.{slice_split-position_none, slice_split-position_some}
 use Rattle.cgm_text.proofs.line.split_line.Goals as goal

@@ -1,4 +1,4 @@
-use Rattle.std.proofs.Common.{◌≡◌, List, ◌∷◌, true, false, refl, sym, subst, ap, ◌∙◌}
+use Rattle.std.proofs.Common.{◌≡◌, ◌∷◌, refl, ap, ◌∙◌}
 use Rattle.cgm_text.specs.Line.{lines}
 use Rattle.cgm_text.specs.Text.{header}
 use Rattle.cgm_text.proofs.Whole.{has_no_header, has_one_line, read_whole, stopped_whole}

@@ -1,6 +1,6 @@
-use Rattle.std.proofs.Common.{◌≡◌, ℕ, List, refl, sym, subst}
+use Rattle.std.proofs.Common.{refl, sym, subst}
 use Rattle.cgm_text.specs.Line.{lines}
-use Rattle.cgm_text.specs.Text.{FailsAt, IsStopAfter}
+use Rattle.cgm_text.specs.Text.{FailsAt}
 use Rattle.cgm_text.proofs.Steps.{fails_here, lines_there}
 use Rattle.cgm_text.proofs.reader.read_statements.Goals as goal
 

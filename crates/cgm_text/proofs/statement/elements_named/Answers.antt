@@ -1,8 +1,7 @@
-use Rattle.std.proofs.Common.{◌≡◌, ◌<◌, List, [], ◌∷◌, ◌++◌, length, map, take, All, Some, slice_get, subst, sym, ap, ◌∙◌, Bor, ℕ}
+use Rattle.std.proofs.Common.{List, map, take, slice_get, sym, ap, ◌∙◌, Bor, ℕ}
 use Rattle.std.specs.Option.{option_map}
 use Rattle.std.proofs.lemmas.List.{take_more, map_push}
 use Rattle.std.proofs.lemmas.Option.{slice_get-map, slice_get-get_or}
-use Rattle.cgm_text.specs.Line.{element_name}
 use Rattle.cgm_text.proofs.Names.{name_at, names_push, known_push}
 use Rattle.cgm_text.proofs.statement.elements_named.Goals as goal
 

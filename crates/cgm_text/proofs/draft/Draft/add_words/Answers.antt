@@ -1,4 +1,4 @@
-use Rattle.std.proofs.Common.{◌≡◌, sym, ap, subst, ◌∙◌, length, ◌≤◌}
+use Rattle.std.proofs.Common.{subst, length, ◌≤◌}
 use Rattle.std.proofs.Math.Logic.{∥∥₁_elim}
 use Rattle.cgm_model.specs.Lists.{added, names}
 use Rattle.cgm_model.specs.Statement.{IsAllowed}

@@ -1,0 +1,67 @@
+-- The lines that the program prints: reports of answers, and one line for each fault.
+use Rattle.std.specs.Prelude.{ℕ, Bool, true, false, List, [], ◌∷◌, ◌++◌, codes}
+use Rattle.std.specs.Fmt.{decimal}
+use Rattle.cgm_base.specs.declared.fault.BadKind.{BadKind}
+use Rattle.cgm_base.specs.declared.limit.Limit.{Limit}
+use Rattle.cgm_base.specs.Words.{kind_word, limit_word}
+use Rattle.cgm_model.specs.declared.lists.Element.{Element}
+use Rattle.cgm_model.specs.declared.lists.ElementKind.{ElementKind}
+use Rattle.cgm_model.specs.declared.lists.ElementKind.TheVariants as kinds
+use Rattle.cgm_model.specs.declared.lists.Refinement.{Refinement}
+use Rattle.cgm_model.specs.declared.assignment.Assignment.{Assignment}
+use Rattle.cgm_model.specs.Lists.{Lists}
+
+-- a line of text with its line feed
+abbrev pub line : List ℕ → List ℕ
+line text = text ++ 10 ∷ []
+
+abbrev pub truth_word : Bool → List ℕ
+truth_word true = codes "true"
+truth_word false = codes "false"
+
+abbrev pub element_word : ElementKind → List ℕ
+element_word kinds.Goal = codes "goal"
+element_word kinds.Task = codes "task"
+element_word kinds.Assume = codes "assume"
+
+-- a word, a name and a truth value
+abbrev pub found_line : List ℕ → List ℕ → Bool → List ℕ
+found_line word name truth = line (word ++ codes " " ++ name ++ codes " " ++ truth_word truth)
+
+-- one line for each element, with its truth value
+abbrev pub element_lines : List Element → List Bool → List ℕ
+element_lines [] truths = []
+element_lines (e ∷ elements) [] = []
+element_lines (e ∷ elements) (truth ∷ truths) = found_line (element_word e.kind) e.name truth ++ element_lines elements truths
+
+-- one line for each refinement, with its truth value
+abbrev pub refinement_lines : List Refinement → List Bool → List ℕ
+refinement_lines [] truths = []
+refinement_lines (r ∷ refinements) [] = []
+refinement_lines (r ∷ refinements) (truth ∷ truths) = found_line (codes "refine") r.name truth ++ refinement_lines refinements truths
+
+-- the found lines of an assignment
+abbrev pub found_lines : Lists → Assignment → List ℕ
+found_lines m a = element_lines m.elements a.elements ++ refinement_lines m.refinements a.refinements
+
+abbrev pub realized : Lists → Assignment → List ℕ
+realized m a = line (codes "realized") ++ found_lines m a
+
+abbrev pub unrealizable : List ℕ
+unrealizable = line (codes "unrealizable")
+
+abbrev pub usage_fault : List ℕ
+usage_fault = line (codes "fault usage")
+
+abbrev pub text_fault : ℕ → BadKind → List ℕ
+text_fault number kind = line (codes "fault text " ++ decimal number ++ codes " " ++ kind_word kind)
+
+abbrev pub limit_fault : Limit → List ℕ
+limit_fault limit =
+    line (codes "fault limit " ++ limit_word limit.which ++ codes " " ++ decimal limit.number ++ codes " " ++ decimal limit.line)
+
+abbrev pub read_fault : List ℕ
+read_fault = line (codes "fault read")
+
+abbrev pub memory_fault : List ℕ
+memory_fault = line (codes "fault memory")

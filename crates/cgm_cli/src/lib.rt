@@ -1,0 +1,4 @@
+//! The commands of the program over any shelf of files and any sink.
+#![tactic(auto)]
+
+mod command;

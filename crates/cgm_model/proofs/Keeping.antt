@@ -233,7 +233,7 @@ IsWellFormed-assertion m a w proper p = record {
   refinements = w.refinements;
 }
 
-IsWellFormed-added : (m : Lists) (s : Statement) → IsWellFormed m → IsProper m s → IsAllowed m s → IsWellFormed (added m s)
+pub IsWellFormed-added : (m : Lists) (s : Statement) → IsWellFormed m → IsProper m s → IsAllowed m s → IsWellFormed (added m s)
 IsWellFormed-added m (statements.Element e) w proper allowed =
     IsWellFormed-element m e w proper (Passes-allowed m (statements.Element e) allowed.passes)
 IsWellFormed-added m (statements.Refine r) w proper allowed =

@@ -4,3 +4,4 @@ pub mod Cycles
 pub mod Lookups
 pub mod Distinct
 pub mod Keeping
+pub mod Verdicts

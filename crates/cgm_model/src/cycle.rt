@@ -12,13 +12,13 @@ pub(crate) fn stays_acyclic(marks: &mut [bool], refinements: &[Refinement], r: &
     requires new_known { IsKnown (length marks.old) r.now }
     ensures { IsTrue result ↔ IsAcyclic (refinements.now ++ r.now ∷ []) }
 {
-    clear(marks);
+    unmark_all(marks);
     mark_each(marks, r.sources.as_slice());
     fill(marks, refinements);
     !marks[r.target as usize]
 }
 
-fn clear(marks: &mut [bool])
+fn unmark_all(marks: &mut [bool])
     ensures { (element : ℕ) → ¬ IsMarked marks.new element }
 {
     for mark in marks.iter_mut() {
@@ -47,7 +47,7 @@ fn spread(marks: &mut [bool], refinements: &[Refinement]) -> bool
     more
 }
 
-/// Does so for one refinement.
+/// Marks the sources of the refinement where its target is marked, and says whether one was not.
 fn spread_one(marks: &mut [bool], r: &Refinement) -> bool
     requires { IsKnown (length marks.old) r.now }
     ensures { Spreads (r.now ∷ []) marks.old marks.new result }

@@ -11,10 +11,10 @@ returns c =
     let r = c.args.r.now in
     let marks = c.fill.new.marks in
     let reached = get_or marks r.target false in
-    let P : List ℕ → Type 0 = λ sources. MarksEach sources c.clear.new.marks c.mark_each.new.marks c.mark_each.result in
+    let P : List ℕ → Type 0 = λ sources. MarksEach sources c.unmark_all.new.marks c.mark_each.new.marks c.mark_each.result in
     let each = subst P c.as_slice.ensures c.mark_each.ensures in
     let marked : All (IsMarked marks) r.sources = λ k d l. c.fill.ensures.kept (get_or r.sources k d) (each.marked k d l) in
-    let below : (f : ℕ → ℕ) (bound : ℕ) → IsNumbering f refinements → All (λ source. f source < bound) r.sources → AreBelow f bound marks = λ f bound numbering sources. c.fill.ensures.below f bound numbering (each.below f bound sources (λ x m. absurd (c.clear.ensures x m))) in (
+    let below : (f : ℕ → ℕ) (bound : ℕ) → IsNumbering f refinements → All (λ source. f source < bound) r.sources → AreBelow f bound marks = λ f bound numbering sources. c.fill.ensures.below f bound numbering (each.below f bound sources (λ x m. absurd (c.unmark_all.ensures x m))) in (
       λ e. IsAcyclic-from_closed refinements r marks c.requires.acyclic c.fill.ensures.closed marked (λ m. false≢true (sym (not-true reached e) ∙ m)),
       λ acyclic. not_from_false reached (false_from_ne_true reached (λ m. cyclic_from_marked refinements r marks below m acyclic)),
     )

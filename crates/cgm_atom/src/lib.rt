@@ -1,0 +1,19 @@
+//! Problems over bounded whole numbers, their solutions, boxes, and the entries of a log.
+#![tactic(auto)]
+
+mod boxes;
+mod builders;
+mod checks;
+mod constraints;
+mod entries;
+mod lists;
+mod problems;
+
+pub use boxes::BoxState;
+pub use builders::{BuildStop, ProblemBuilder};
+pub use checks::Violated;
+pub use constraints::{Atom, Clause, Row, Var};
+pub use entries::{BadStep, Entry, Hint};
+pub use lists::Seq;
+pub use problems::Problem;
+pub use std::alloc::AllocError as OutOfMemory;

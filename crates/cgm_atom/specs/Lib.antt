@@ -1,6 +1,7 @@
 pub mod Acceptance
 pub mod Atoms
 pub mod Bounds
+pub mod Building
 pub mod Cut
 pub mod Entailment
 pub mod Instance

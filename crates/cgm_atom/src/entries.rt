@@ -1,6 +1,9 @@
 //! The entries of a log, and why an entry is refused.
+ghost use Rattle.std.specs.Prelude.{◌≡◌, IfOk};
+
 use crate::constraints::Clause;
 use crate::lists::Seq;
+use std::alloc::{AllocError as OutOfMemory, Global};
 
 /// What one step of a refutation narrows by.
 #[derive(Clone, Copy, Debug, PartialEq, Eq)]
@@ -33,6 +36,38 @@ pub enum Entry {
         hints: Seq<Hint>,
         bound: u64,
     },
+}
+
+impl Entry {
+    /// An equal entry.
+    pub fn copy(&self, alloc: Global) -> Result<Entry, OutOfMemory>
+        ensures { IfOk result (λ e. e ≡ self.now) }
+    {
+        match self {
+            Entry::Best { by, values } => {
+                let values = Vec::from_slice(alloc, values.as_slice())?;
+                Ok(Entry::Best {
+                    by: *by,
+                    values: Seq::of(values),
+                })
+            }
+            Entry::Lemma {
+                by,
+                clause,
+                hints,
+                bound,
+            } => {
+                let clause = clause.copy(alloc)?;
+                let hints = Vec::from_slice(alloc, hints.as_slice())?;
+                Ok(Entry::Lemma {
+                    by: *by,
+                    clause,
+                    hints: Seq::of(hints),
+                    bound: *bound,
+                })
+            }
+        }
+    }
 }
 
 /// Why an entry is refused. Places of atoms and hints count from 1.

@@ -1,6 +1,7 @@
 //! A list as contracts see it.
-ghost use Rattle.std.specs.Prelude.{◌≡◌};
+ghost use Rattle.std.specs.Prelude.{◌≡◌, ◌++◌, [], ◌∷◌, if◌then◌else◌, is_ok, IfErr};
 
+use std::alloc::AllocFailed;
 use std::marker::Model;
 
 /// A `Vec` that contracts see as the list of its items.
@@ -41,5 +42,13 @@ impl<T> Seq<T> {
         ensures { result.now ≡ self.now }
     {
         self.items.as_slice()
+    }
+
+    /// Adds an item at the end, or hands it back for want of memory.
+    pub fn push(&mut self, item: T) -> Result<(), AllocFailed<T>>
+        ensures items { self.new ≡ (if is_ok result then self.old ++ item ∷ [] else self.old) }
+        ensures item_returned { IfErr result (λ e. e.value ≡ item) }
+    {
+        self.items.push(item)
     }
 }

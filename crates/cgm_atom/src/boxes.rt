@@ -1,4 +1,12 @@
 //! Boxes.
+ghost use Rattle.std.specs.Prelude.{◌≡◌, ℕ, ◌<◌, ◌≤ℤ◌, length, not, if◌then◌else◌, IfOk};
+ghost use Rattle.std.specs.Int.{int_max, int_min};
+ghost use Rattle.cgm_atom.specs.Bounds.{Bounds, IsBoxOf, IsProper, lower_of, upper_of};
+ghost use Rattle.cgm_atom.specs.Narrowing.{is_false_in, made_true};
+
+use crate::constraints::{Atom, Var};
+use crate::problems::Problem;
+use std::alloc::{AllocError as OutOfMemory, Global};
 use std::marker::Model;
 
 /// A least and a greatest value for each variable of a problem.
@@ -9,11 +17,76 @@ pub struct BoxState {
 }
 
 impl Model for BoxState {
-    ghost use Rattle.cgm_atom.specs.Bounds.{Bounds, IsProper};
+    ghost use Rattle.cgm_atom.specs.Bounds.{Bounds};
 
     ghost Value = { Bounds };
 
-    ghost view = { λ b. record { lower = b.lower.items; upper = b.upper.items } };
+    ghost use Rattle.cgm_atom.specs.Parts.{box_bounds};
+    ghost use Rattle.cgm_atom.specs.Bounds.{IsProper};
 
-    ghost invariant = { λ b. IsProper (record { lower = b.lower.items; upper = b.upper.items }) };
+    ghost view = { box_bounds };
+
+    ghost invariant = { λ b. IsProper (box_bounds b) };
+}
+
+impl BoxState {
+    /// The problem's bounds.
+    pub fn of(alloc: Global, p: &Problem) -> Result<BoxState, OutOfMemory>
+        ensures { IfOk result (λ b. b ≡ p.now.bounds) }
+    {
+        let _valid = p.objectives();
+        let lower = Vec::from_slice(alloc, p.lower())?;
+        let upper = Vec::from_slice(alloc, p.upper())?;
+        Ok(BoxState { lower, upper })
+    }
+
+    /// Takes the problem's bounds again. Takes no memory.
+    pub fn reset(&mut self, p: &Problem)
+        requires { IsBoxOf p.now.bounds self.old }
+        ensures { self.new ≡ p.now.bounds }
+    {
+        let _valid = p.objectives();
+        self.lower.copy_from_slice(p.lower());
+        self.upper.copy_from_slice(p.upper());
+    }
+
+    /// The least value of a variable.
+    pub fn lo(&self, v: Var) -> i64
+        requires { v.0 < length self.now.lower }
+        ensures value { result ≡ lower_of self.now v.0 }
+        ensures proper { IsProper self.now }
+    {
+        self.lower[v.0 as usize]
+    }
+
+    /// The greatest value of a variable.
+    pub fn hi(&self, v: Var) -> i64
+        requires { v.0 < length self.now.lower }
+        ensures value { result ≡ upper_of self.now v.0 }
+        ensures proper { IsProper self.now }
+    {
+        self.upper[v.0 as usize]
+    }
+
+    /// Makes an atom true. Answers false where it is false in the box, and then changes nothing.
+    pub fn assume(&mut self, a: Atom) -> bool
+        requires { a.var.0 < length self.old.lower }
+        ensures answer { result ≡ not (is_false_in self.old a) }
+        ensures after { self.new ≡ (if result then made_true self.old a else self.old) }
+        ensures within { (limits : Bounds) → IsBoxOf limits self.old → IsBoxOf limits self.new }
+    {
+        let at = a.var.0 as usize;
+        if a.at_least {
+            if self.upper[at] < a.k {
+                return false;
+            }
+            self.lower[at] = self.lower[at].max(a.k);
+        } else {
+            if a.k < self.lower[at] {
+                return false;
+            }
+            self.upper[at] = self.upper[at].min(a.k);
+        }
+        true
+    }
 }

@@ -1,2 +1,3 @@
+pub mod Assuming
 pub mod Fresh
 pub mod Growing

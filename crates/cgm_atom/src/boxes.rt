@@ -75,18 +75,31 @@ impl BoxState {
         ensures after { self.new ≡ (if result then made_true self.old a else self.old) }
         ensures within { (limits : Bounds) → IsBoxOf limits self.old → IsBoxOf limits self.new }
     {
-        let at = a.var.0 as usize;
+        let lo = self.lo(a.var);
+        let hi = self.hi(a.var);
         if a.at_least {
-            if self.upper[at] < a.k {
+            if hi < a.k {
                 return false;
             }
-            self.lower[at] = self.lower[at].max(a.k);
+            self.lower[a.var.0 as usize] = greater(lo, a.k);
         } else {
-            if a.k < self.lower[at] {
+            if a.k < lo {
                 return false;
             }
-            self.upper[at] = self.upper[at].min(a.k);
+            self.upper[a.var.0 as usize] = lesser(hi, a.k);
         }
         true
     }
+}
+
+fn greater(x: i64, y: i64) -> i64
+    ensures { result ≡ int_max x y }
+{
+    x.max(y)
+}
+
+fn lesser(x: i64, y: i64) -> i64
+    ensures { result ≡ int_min x y }
+{
+    x.min(y)
 }

@@ -86,22 +86,3 @@ box_reduced limits b i k h box = record {
   inside = λ x. ((box.inside x).0, le_trans (upper_of (reduced b i k) x) (upper_of b x) (upper_of limits x) (reduced_below b i k x) (box.inside x).1);
   ordered = reduced_ordered b i k box.ordered h;
 }
-
-pub IsProper-raised : (b : Bounds) (i : ℕ) (k : ℤ) → k ≤ℤ upper_of b i → IsProper b → IsProper (raised b i k)
-IsProper-raised b i k h proper = record { same_count = rw length-set proper.same_count; ordered = raised_ordered b i k proper.ordered h }
-
-box_made_true : (limits b : Bounds) (x : ℕ) (up : Bool) (k : ℤ) → cond up (int_lt (upper_of b x) k) (int_lt k (lower_of b x)) ≡ false → IsBoxOf limits b → IsBoxOf limits (cond up (raised b x k) (reduced b x k))
-box_made_true limits b x true k h box = box_raised limits b x k (not_less (upper_of b x) k h) box
-box_made_true limits b x false k h box = box_reduced limits b x k (not_less k (lower_of b x) h) box
-
-pub IsBoxOf-made_true : (limits b : Bounds) (a : Atom) → is_false_in b a ≡ false → IsBoxOf limits b → IsBoxOf limits (made_true b a)
-IsBoxOf-made_true limits b a h box = box_made_true limits b a.var.0 a.at_least a.k h box
-
-box_assumed : (limits old new : Bounds) (a : Atom) (answer t : Bool) → is_false_in old a ≡ t → answer ≡ not t → new ≡ (if answer then made_true old a else old) → IsBoxOf limits old → IsBoxOf limits new
-box_assumed limits old new a true true f e h box = absurd (cc)
-box_assumed limits old new a true false f e h box = rw h (IsBoxOf-made_true limits old a f box)
-box_assumed limits old new a false t f e h box = rw h box
-
--- what a call leaves that answers whether the atom isn't false
-pub IsBoxOf-assumed : (limits old new : Bounds) (a : Atom) (answer : Bool) → answer ≡ not (is_false_in old a) → new ≡ (if answer then made_true old a else old) → IsBoxOf limits old → IsBoxOf limits new
-IsBoxOf-assumed limits old new a answer e h box = box_assumed limits old new a answer (is_false_in old a) refl e h box

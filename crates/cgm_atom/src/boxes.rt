@@ -1,6 +1,5 @@
 //! Boxes.
 ghost use Rattle.std.specs.Prelude.{◌≡◌, ℕ, ◌<◌, ◌≤ℤ◌, length, not, if◌then◌else◌, IfOk};
-ghost use Rattle.std.specs.Int.{int_max, int_min};
 ghost use Rattle.cgm_atom.specs.Bounds.{Bounds, IsBoxOf, IsProper, lower_of, upper_of};
 ghost use Rattle.cgm_atom.specs.Narrowing.{is_false_in, made_true};
 
@@ -81,25 +80,13 @@ impl BoxState {
             if hi < a.k {
                 return false;
             }
-            self.lower[a.var.0 as usize] = greater(lo, a.k);
+            self.lower[a.var.0 as usize] = lo.max(a.k);
         } else {
             if a.k < lo {
                 return false;
             }
-            self.upper[a.var.0 as usize] = lesser(hi, a.k);
+            self.upper[a.var.0 as usize] = hi.min(a.k);
         }
         true
     }
-}
-
-fn greater(x: i64, y: i64) -> i64
-    ensures { result ≡ int_max x y }
-{
-    x.max(y)
-}
-
-fn lesser(x: i64, y: i64) -> i64
-    ensures { result ≡ int_min x y }
-{
-    x.min(y)
 }

@@ -1,3 +1,4 @@
 pub mod Assuming
 pub mod Fresh
 pub mod Growing
+pub mod Solutions

@@ -1,10 +1,10 @@
 //! Whether values are a solution.
-ghost use Rattle.std.specs.Prelude.{◌≡◌, ℕ, ◌+◌, ◌*◌, ◌^◌, ◌<◌, ◌≤◌, ◌↔◌, ◌&&◌, ◌*ℤ◌, not, length, int_le, unsigned_abs, IsTrue, IsNone, IfSome};
+ghost use Rattle.std.specs.Prelude.{◌≡◌, ℕ, ◌+◌, ◌*◌, ◌^◌, ◌<◌, ◌≤◌, ◌↔◌, ◌&&◌, ◌+ℤ◌, ◌*ℤ◌, not, length, int_le, unsigned_abs, IsTrue, IsNone, IfSome};
 ghost use Rattle.std.specs.List.{position_from};
 ghost use Rattle.cgm_atom.specs.Atoms.{activity, atom_true, clause_true, guard_true, row_true};
-ghost use Rattle.cgm_atom.specs.Bounds.{IsWithin};
+ghost use Rattle.cgm_atom.specs.Bounds.{IsWithin, value_of};
 ghost use Rattle.cgm_atom.specs.Instance.{IsSolution, first_violation, outside_from, var_count};
-ghost use Rattle.cgm_atom.specs.Limits.{AreTermsOf, IsClauseOf, IsRowOf, measure};
+ghost use Rattle.cgm_atom.specs.Limits.{AreTermsOf, IsClauseOf, IsRowOf, greatest_size, measure};
 
 use crate::constraints::{Atom, Clause, Row, Var};
 use crate::problems::Problem;
@@ -103,7 +103,7 @@ fn is_atom_true(a: Atom, values: &[i64]) -> bool
     requires { a.var.0 < length values.now }
     ensures { result ≡ atom_true values.now a }
 {
-    let value = values[a.var.0 as usize];
+    let value = value_at(values, a.var);
     if a.at_least {
         a.k <= value
     } else {
@@ -155,14 +155,40 @@ fn activity_of(p: &Problem, terms: &[(i64, Var)], values: &[i64]) -> i64
 {
     let mut sum = 0;
     for (coefficient, v) in terms {
-        sum += product(*coefficient, values[v.0 as usize]);
+        sum = total(sum, term_value(p, *coefficient, *v, values));
     }
     sum
 }
 
+fn term_value(p: &Problem, coefficient: i64, v: Var, values: &[i64]) -> i64
+    requires known { v.0 < var_count p.now }
+    requires limit { unsigned_abs coefficient * greatest_size p.now.bounds v.0 ≤ 4 * 10 ^ 18 }
+    requires count { length values.now ≡ var_count p.now }
+    requires within { IsWithin p.now.bounds values.now }
+    ensures value { result ≡ coefficient *ℤ value_of values.now v.0 }
+    ensures size { unsigned_abs result ≤ unsigned_abs coefficient * greatest_size p.now.bounds v.0 }
+{
+    product(coefficient, value_at(values, v))
+}
+
+fn value_at(values: &[i64], v: Var) -> i64
+    requires { v.0 < length values.now }
+    ensures { result ≡ value_of values.now v.0 }
+{
+    values[v.0 as usize]
+}
+
 fn product(x: i64, y: i64) -> i64
     requires { unsigned_abs x * unsigned_abs y ≤ 4 * 10 ^ 18 }
-    ensures { result ≡ x *ℤ y }
+    ensures value { result ≡ x *ℤ y }
+    ensures size { unsigned_abs result ≡ unsigned_abs x * unsigned_abs y }
 {
     x * y
+}
+
+fn total(x: i64, y: i64) -> i64
+    requires { unsigned_abs x + unsigned_abs y ≤ 4 * 10 ^ 18 }
+    ensures { result ≡ x +ℤ y }
+{
+    x + y
 }

@@ -1,13 +1,11 @@
 -- Making an atom true that isn't false keeps a box in order and within its limits.
-use Rattle.std.proofs.Common.{◌≡◌, ℕ, zero, suc, Bool, true, false, not, cond, List, [], ◌∷◌, length, refl, ap, subst, sym, arith, rules, length-set}
-use Rattle.std.specs.Prelude.{ℤ, pos, ◌≤ℤ◌, int_lt, slice_set, if◌then◌else◌}
+use Rattle.std.proofs.Common.{◌≡◌, ℕ, zero, suc, false, List, [], ◌∷◌, refl, ap, subst, sym, arith, rules, length-set}
+use Rattle.std.specs.Prelude.{ℤ, ◌≤ℤ◌, int_lt, slice_set}
 use Rattle.std.specs.Int.{int_max, int_min}
 use Rattle.std.proofs.lemmas.Int.{ints, clamps, to_z-of_z}
 use mir.Syntax.{w64}
 use mir.Val.{SFits, to_z, of_z}
-use Rattle.cgm_atom.specs.declared.constraints.Atom.{Atom}
-use Rattle.cgm_atom.specs.Bounds.{Bounds, IsBoxOf, IsInside, IsProper, value_of, lower_of, upper_of}
-use Rattle.cgm_atom.specs.Narrowing.{is_false_in, made_true}
+use Rattle.cgm_atom.specs.Bounds.{Bounds, IsBoxOf, IsProper, value_of, lower_of, upper_of}
 
 -- a value after a write is the old one, or the written one at its place
 pub value_of-set : (P : ℤ → Type 0) (xs : List ℤ) (i x : ℕ) (v : ℤ) → P (value_of xs x) → (x ≡ i → P v) → P (value_of (slice_set xs i v) x)
@@ -86,3 +84,9 @@ box_reduced limits b i k h box = record {
   inside = λ x. ((box.inside x).0, le_trans (upper_of (reduced b i k) x) (upper_of b x) (upper_of limits x) (reduced_below b i k x) (box.inside x).1);
   ordered = reduced_ordered b i k box.ordered h;
 }
+
+pub IsProper-raised : (b : Bounds) (i : ℕ) (k : ℤ) → k ≤ℤ upper_of b i → IsProper b → IsProper (raised b i k)
+IsProper-raised b i k h proper = record { same_count = rw length-set proper.same_count; ordered = raised_ordered b i k proper.ordered h }
+
+pub IsProper-reduced : (b : Bounds) (i : ℕ) (k : ℤ) → lower_of b i ≤ℤ k → IsProper b → IsProper (reduced b i k)
+IsProper-reduced b i k h proper = record { same_count = rw length-set proper.same_count; ordered = reduced_ordered b i k proper.ordered h }

@@ -1,8 +1,8 @@
-use Rattle.std.proofs.Common.{◌≡◌, ◌≤ℤ◌, ℤ, w64, to_z, of_z, rules, subst}
+use Rattle.std.proofs.Common.{◌≡◌, ◌≤ℤ◌, w64, to_z, of_z, rules}
 use Rattle.std.specs.Int.{int_max, int_min}
 use Rattle.cgm_atom.specs.Bounds.{lower_of, upper_of}
 use Rattle.cgm_atom.specs.Parts.{box_bounds}
-use Rattle.cgm_atom.proofs.Assuming.{IsProper-raised, IsProper-reduced, box_raised, box_reduced, read_max, read_min, read_not_less}
+use Rattle.cgm_atom.proofs.Assuming.{IsProper-raised, IsProper-reduced, box_raised, box_reduced, read_max, read_min, read_not_above, read_not_below}
 use Rattle.cgm_atom.proofs.boxes.BoxState.assume.Goals as goal
 
 -- the least value that is written, and that it is no greater than the greatest
@@ -16,7 +16,7 @@ raised_value c =
 raised_within : (c : goal.After-self-1) → c.args.a.k ≤ℤ upper_of (box_bounds c.self.inside) c.args.a.var.0
 raised_within c =
     let high : c.hi-hi.result ≡ upper_of (box_bounds c.self.inside) c.args.a.var.0 = rw (← c.self.view_is) at c.hi-hi.ensures.value in
-    subst (λ (u : ℤ). c.args.a.k ≤ℤ u) high (read_not_less c.hi-hi.result c.args.a.k (search rules) (search rules) c.if-hi-a.false)
+    read_not_above c.args.a.at_least c.args.a.k c.hi-hi.result (upper_of (box_bounds c.self.inside) c.args.a.var.0) _ (search rules) high c.if-a.true c.if-is_false_between.ensures
 
 -- the greatest value that is written, and that it is no less than the least
 reduced_value : (c : goal.After-self-else-a-1) → to_z w64 (of_z w64 c.min.result) ≡ int_min (upper_of (box_bounds c.self.inside) c.args.a.var.0) c.args.a.k
@@ -29,7 +29,7 @@ reduced_value c =
 reduced_within : (c : goal.After-self-else-a-1) → lower_of (box_bounds c.self.inside) c.args.a.var.0 ≤ℤ c.args.a.k
 reduced_within c =
     let low : c.lo-lo.result ≡ lower_of (box_bounds c.self.inside) c.args.a.var.0 = rw (← c.self.view_is) at c.lo-lo.ensures.value in
-    subst (λ (l : ℤ). l ≤ℤ c.args.a.k) low (read_not_less c.args.a.k c.lo-lo.result (search rules) (search rules) c.if-a-lo.false)
+    read_not_below c.args.a.at_least c.args.a.k c.lo-lo.result (lower_of (box_bounds c.self.inside) c.args.a.var.0) _ (search rules) low c.if-a.false c.if-is_false_between.ensures
 
 pub invariant_of-self : goal.invariant_of-self
 invariant_of-self c =
@@ -39,10 +39,10 @@ pub invariant_of-self-else-a : goal.invariant_of-self-else-a
 invariant_of-self-else-a c =
     rw (reduced_value c) (IsProper-reduced (box_bounds c.self.inside) c.args.a.var.0 c.args.a.k (reduced_within c) c.self.invariant)
 
-pub returns-else-hi-a-clause-within : goal.returns-else-hi-a-clause-within
-returns-else-hi-a-clause-within c = λ limits h.
+pub returns-then-a-clause-within : goal.returns-then-a-clause-within
+returns-then-a-clause-within c = λ limits h.
     rw (raised_value c) (box_raised limits (box_bounds c.self.inside) c.args.a.var.0 c.args.a.k (raised_within c) (rw (← c.self.view_is) at h))
 
-pub returns-else-a-lo-clause-within : goal.returns-else-a-lo-clause-within
-returns-else-a-lo-clause-within c = λ limits h.
+pub returns-else-a-clause-within : goal.returns-else-a-clause-within
+returns-else-a-clause-within c = λ limits h.
     rw (reduced_value c) (box_reduced limits (box_bounds c.self.inside) c.args.a.var.0 c.args.a.k (reduced_within c) (rw (← c.self.view_is) at h))

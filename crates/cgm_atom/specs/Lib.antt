@@ -10,3 +10,4 @@ pub mod LogState
 pub mod Narrowing
 pub mod Order
 pub mod Parts
+pub mod Ranges

@@ -1,0 +1,13 @@
+pub mod Acceptance
+pub mod Atoms
+pub mod Bounds
+pub mod Building
+pub mod Cut
+pub mod Entailment
+pub mod Instance
+pub mod Limits
+pub mod LogState
+pub mod Narrowing
+pub mod Order
+pub mod Parts
+pub mod Ranges

@@ -1,0 +1,97 @@
+//! Boxes.
+ghost use Rattle.std.specs.Prelude.{◌≡◌, ℕ, ◌<◌, ◌≤ℤ◌, cond, length, not, if◌then◌else◌, int_lt, IfOk};
+ghost use Rattle.cgm_atom.specs.Bounds.{Bounds, IsBoxOf, IsProper, lower_of, upper_of};
+ghost use Rattle.cgm_atom.specs.Narrowing.{is_false_in, made_true};
+
+use crate::constraints::{Atom, Var};
+use crate::problems::Problem;
+use std::alloc::{AllocError as OutOfMemory, Global};
+use std::marker::Model;
+
+/// A least and a greatest value for each variable of a problem.
+#[derive(Debug, Drop)]
+pub struct BoxState {
+    lower: Vec<i64>,
+    upper: Vec<i64>,
+}
+
+impl Model for BoxState {
+    ghost use Rattle.cgm_atom.specs.Bounds.{Bounds};
+
+    ghost Value = { Bounds };
+
+    ghost use Rattle.cgm_atom.specs.Parts.{box_bounds};
+    ghost use Rattle.cgm_atom.specs.Bounds.{IsProper};
+
+    ghost view = { box_bounds };
+
+    ghost invariant = { λ b. IsProper (box_bounds b) };
+}
+
+impl BoxState {
+    /// The problem's bounds.
+    pub fn of(alloc: Global, p: &Problem) -> Result<BoxState, OutOfMemory>
+        ensures bounds { IfOk result (λ b. b ≡ p.now.bounds) }
+        ensures box_of { IfOk result (λ b. IsBoxOf p.now.bounds b) }
+    {
+        let _valid = p.objectives();
+        let lower = Vec::from_slice(alloc, p.lower())?;
+        let upper = Vec::from_slice(alloc, p.upper())?;
+        Ok(BoxState { lower, upper })
+    }
+
+    /// Takes the problem's bounds again. Takes no memory.
+    pub fn reset(&mut self, p: &Problem)
+        requires { IsBoxOf p.now.bounds self.old }
+        ensures bounds { self.new ≡ p.now.bounds }
+        ensures box_of { IsBoxOf p.now.bounds self.new }
+    {
+        let _valid = p.objectives();
+        self.lower.copy_from_slice(p.lower());
+        self.upper.copy_from_slice(p.upper());
+    }
+
+    /// The least value of a variable.
+    pub fn lo(&self, v: Var) -> i64
+        requires { v.0 < length self.now.lower }
+        ensures value { result ≡ lower_of self.now v.0 }
+        ensures proper { IsProper self.now }
+    {
+        self.lower[v.0 as usize]
+    }
+
+    /// The greatest value of a variable.
+    pub fn hi(&self, v: Var) -> i64
+        requires { v.0 < length self.now.lower }
+        ensures value { result ≡ upper_of self.now v.0 }
+        ensures proper { IsProper self.now }
+    {
+        self.upper[v.0 as usize]
+    }
+
+    /// Makes an atom true. Answers false where it is false in the box, and then changes nothing.
+    pub fn assume(&mut self, a: Atom) -> bool
+        requires { a.var.0 < length self.old.lower }
+        ensures answer { result ≡ not (is_false_in self.old a) }
+        ensures after { self.new ≡ (if result then made_true self.old a else self.old) }
+        ensures within { (limits : Bounds) → IsBoxOf limits self.old → IsBoxOf limits self.new }
+    {
+        let lo = self.lo(a.var);
+        let hi = self.hi(a.var);
+        if is_false_between(a, lo, hi) {
+            return false;
+        }
+        if a.at_least {
+            self.lower[a.var.0 as usize] = lo.max(a.k);
+        } else {
+            self.upper[a.var.0 as usize] = hi.min(a.k);
+        }
+        true
+    }
+}
+
+fn is_false_between(a: Atom, lo: i64, hi: i64) -> bool
+    ensures { result ≡ cond a.at_least (int_lt hi a.k) (int_lt a.k lo) }
+{
+    if a.at_least { hi < a.k } else { a.k < lo }
+}

@@ -1,0 +1,66 @@
+//! Variables, atoms, clauses and rows.
+ghost use Rattle.std.specs.Prelude.{◌≡◌, ◌+◌, ◌<◌, ◌↔◌, IsTrue, IfOk, cond};
+ghost use Rattle.cgm_atom.specs.Building.{is_same_atom};
+
+use crate::lists::Seq;
+use std::alloc::{AllocError as OutOfMemory, Global};
+
+/// A variable, by its number from 0.
+#[derive(Clone, Copy, Debug, PartialEq, Eq)]
+pub struct Var(pub u32);
+
+/// A bound on one variable: `var >= k` where `at_least` is set, else `var <= k`.
+#[derive(Clone, Copy, Debug, PartialEq, Eq)]
+pub struct Atom {
+    pub var: Var,
+    pub at_least: bool,
+    pub k: i64,
+}
+
+impl Atom {
+    pub(crate) fn is_same(self, other: Atom) -> bool
+        ensures { result ≡ is_same_atom self other }
+    {
+        self.var.0 == other.var.0 && self.at_least == other.at_least && self.k == other.k
+    }
+}
+
+/// The claim that one of its atoms is true. Without atoms it is false.
+#[derive(Debug, Drop)]
+pub struct Clause {
+    pub atoms: Seq<Atom>,
+}
+
+impl Clause {
+    /// An equal clause.
+    pub fn copy(&self, alloc: Global) -> Result<Clause, OutOfMemory>
+        ensures { IfOk result (λ c. c ≡ self.now) }
+    {
+        let atoms = Vec::from_slice(alloc, self.atoms.as_slice())?;
+        Ok(Clause {
+            atoms: Seq::of(atoms),
+        })
+    }
+}
+
+/// The claim that the sum of coefficient times variable is at least `least`.
+/// With a guard it is claimed only where the guard is true.
+#[derive(Debug, Drop)]
+pub struct Row {
+    pub guard: Option<Atom>,
+    pub terms: Seq<(i64, Var)>,
+    pub least: i64,
+}
+
+impl Row {
+    pub(crate) fn copy(&self, alloc: Global) -> Result<Row, OutOfMemory>
+        ensures { IfOk result (λ r. r ≡ self.now) }
+    {
+        let terms = Vec::from_slice(alloc, self.terms.as_slice())?;
+        Ok(Row {
+            guard: self.guard,
+            terms: Seq::of(terms),
+            least: self.least,
+        })
+    }
+}

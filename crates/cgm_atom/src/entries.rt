@@ -1,0 +1,96 @@
+//! The entries of a log, and why an entry is refused.
+ghost use Rattle.std.specs.Prelude.{◌≡◌, IfOk};
+
+use crate::constraints::Clause;
+use crate::lists::Seq;
+use std::alloc::{AllocError as OutOfMemory, Global};
+
+/// What one step of a refutation narrows by.
+#[derive(Clone, Copy, Debug, PartialEq, Eq)]
+pub enum Hint {
+    /// A clause of the problem, by its number from 0.
+    Clause(u32),
+    /// A row of the problem, by its number from 0.
+    Row(u32),
+    /// The clause of the lemma at this place of the log, from 1.
+    Entry(u64),
+    /// The clause of this lemma, from 1, of those that aren't in the log yet.
+    Own(u32),
+    /// A part, from 0, of the cut of the best with this ordinal, from 1.
+    Cut { best: u64, part: u32 },
+}
+
+/// An entry of a log, made by the worker `by`.
+#[derive(Debug, Drop)]
+pub enum Entry {
+    /// A solution that is less than the last one.
+    Best {
+        by: u32,
+        values: Seq<i64>,
+    },
+    /// A clause that holds of every solution below the best with the ordinal `bound`
+    /// (of every solution, where `bound` is 0), and the hints that refute its negation.
+    Lemma {
+        by: u32,
+        clause: Clause,
+        hints: Seq<Hint>,
+        bound: u64,
+    },
+}
+
+impl Entry {
+    /// An equal entry.
+    pub fn copy(&self, alloc: Global) -> Result<Entry, OutOfMemory>
+        ensures { IfOk result (λ e. e ≡ self.now) }
+    {
+        match self {
+            Entry::Best { by, values } => {
+                let values = Vec::from_slice(alloc, values.as_slice())?;
+                Ok(Entry::Best {
+                    by: *by,
+                    values: Seq::of(values),
+                })
+            }
+            Entry::Lemma {
+                by,
+                clause,
+                hints,
+                bound,
+            } => {
+                let clause = clause.copy(alloc)?;
+                let hints = Vec::from_slice(alloc, hints.as_slice())?;
+                Ok(Entry::Lemma {
+                    by: *by,
+                    clause,
+                    hints: Seq::of(hints),
+                    bound: *bound,
+                })
+            }
+        }
+    }
+}
+
+/// Why an entry is refused. Places of atoms and hints count from 1.
+#[derive(Clone, Copy, Debug, PartialEq, Eq)]
+pub enum BadStep {
+    /// A lemma without atoms stands before it.
+    AfterEnd,
+    /// A best with `given` values, which is not the number of variables.
+    Values { given: u64 },
+    /// The value of this variable is outside its bounds.
+    Bounds { var: u32 },
+    /// No atom of this clause is true.
+    Clause { number: u32 },
+    /// This row isn't met.
+    Row { number: u32 },
+    /// The objective values aren't less than those of the last best.
+    NotLess,
+    /// The variable of the atom at this place doesn't exist.
+    Atom { place: u64 },
+    /// The hint at this place names nothing.
+    Hint { place: u64 },
+    /// The bound isn't `found`, the greatest that the hints carry.
+    Bound { found: u64 },
+    /// The hints don't reach conflict.
+    NoConflict,
+}

@@ -1,0 +1,11 @@
+//! Narrowing of a box by a clause or a row, and the test of the next entry of a log.
+#![tactic(auto)]
+
+mod atoms;
+mod clauses;
+mod naming;
+mod outcome;
+mod rows;
+
+pub use cgm_atom::BadStep;
+pub use outcome::Narrowed;

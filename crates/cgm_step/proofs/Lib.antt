@@ -1,2 +1,6 @@
 pub mod Tightening
 pub mod CutParts
+pub mod RowSums
+pub mod Leaving
+pub mod RowTightening
+pub mod States

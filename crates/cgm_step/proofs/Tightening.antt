@@ -1,13 +1,18 @@
 -- What making an atom true does to the bounds.
-use Rattle.std.proofs.Common.{◌≡◌, ◌≢◌, ◌⊎◌, ℕ, zero, suc, ◌<◌, Bool, true, false, cond, List, [], ◌∷◌, length, refl, ap, sym, subst, inl, inr, arith, rules}
-use Rattle.std.specs.Prelude.{ℤ, pos, ◌≤ℤ◌, ◌<ℤ◌, int_lt, int_le, slice_set, not, if◌then◌else◌}
+use Rattle.std.proofs.Common.{◌≡◌, ◌≢◌, ◌⊎◌, ℕ, zero, suc, ◌<◌, Bool, true, false, cond, List, [], ◌∷◌, length, refl, ap, sym, subst, inl, inr, ◌∙◌, ◌^◌, ◌≤◌, arith, rules}
+use Rattle.std.specs.Prelude.{ℤ, pos, ◌≤ℤ◌, ◌<ℤ◌, int_lt, int_le, slice_set, not, if◌then◌else◌, unsigned_abs}
+use Rattle.std.specs.declared.option.Option.{Option}
+use Rattle.std.specs.declared.option.Option.TheVariants.{Some, None}
 use Rattle.std.specs.Int.{int_max, int_min}
 use Rattle.std.proofs.lemmas.Int.{ints, clamps}
 use Rattle.std.proofs.lemmas.List.{get_or-set_same}
 use Rattle.cgm_atom.specs.declared.constraints.Atom.{Atom}
-use Rattle.cgm_atom.specs.Bounds.{Bounds, IsInside, IsProper, value_of, lower_of, upper_of}
+use Rattle.cgm_atom.specs.Bounds.{Bounds, IsBoxOf, IsInside, IsProper, value_of, lower_of, upper_of}
 use Rattle.cgm_atom.specs.Narrowing.{is_false_in, is_true_in, made_true}
-use Rattle.cgm_step.specs.Outcome.{IsNarrower}
+use Rattle.cgm_step.specs.declared.outcome.Narrowed.{Narrowed}
+use Rattle.cgm_step.specs.declared.outcome.Narrowed.TheVariants.{Same, Tighter, Conflict}
+use Rattle.cgm_step.specs.Outcome.{IsNarrower, IsNarrowing, IsTightening, joined}
+use Rattle.cgm_step.specs.Steps.{AreBounds}
 
 -- a value after a write is the old one, or the written one at its place
 value_of-set : (P : ℤ → Type 0) (xs : List ℤ) (i x : ℕ) (v : ℤ) → P (value_of xs x) → (x ≡ i → P v) → P (value_of (slice_set xs i v) x)
@@ -88,3 +93,36 @@ narrower_differs old new h e = narrower_at_same h.0 old (subst (λ (b : Bounds).
 pub made_when_open : (old new : Bounds) (a : Atom) (answer : Bool) → is_false_in old a ≡ false → answer ≡ not (is_false_in old a) → new ≡ (if answer then made_true old a else old) → new ≡ made_true old a
 made_when_open old new a true unmet e h = h
 made_when_open old new a false unmet e h = absurd (cc)
+
+-- a step that is no conflict, where the definition leaves its box
+pub narrowing_from : (left : Option Bounds) (old new : Bounds) (answer : Narrowed) → left ≡ Some new → IsTightening old new answer → IsNarrowing left old new answer
+narrowing_from left old new Same e h = (e ∙ ap Some h, h)
+narrowing_from left old new Tighter e h = (e, narrower_differs old new h)
+narrowing_from left old new Conflict e h = absurd h
+
+-- a second step after a first
+pub tightening_after : (old mid new : Bounds) (first second : Narrowed) → IsInside new mid → IsTightening old mid first → IsTightening mid new second → IsTightening old new (joined first second)
+tightening_after old mid new Same Same inside h k = k ∙ h
+tightening_after old mid new Same Tighter inside h k = subst (λ (b : Bounds). IsNarrower new b) h k
+tightening_after old mid new Same Conflict inside h k = k
+tightening_after old mid new Tighter second inside h k = narrower_after old mid new h inside
+tightening_after old mid new Conflict second inside h k = absurd h
+
+-- ---- bounds within the limit
+
+between : (l z u : ℤ) (n : ℕ) → l ≤ℤ z → z ≤ℤ u → unsigned_abs l ≤ n → unsigned_abs u ≤ n → unsigned_abs z ≤ n
+between l z u n h k a b = omega (arith, ints)
+
+pub AreBounds-inside : (outer inner : Bounds) → AreBounds outer → IsInside inner outer → ((x : ℕ) → lower_of inner x ≤ℤ upper_of inner x) → AreBounds inner
+AreBounds-inside outer inner sizes inside ordered x =
+    (between (lower_of outer x) (lower_of inner x) (upper_of outer x) (10 ^ 15) (inside x).0 (≤ℤ_trans (lower_of inner x) (upper_of inner x) (upper_of outer x) (ordered x) (inside x).1) (sizes x).0 (sizes x).1,
+     between (lower_of outer x) (upper_of inner x) (upper_of outer x) (10 ^ 15) (≤ℤ_trans (lower_of outer x) (lower_of inner x) (upper_of inner x) (inside x).0 (ordered x)) (inside x).1 (sizes x).0 (sizes x).1)
+
+-- a box is one within itself
+pub IsBoxOf-itself : (b : Bounds) → IsProper b → IsBoxOf b b
+IsBoxOf-itself b proper = record {
+  lower_count = refl;
+  upper_count = proper.same_count;
+  inside = λ x. (≤ℤ_refl (lower_of b x), ≤ℤ_refl (upper_of b x));
+  ordered = proper.ordered;
+}

@@ -1,5 +1,5 @@
 //! Narrowing by a clause.
-ghost use Rattle.std.specs.Prelude.{◌≡◌, ◌<◌, List, ℤ, length, max, Some, slice_get};
+ghost use Rattle.std.specs.Prelude.{◌≡◌, ◌+◌, ◌^◌, ◌<◌, List, ℤ, length, max, IfSome, slice_get};
 ghost use Rattle.std.specs.List.{All};
 ghost use Rattle.cgm_atom.specs.Bounds.{Bounds, IsBoxOf, value_of};
 ghost use Rattle.cgm_atom.specs.Cut.{at_most_atom};
@@ -96,7 +96,8 @@ fn objective_atom(values: &[i64], objective: Var, i: usize, part: usize, parts: 
 fn first_left(atoms: Atoms<'_>, b: &BoxState, from: usize) -> Option<usize>
     requires readable { IsReadable atoms }
     requires known { AreKnown (length b.now.lower) (atoms_of atoms) }
-    ensures { IsFirstLeft b.now (atoms_of atoms.entry) from result }
+    ensures first { IsFirstLeft b.now (atoms_of atoms.entry) from result }
+    ensures next_fits { IfSome result (λ i. i + 1 < 2 ^ 64) }
 {
     for i in from..count_of(atoms) {
         if !is_false(b, atom_at(atoms, i)) {

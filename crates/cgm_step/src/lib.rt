@@ -3,9 +3,11 @@
 
 mod atoms;
 mod clauses;
+mod index;
 mod naming;
 mod outcome;
 mod rows;
 
 pub use cgm_atom::BadStep;
+pub use index::LogIndex;
 pub use outcome::Narrowed;

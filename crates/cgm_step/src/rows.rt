@@ -18,16 +18,17 @@ fn product(c: i64, value: i64) -> i64
 }
 
 /// The greatest value of a coefficient times a variable.
-fn greatest_term(b: &BoxState, c: i64, x: Var) -> i64
-    requires known { x.0 < length b.now.lower }
-    requires limit { unsigned_abs c * greatest_size b.now x.0 ≤ 4 * 10 ^ 18 }
-    ensures value { result ≡ term_most b.now c x.0 }
-    ensures size { unsigned_abs result ≤ unsigned_abs c * greatest_size b.now x.0 }
+#[tactic(auto, using(crate::proofs::RowSums::low_product_size, crate::proofs::RowSums::high_product_size))]
+fn greatest_term(b: &BoxState, term: &(i64, Var)) -> i64
+    requires known { term.now.1.0 < length b.now.lower }
+    requires limit { unsigned_abs term.now.0 * greatest_size b.now term.now.1.0 ≤ 4 * 10 ^ 18 }
+    ensures value { result ≡ term_most b.now term.now.0 term.now.1.0 }
+    ensures size { unsigned_abs result ≤ unsigned_abs term.now.0 * greatest_size b.now term.now.1.0 }
 {
-    if c < 0 {
-        product(c, b.lo(x))
+    if term.0 < 0 {
+        product(term.0, b.lo(term.1))
     } else {
-        product(c, b.hi(x))
+        product(term.0, b.hi(term.1))
     }
 }
 
@@ -39,7 +40,7 @@ fn greatest_activity(b: &BoxState, terms: &[(i64, Var)]) -> i64
 {
     let mut sum = 0;
     for term in terms {
-        sum = sum_of(sum, greatest_term(b, term.0, term.1));
+        sum = sum_of(sum, greatest_term(b, term));
     }
     sum
 }
@@ -80,26 +81,27 @@ fn raised(value: i64, by: u64) -> i64
 }
 
 /// What a term's variable keeps where the row leaves the term so much room below its greatest value.
-fn kept_by_term(b: &BoxState, room: u64, c: i64, x: Var) -> Atom
-    requires known { x.0 < length b.now.lower }
-    requires coefficient { c ≢ pos 0 }
+fn kept_by_term(b: &BoxState, room: u64, term: &(i64, Var)) -> Atom
+    requires known { term.now.1.0 < length b.now.lower }
+    requires coefficient { term.now.0 ≢ pos 0 }
     requires limit { room ≤ 8 * 10 ^ 18 + 1 }
-    requires low { IsBound (lower_of b.now x.0) }
-    requires high { IsBound (upper_of b.now x.0) }
-    ensures { IsKept b.now room c x result }
+    requires low { IsBound (lower_of b.now term.now.1.0) }
+    requires high { IsBound (upper_of b.now term.now.1.0) }
+    ensures kept { IsKept b.now room term.now.0 term.now.1 result }
+    ensures proper { IsProper b.now }
 {
-    let by = room / c.unsigned_abs();
-    if c < 0 {
+    let by = room / term.0.unsigned_abs();
+    if term.0 < 0 {
         Atom {
-            var: x,
+            var: term.1,
             at_least: false,
-            k: raised(b.lo(x), by),
+            k: raised(b.lo(term.1), by),
         }
     } else {
         Atom {
-            var: x,
+            var: term.1,
             at_least: true,
-            k: lowered(b.hi(x), by),
+            k: lowered(b.hi(term.1), by),
         }
     }
 }
@@ -115,7 +117,7 @@ fn tighten_by_terms(b: &mut BoxState, room: u64, terms: &[(i64, Var)]) -> Narrow
 {
     let mut outcome = Narrowed::Same;
     for term in terms {
-        let kept = kept_by_term(b, room, term.0, term.1);
+        let kept = kept_by_term(b, room, term);
         outcome = outcome.then(make_true(b, kept));
     }
     outcome

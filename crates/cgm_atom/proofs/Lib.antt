@@ -1,3 +1,5 @@
 pub mod Assuming
 pub mod Fresh
 pub mod Growing
+pub mod Solutions
+pub mod Sums

@@ -1,6 +1,5 @@
 //! Boxes.
-ghost use Rattle.std.specs.Prelude.{◌≡◌, ℕ, ◌<◌, ◌≤ℤ◌, length, not, if◌then◌else◌, IfOk};
-ghost use Rattle.std.specs.Int.{int_max, int_min};
+ghost use Rattle.std.specs.Prelude.{◌≡◌, ℕ, ◌<◌, ◌≤ℤ◌, cond, length, not, if◌then◌else◌, int_lt, IfOk};
 ghost use Rattle.cgm_atom.specs.Bounds.{Bounds, IsBoxOf, IsProper, lower_of, upper_of};
 ghost use Rattle.cgm_atom.specs.Narrowing.{is_false_in, made_true};
 
@@ -77,29 +76,20 @@ impl BoxState {
     {
         let lo = self.lo(a.var);
         let hi = self.hi(a.var);
+        if is_false_between(a, lo, hi) {
+            return false;
+        }
         if a.at_least {
-            if hi < a.k {
-                return false;
-            }
-            self.lower[a.var.0 as usize] = greater(lo, a.k);
+            self.lower[a.var.0 as usize] = lo.max(a.k);
         } else {
-            if a.k < lo {
-                return false;
-            }
-            self.upper[a.var.0 as usize] = lesser(hi, a.k);
+            self.upper[a.var.0 as usize] = hi.min(a.k);
         }
         true
     }
 }
 
-fn greater(x: i64, y: i64) -> i64
-    ensures { result ≡ int_max x y }
+fn is_false_between(a: Atom, lo: i64, hi: i64) -> bool
+    ensures { result ≡ cond a.at_least (int_lt hi a.k) (int_lt a.k lo) }
 {
-    x.max(y)
-}
-
-fn lesser(x: i64, y: i64) -> i64
-    ensures { result ≡ int_min x y }
-{
-    x.min(y)
+    if a.at_least { hi < a.k } else { a.k < lo }
 }

@@ -4,6 +4,8 @@ use Rattle.std.specs.List.{All, filter}
 use Rattle.std.specs.Option.{option_map_or}
 use Rattle.cgm_atom.specs.declared.constraints.Atom.{Atom}
 use Rattle.cgm_atom.specs.declared.constraints.Var.{Var}
+use Rattle.cgm_atom.specs.declared.entries.Entry.{Entry}
+use Rattle.cgm_atom.specs.declared.entries.Entry.TheVariants.{Best, Lemma}
 use Rattle.cgm_atom.specs.Bounds.{Bounds}
 use Rattle.cgm_atom.specs.Cut.{cut}
 use Rattle.cgm_atom.specs.Instance.{Instance, values_at, var_count}
@@ -37,6 +39,11 @@ IsReadable (OfCut objectives values part) =
 abbrev pub AreKnown : ℕ → List Atom → Type 0
 AreKnown count atoms = All (λ a. a.var.0 < count) atoms
 
+-- the values of an entry that is a best
+abbrev pub entry_values : Entry → Option (List ℤ)
+entry_values (Best by values) = Some values
+entry_values (Lemma by clause hints bound) = None
+
 abbrev pub constraint_of : Named → Constraint
 constraint_of (item.Clause atoms) = of_clause (record { atoms = atoms_of atoms })
 constraint_of (item.Row r) = of_row r.now
@@ -45,6 +52,16 @@ constraint_of (item.Row r) = of_row r.now
 abbrev pub IsNamedIn : Instance → Named → Type 0
 IsNamedIn p (item.Clause atoms) = IsReadable atoms × AreKnown (var_count p) (atoms_of atoms)
 IsNamedIn p (item.Row r) = IsRowOf p.bounds r.now
+
+-- the clause or row, if it is there
+abbrev pub IsFound : Instance → Option Constraint → Option Named → Type 0
+IsFound p there None = there ≡ None
+IsFound p there (Some n) = (there ≡ Some (constraint_of n)) × IsNamedIn p n
+
+-- as many values as variables, each within the limit
+pub record AreValuesOf (p : Instance) (values : List ℤ) : Type 0 where
+  pub count : length values ≡ var_count p
+  pub sizes : All IsBound values
 
 -- the atoms that aren't false
 abbrev pub left_in : Bounds → List Atom → List Atom

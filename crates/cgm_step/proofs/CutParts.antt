@@ -1,11 +1,11 @@
 -- The atoms of the parts of a cut.
-use Rattle.std.proofs.Common.{◌≡◌, ℕ, zero, suc, ◌+◌, ◌<◌, ◌≤◌, max, Bool, true, false, cond, ◌||◌, ◌==◌, nat_lt, List, [], ◌∷◌, length, get_or, map, refl, ap, sym, ◌∙◌, arith, rules}
+use Rattle.std.proofs.Common.{◌≡◌, ℕ, zero, suc, ◌+◌, ◌<◌, ◌≤◌, max, Bool, true, false, cond, ◌||◌, ◌==◌, nat_lt, List, [], ◌∷◌, length, get_or, map, refl, ap, sym, ◌∙◌, subst, arith, rules}
 use Rattle.std.specs.Prelude.{ℤ, pos, ◌-ℤ◌, slice_get}
 use Rattle.std.specs.declared.option.Option.{Option}
 use Rattle.std.specs.declared.option.Option.TheVariants.{Some, None}
 use Rattle.std.specs.List.{All}
-use Rattle.std.specs.Option.{option_map_or}
-use Rattle.std.proofs.lemmas.Option.{same_Some}
+use Rattle.std.specs.Option.{option_map, option_map_or}
+use Rattle.std.proofs.lemmas.Option.{same_Some, slice_get_past}
 use Rattle.std.proofs.lemmas.Bool.{lt-ltb, ne_eqb}
 use Rattle.std.proofs.lemmas.Bool.Decides.{nat_tests}
 use Rattle.std.proofs.lemmas.List.{length-map}
@@ -15,8 +15,10 @@ use Rattle.cgm_atom.specs.declared.constraints.Clause.{Clause}
 use Rattle.cgm_atom.specs.declared.constraints.Var.{Var}
 use Rattle.cgm_atom.specs.Bounds.{value_of}
 use Rattle.cgm_atom.specs.Cut.{cut, at_most_atom, with_lesser}
-use Rattle.cgm_atom.specs.Instance.{values_at}
-use Rattle.cgm_step.specs.Naming.{AreKnown, cut_limit, part_atoms}
+use Rattle.cgm_atom.specs.Instance.{Instance, values_at, var_count, vector}
+use Rattle.cgm_atom.specs.Limits.{IsBound, IsWellFormed}
+use Rattle.cgm_atom.specs.LogState.{Constraint, of_clause}
+use Rattle.cgm_step.specs.Naming.{AreKnown, AreValuesOf, cut_limit, part_atoms}
 
 length-cut : (values : List ℤ) (x : Var) (os : List Var) → length (cut (x ∷ os) (values_at values (x ∷ os))) ≡ suc (length os)
 unfolding cut
@@ -122,3 +124,34 @@ unfolding cut
 AreKnown-part_atoms count values [] zero h known = All-nil (λ a. a.var.0 < count)
 AreKnown-part_atoms count values [] (suc part) h known = absurd (omega arith)
 AreKnown-part_atoms count values (x ∷ os) part h known = known_part count values x os part (omega arith) known
+
+-- ---- parts as constraints
+
+length-parts : (values : List ℤ) (os : List Var) → length (cut os (values_at values os)) ≡ max 1 (length os)
+unfolding cut
+length-parts values [] = refl
+length-parts values (x ∷ os) = let e = length-cut values x os in omega arith
+
+atoms_there : (cs : List Clause) (part : ℕ) → part < length cs → option_map of_clause (slice_get cs part) ≡ Some (of_clause (record { atoms = atoms_at cs part }))
+atoms_there [] part h = absurd (omega arith)
+atoms_there (c ∷ cs) zero h = refl
+atoms_there (c ∷ cs) (suc part) h = atoms_there cs part (omega arith)
+
+-- past the last part there is none
+pub part_past : (values : List ℤ) (os objectives : List Var) (part : ℕ) → os ≡ objectives → max 1 (length os) ≤ part → option_map of_clause (slice_get (cut objectives (values_at values objectives)) part) ≡ None
+part_past values os objectives part e h =
+    let past : length (cut os (values_at values os)) ≤ part = omega (arith, length-parts values os) in
+    subst (λ (xs : List Var). option_map of_clause (slice_get (cut xs (values_at values xs)) part) ≡ None) e
+    (ap (option_map of_clause) (slice_get_past (cut os (values_at values os)) part past))
+
+-- a part that is there, as it is looked up
+pub part_there : (p : Instance) (values : List ℤ) (os : List Var) (part : ℕ) → os ≡ p.objectives → IsWellFormed p → AreValuesOf p values → part < max 1 (length os)
+  → (option_map of_clause (slice_get (cut p.objectives (vector p values)) part) ≡ Some (of_clause (record { atoms = part_atoms os (values_at values os) part })))
+  × ((All (λ v. v.0 < length values) os × All IsBound values × (part < max 1 (length os))) × AreKnown (var_count p) (part_atoms os (values_at values os) part))
+part_there p values os part e wf fit h =
+    let within : part < length (cut os (values_at values os)) = omega (arith, length-parts values os) in
+    let known : All (λ (v : Var). v.0 < var_count p) os = subst (λ (xs : List Var). All (λ (v : Var). v.0 < var_count p) xs) (sym e) wf.objectives in
+    (subst (λ (xs : List Var). option_map of_clause (slice_get (cut xs (values_at values xs)) part) ≡ Some (of_clause (record { atoms = part_atoms os (values_at values os) part }))) e
+     (atoms_there (cut os (values_at values os)) part within),
+     ((subst (λ (n : ℕ). All (λ (v : Var). v.0 < n) os) (sym fit.count) known, fit.sizes, h),
+      AreKnown-part_atoms (var_count p) values os part h known))

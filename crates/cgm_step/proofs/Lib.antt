@@ -4,3 +4,5 @@ pub mod RowSums
 pub mod Leaving
 pub mod RowTightening
 pub mod States
+pub mod Accepted
+pub mod Names

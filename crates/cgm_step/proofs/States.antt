@@ -103,6 +103,12 @@ live_at-map xs i = ap option_flatten (slice_get-map Some xs i) ∙ flatten-Some 
 pub live_entry : (log : List Entry) (i : ℕ) → live_at (state_of log).entries (suc i) ≡ slice_get log i
 live_entry log i = ap (λ (xs : List (Option Entry)). live_at xs (suc i)) (entries_of log) ∙ live_at-map log i
 
+-- the same, where the place is given by an equation
+pub live_entry_at : (log : List Entry) (place i : ℕ) → i + 1 ≡ place → slice_get log i ≡ live_at (state_of log).entries place
+live_entry_at log place i e =
+    let next : suc i ≡ place = omega arith in
+    sym (live_entry log i) ∙ ap (live_at (state_of log).entries) next
+
 live_best : (log : List Entry) (i : ℕ) → live_at (state_of log).bests (suc i) ≡ slice_get (best_values log) i
 live_best log i = ap (λ (xs : List (Option (List ℤ))). live_at xs (suc i)) (bests_of log) ∙ live_at-map (best_values log) i
 
@@ -163,3 +169,24 @@ last_by_index log index own =
 pub closed_by_index : (log : List Entry) (index : Index) → IsIndexOf index log → (state_of log).closed ≡ index.closed
 unfolding index_of
 closed_by_index log index own = sym (ap (λ (x : Index). x.closed) own)
+
+-- the index leads to the best with an ordinal, or to none
+pub best_found : (log : List Entry) (index : Index) (ordinal i place : ℕ) → IsIndexOf index log → i + 1 ≡ ordinal → slice_get index.bests i ≡ Some place → values_at_place log place ≡ live_at (state_of log).bests ordinal
+best_found log index ordinal i place own e h =
+    let next : suc i ≡ ordinal = omega arith in
+    sym (ap (option_and_then (values_at_place log)) h) ∙ best_by_index log index i own ∙ ap (live_at (state_of log).bests) next
+
+pub best_missing : (log : List Entry) (index : Index) (ordinal i : ℕ) → IsIndexOf index log → i + 1 ≡ ordinal → slice_get index.bests i ≡ None → None ≡ live_at (state_of log).bests ordinal
+best_missing log index ordinal i own e h =
+    let next : suc i ≡ ordinal = omega arith in
+    sym (ap (option_and_then (values_at_place log)) h) ∙ best_by_index log index i own ∙ ap (live_at (state_of log).bests) next
+
+-- where the values of a best stand in the log
+values_stand : (log : List Entry) (o : Option ℕ) (values : List ℤ) → option_and_then (values_at_place log) o ≡ Some values → (place : ℕ) × (values_at_place log place ≡ Some values)
+values_stand log None values h = absurd (cc)
+values_stand log (Some place) values h = (place, h)
+
+pub live_values : (log : List Entry) (ordinal : ℕ) (values : List ℤ) → live_at (state_of log).bests ordinal ≡ Some values → (place : ℕ) × (values_at_place log place ≡ Some values)
+live_values log zero values h = absurd (cc)
+live_values log (suc i) values h =
+    values_stand log (slice_get (best_places log) i) values (by_places log i ∙ sym (live_best log i) ∙ h)

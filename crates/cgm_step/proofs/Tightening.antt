@@ -110,7 +110,7 @@ tightening_after old mid new Conflict second inside h k = absurd h
 
 -- ---- bounds within the limit
 
-between : (l z u : ℤ) (n : ℕ) → l ≤ℤ z → z ≤ℤ u → unsigned_abs l ≤ n → unsigned_abs u ≤ n → unsigned_abs z ≤ n
+pub between : (l z u : ℤ) (n : ℕ) → l ≤ℤ z → z ≤ℤ u → unsigned_abs l ≤ n → unsigned_abs u ≤ n → unsigned_abs z ≤ n
 between l z u n h k a b = omega (arith, ints)
 
 pub AreBounds-inside : (outer inner : Bounds) → AreBounds outer → IsInside inner outer → ((x : ℕ) → lower_of inner x ≤ℤ upper_of inner x) → AreBounds inner

@@ -5,9 +5,11 @@ mod atoms;
 mod clauses;
 mod index;
 mod naming;
+mod narrowing;
 mod outcome;
 mod rows;
 
 pub use cgm_atom::BadStep;
 pub use index::LogIndex;
+pub use narrowing::narrow;
 pub use outcome::Narrowed;

@@ -4,7 +4,7 @@ ghost use Rattle.std.specs.Option.{option_and_then, option_copied, option_map};
 ghost use Rattle.cgm_atom.specs.Acceptance.{IsAccepted};
 ghost use Rattle.cgm_atom.specs.Cut.{cut};
 ghost use Rattle.cgm_atom.specs.Instance.{vector};
-ghost use Rattle.cgm_atom.specs.LogState.{carried, last_best as state_last_best, lemma_clause, live_at, named, of_clause, of_row, state_of};
+ghost use Rattle.cgm_atom.specs.LogState.{carried, last_best as state_last_best, lemma_bound, lemma_clause, live_at, named, of_clause, of_row, state_of};
 ghost use Rattle.cgm_step.specs.Indexing.{IsIndexOf};
 ghost use Rattle.cgm_step.specs.Naming.{AreValuesOf, IsFound, entry_values};
 
@@ -30,6 +30,7 @@ pub(crate) fn find<'a>(
     requires own { IsIndexOf index.now log.now }
     ensures { IsFound p.now (named p.now (state_of log.now) h.now) result }
 {
+    let _valid = p.objectives();
     match *h {
         Hint::Clause(n) => find_clause(p, n),
         Hint::Row(n) => find_row(p, n),
@@ -136,10 +137,21 @@ pub(crate) fn carried_by(log: &[Entry], h: &Hint) -> u64
 {
     match *h {
         Hint::Entry(place) => match entry_at(log, place) {
-            Some(Entry::Lemma { bound, .. }) => *bound,
-            _ => 0,
+            Some(entry) => bound_of(entry),
+            None => 0,
         },
         Hint::Cut { best, .. } => best,
-        Hint::Clause(_) | Hint::Row(_) | Hint::Own(_) => 0,
+        Hint::Clause(_) => 0,
+        Hint::Row(_) => 0,
+        Hint::Own(_) => 0,
+    }
+}
+
+fn bound_of(entry: &Entry) -> u64
+    ensures { result ≡ lemma_bound entry.now }
+{
+    match entry {
+        Entry::Best { .. } => 0,
+        Entry::Lemma { bound, .. } => *bound,
     }
 }

@@ -6,3 +6,4 @@ pub mod RowTightening
 pub mod States
 pub mod Accepted
 pub mod Names
+pub mod RowLimits

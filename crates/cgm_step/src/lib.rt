@@ -1,6 +1,7 @@
 //! Narrowing of a box by a clause or a row, and the test of the next entry of a log.
 #![tactic(auto)]
 
+mod accepting;
 mod atoms;
 mod clauses;
 mod index;
@@ -9,6 +10,7 @@ mod narrowing;
 mod outcome;
 mod rows;
 
+pub use accepting::accepts_next;
 pub use cgm_atom::BadStep;
 pub use index::LogIndex;
 pub use narrowing::narrow;

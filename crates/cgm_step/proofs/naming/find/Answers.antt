@@ -7,7 +7,7 @@ use Rattle.cgm_step.proofs.naming.find.Goals as goal
 
 pub find_part-requires : goal.find_part-requires
 find_part-requires c =
-    best_values_fit c.args.p.now c.args.log.now c.in-Cut.best c.in-Some-best_at.values.now c.objectives-_valid.ensures.valid c.requires.accepted (sym c.in-Some-best_at.ensures)
+    best_values_fit c.args.p.now c.args.log.now c.in-Cut.best c.in-Some-best_at.values.now c.objectives-valid.ensures.valid c.requires.accepted (sym c.in-Some-best_at.ensures)
 
 pub returns-in-Clause : goal.returns-in-Clause
 returns-in-Clause c =

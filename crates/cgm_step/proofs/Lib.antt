@@ -7,3 +7,4 @@ pub mod States
 pub mod Accepted
 pub mod Names
 pub mod RowLimits
+pub mod Testing

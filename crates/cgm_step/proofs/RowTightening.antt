@@ -45,7 +45,7 @@ counted : (b : Bounds) (i : ℕ) (up : Bool) (k : ℤ) → length (cond up (reco
 counted b i true k = length-set b.lower i (int_max (lower_of b i) k)
 counted b i false k = refl
 
-length-made_true : (b : Bounds) (a : Atom) → length (made_true b a).lower ≡ length b.lower
+pub length-made_true : (b : Bounds) (a : Atom) → length (made_true b a).lower ≡ length b.lower
 length-made_true b a = counted b a.var.0 a.at_least a.k
 
 -- a term tightens alike from boxes that agree at its variable

@@ -11,6 +11,7 @@ use Rattle.std.proofs.lemmas.Option.{same_Some}
 use Rattle.std.proofs.lemmas.List.Elements.{All-nil, All-cons, All-weaker}
 use Rattle.cgm_atom.specs.declared.constraints.Atom.{Atom}
 use Rattle.cgm_atom.specs.declared.constraints.Clause.{Clause}
+use Rattle.cgm_atom.specs.declared.constraints.Var.{Var}
 use Rattle.cgm_atom.specs.declared.entries.Entry.{Entry}
 use Rattle.cgm_atom.specs.declared.entries.Entry.TheVariants.{Best, Lemma}
 use Rattle.cgm_atom.specs.declared.entries.Hint.{Hint}
@@ -21,10 +22,11 @@ use Rattle.cgm_atom.specs.Acceptance.{IsAccepted, IsAcceptedAfter, fault_of, fau
 use Rattle.cgm_atom.specs.Bounds.{Bounds, lower_of, upper_of}
 use Rattle.cgm_atom.specs.Instance.{Instance, fault_unless, first_some, first_violation, outside_from, var_count, violations}
 use Rattle.cgm_atom.specs.Limits.{IsBound, IsWellFormed}
-use Rattle.cgm_atom.specs.LogState.{LogState, empty_state, lemma_clause, live_at, state_of, state_with}
+use Rattle.cgm_atom.specs.LogState.{LogState, empty_state, last_best, lemma_clause, live_at, state_of, state_with}
+use Rattle.cgm_step.specs.Indexing.{Index, IsIndexOf}
 use Rattle.cgm_step.specs.Naming.{AreKnown, AreValuesOf, entry_values}
 use Rattle.cgm_step.specs.Steps.{AreBounds}
-use Rattle.cgm_step.proofs.States.{live_entry, live_values}
+use Rattle.cgm_step.proofs.States.{last_by_index, live_entry, live_values}
 use Rattle.cgm_step.proofs.Tightening.{between}
 
 accepted_after : (p : Instance) (s : LogState) (log : List Entry) (i : ℕ) (e : Entry) → IsAcceptedAfter p s log → slice_get log i ≡ Some e → (state : LogState) × (first_fault p state e ≡ None)
@@ -136,3 +138,14 @@ pub best_values_fit : (p : Instance) (log : List Entry) (ordinal : ℕ) (values 
 best_values_fit p log ordinal values wf h e =
     let there = live_values log ordinal values e in
     values_fit p log there.0 (slice_get log there.0) values wf h refl there.1
+
+-- so are those of the last best
+pub last_best_fits : (p : Instance) (log : List Entry) (index : Index) (values : List ℤ) → IsWellFormed p → IsAccepted p log → IsIndexOf index log → Some values ≡ last_best (state_of log) → AreValuesOf p values
+last_best_fits p log index values wf h own e =
+    best_values_fit p log (length index.bests) values wf h (sym (last_by_index log index own) ∙ sym e)
+
+-- the objectives have such values
+pub objectives_known : (p : Instance) (os : List Var) (values : List ℤ) → os ≡ p.objectives → IsWellFormed p → AreValuesOf p values → All (λ v. v.0 < length values) os
+objectives_known p os values e wf fit =
+    let known : All (λ (v : Var). v.0 < var_count p) os = subst (λ (xs : List Var). All (λ (v : Var). v.0 < var_count p) xs) (sym e) wf.objectives in
+    subst (λ (n : ℕ). All (λ (v : Var). v.0 < n) os) (sym fit.count) known

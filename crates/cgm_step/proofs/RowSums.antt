@@ -33,6 +33,6 @@ sum_steps b terms rest t sum next e size far =
     let bounded = far.size in
     record { total = omega (arith, ints, e, total); size = omega (arith, bounded, size); known = far.known.3 }
 
--- the rest of the terms at a place that is within
-pub rest_at : (P : List (ℤ × Var) → Type 0) (terms : List (ℤ × Var)) (i : ℕ) (d : ℤ × Var) → i < length terms → P (drop i terms) → P (get_or terms i d ∷ drop (i + 1) terms)
-rest_at P terms i d h p = subst P (drop_more terms i d h) p
+-- the rest of a list at a place that is within
+pub rest_at : {X : Type 0} (P : List X → Type 0) (xs : List X) (i : ℕ) (d : X) → i < length xs → P (drop i xs) → P (get_or xs i d ∷ drop (i + 1) xs)
+rest_at P xs i d h p = subst P (drop_more xs i d h) p

@@ -4,15 +4,16 @@ use Rattle.std.specs.Prelude.{ℤ, pos, ◌+ℤ◌, ◌-ℤ◌, ◌<ℤ◌, ◌�
 use Rattle.std.specs.declared.option.Option.{Option}
 use Rattle.std.specs.declared.option.Option.TheVariants.{Some, None}
 use Rattle.std.specs.List.{position_from}
-use Rattle.std.specs.Option.{is_none}
+use Rattle.std.specs.Option.{IsNone, is_none, option_and_then}
 use Rattle.std.proofs.lemmas.Int.{ints}
 use Rattle.std.proofs.lemmas.List.{drop_more, drop_all}
 use Rattle.cgm_atom.specs.declared.constraints.Atom.{Atom}
 use Rattle.cgm_atom.specs.declared.constraints.Clause.{Clause}
 use Rattle.cgm_atom.specs.declared.constraints.Var.{Var}
 use Rattle.cgm_atom.specs.declared.entries.Entry.{Entry}
+use Rattle.cgm_atom.specs.declared.entries.Entry.TheVariants.{Best}
 use Rattle.cgm_atom.specs.declared.entries.Hint.{Hint}
-use Rattle.cgm_atom.specs.Acceptance.{is_refuted}
+use Rattle.cgm_atom.specs.Acceptance.{first_fault, is_refuted}
 use Rattle.cgm_atom.specs.Atoms.{negation}
 use Rattle.cgm_atom.specs.Bounds.{Bounds, IsBoxOf, lower_of, upper_of, value_of}
 use Rattle.cgm_atom.specs.Instance.{Instance, values_at, var_count}
@@ -41,6 +42,15 @@ first_here f xs i d h far e =
 pub first_later : {X : Type 0} (f : X → Bool) (xs : List X) (i : ℕ) (d : X) → i < length xs → position_from f i (drop i xs) ≡ position_from f 0 xs → f (get_or xs i d) ≡ false → position_from f (i + 1) (drop (i + 1) xs) ≡ position_from f 0 xs
 first_later f xs i d h far e =
     sym (ap (λ (t : Bool). cond t (Some i) (position_from f (i + 1) (drop (i + 1) xs))) e) ∙ sym (position_at f xs i d h) ∙ far
+
+-- past the end there is none
+pub first_nowhere : {X : Type 0} (f : X → Bool) (xs : List X) (i : ℕ) → length xs ≤ i → position_from f i (drop i xs) ≡ position_from f 0 xs → position_from f 0 xs ≡ None
+first_nowhere f xs i h far = sym far ∙ ap (position_from f i) (drop_all i xs h)
+
+-- who made an entry makes no difference
+pub first_fault-Best : (p : Instance) (s : LogState) (by : ℕ) (values same : List ℤ) → same ≡ values → first_fault p s (Best by values) ≡ first_fault p s (Best 0 same)
+unfolding first_fault
+first_fault-Best p s by values same e = sym (ap (λ (xs : List ℤ). first_fault p s (Best 0 xs)) e)
 
 -- ---- negations
 
@@ -80,3 +90,27 @@ pub assuming_stops : (old : Bounds) (atoms rest : List Atom) (a : Atom) (now : B
 assuming_stops old atoms rest a now far e =
     sym far.left
     ∙ ap (λ (t : Bool). cond t None (all_assumed (made_true now (negation a)) (map negation rest))) (is_false_in-negation now a ∙ e)
+
+-- ---- refutations
+
+pub all_assumed-same : (b b' : Bounds) (xs xs' : List Atom) (o : Option Bounds) → b ≡ b' → xs ≡ xs' → all_assumed b (map negation xs) ≡ o → all_assumed b' (map negation xs') ≡ o
+all_assumed-same b b' xs xs' o e h k =
+    sym (ap (λ (x : Bounds). all_assumed x (map negation xs)) e ∙ ap (λ (ys : List Atom). all_assumed b' (map negation ys)) h) ∙ k
+
+pub refuted_at_once : (p : Instance) (s : LogState) (c : Clause) (hints : List Hint) → all_assumed p.bounds (map negation c.atoms) ≡ None → is_refuted p s c hints ≡ true
+unfolding is_refuted
+refuted_at_once p s c hints e = ap (λ (o : Option Bounds). is_none (option_and_then (λ b. all_narrowed p s b hints) o)) e
+
+refuted_by : (p : Instance) (s : LogState) (c : Clause) (hints : List Hint) (b : Bounds) → all_assumed p.bounds (map negation c.atoms) ≡ Some b → is_refuted p s c hints ≡ is_none (all_narrowed p s b hints)
+unfolding is_refuted
+refuted_by p s c hints b e = ap (λ (o : Option Bounds). is_none (option_and_then (λ x. all_narrowed p s x hints) o)) e
+
+pub refuted : (p : Instance) (s : LogState) (c : Clause) (hints : List Hint) (b : Bounds) → all_assumed p.bounds (map negation c.atoms) ≡ Some b → IsNone (all_narrowed p s b hints) → is_refuted p s c hints ≡ true
+refuted p s c hints b e h = refuted_by p s c hints b e ∙ ap not h
+
+some_of : {X : Type 0} (o : Option X) → ¬ IsNone o → is_none o ≡ false
+some_of None h = absurd (h refl)
+some_of (Some x) h = refl
+
+pub not_refuted : (p : Instance) (s : LogState) (c : Clause) (hints : List Hint) (b : Bounds) → all_assumed p.bounds (map negation c.atoms) ≡ Some b → ¬ IsNone (all_narrowed p s b hints) → is_refuted p s c hints ≡ false
+not_refuted p s c hints b e h = refuted_by p s c hints b e ∙ some_of (all_narrowed p s b hints) h

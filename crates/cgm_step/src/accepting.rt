@@ -1,5 +1,5 @@
 //! The test of the next entry of a log.
-ghost use Rattle.std.specs.Prelude.{◌≡◌, ◌+◌, ◌<◌, ◌==◌, length, map, nat_lt, not, Some, None, MatchBool};
+ghost use Rattle.std.specs.Prelude.{◌≡◌, ◌+◌, ◌<◌, ◌==◌, length, map, nat_lt, not, Some, None, MatchBool, OnOk};
 ghost use Rattle.std.specs.List.{All, position_from};
 ghost use Rattle.std.specs.Option.{is_none, option_map};
 ghost use Rattle.cgm_atom.specs.declared.entries.BadStep.TheVariants as fault;
@@ -27,6 +27,7 @@ use cgm_atom::{Atom, BadStep, BoxState, Clause, Entry, Hint, Problem, Var, Viola
 /// that of the last best. For a lemma: none without atoms stands before it, its variables exist, its hints name
 /// something, its bound is the greatest that they carry, and they refute it.
 /// `work` is afterwards some box of the problem, also after a refusal. Takes no memory.
+#[tactic(auto, unfolding(cgm_atom::specs::Acceptance::first_fault))]
 pub fn accepts_next(
     p: &Problem,
     log: &[Entry],
@@ -51,6 +52,7 @@ pub fn accepts_next(
     }
 }
 
+#[tactic(auto, using(crate::proofs::States::closed_by_index), unfolding(cgm_atom::specs::Acceptance::first_fault))]
 fn accepts_best(
     p: &Problem,
     log: &[Entry],
@@ -66,6 +68,7 @@ fn accepts_best(
     test_less(p, log, index, values)
 }
 
+#[tactic(auto, using(crate::proofs::States::closed_by_index), unfolding(cgm_atom::specs::Acceptance::first_fault))]
 fn accepts_lemma(
     p: &Problem,
     log: &[Entry],
@@ -100,8 +103,10 @@ fn test_open(index: &LogIndex) -> Result<(), BadStep>
 
 /// The values are a solution.
 fn test_values(p: &Problem, values: &[i64]) -> Result<(), BadStep>
-    ensures { IsVerdict (option_map (fault_of (length values.now)) (first_violation p.now values.now)) result }
+    ensures exact { IsVerdict (option_map (fault_of (length values.now)) (first_violation p.now values.now)) result }
+    ensures fit { OnOk result (AreValuesOf p.now values.now) }
 {
+    let _valid = p.objectives();
     match first_violated(p, values) {
         Some(violated) => Err(fault_for(values.len() as u64, violated)),
         None => Ok(()),
@@ -159,9 +164,10 @@ fn is_less(objectives: &[Var], values: &[i64], others: &[i64]) -> bool
 
 /// The variables of the atoms exist.
 fn test_atoms(p: &Problem, atoms: &[Atom]) -> Result<(), BadStep>
-    ensures { IsVerdict
+    ensures exact { IsVerdict
         (option_map (λ i. fault.Atom (i + 1)) (position_from (λ a. not (nat_lt a.var.0 (var_count p.now))) 0 atoms.now))
         result }
+    ensures known { OnOk result (AreKnown (var_count p.now) atoms.now) }
 {
     for (i, a) in atoms.iter().enumerate() {
         if a.var.0 >= p.vars() {

@@ -1,6 +1,6 @@
 -- What the entries of an accepted log keep.
-use Rattle.std.proofs.Common.{◌≡◌, ℕ, zero, suc, ◌+◌, ◌<◌, ◌≤◌, ◌^◌, Bool, true, false, cond, not, ◌&&◌, ◌==◌, nat_lt, List, [], ◌∷◌, length, refl, ap, sym, ◌∙◌, subst, arith, rules}
-use Rattle.std.specs.Prelude.{ℤ, ◌≤ℤ◌, int_le, slice_get, if◌then◌else◌, unsigned_abs}
+use Rattle.std.proofs.Common.{◌≡◌, ℕ, zero, suc, ◌+◌, ◌<◌, ◌^◌, Bool, true, false, cond, not, ◌&&◌, ◌==◌, nat_lt, List, [], ◌∷◌, length, refl, ap, sym, ◌∙◌, subst, arith}
+use Rattle.std.specs.Prelude.{ℤ, ◌≤ℤ◌, int_le, slice_get, if◌then◌else◌}
 use Rattle.std.specs.declared.option.Option.{Option}
 use Rattle.std.specs.declared.option.Option.TheVariants.{Some, None}
 use Rattle.std.specs.List.{All, position_from}
@@ -16,9 +16,8 @@ use Rattle.cgm_atom.specs.declared.entries.Entry.{Entry}
 use Rattle.cgm_atom.specs.declared.entries.Entry.TheVariants.{Best, Lemma}
 use Rattle.cgm_atom.specs.declared.entries.Hint.{Hint}
 use Rattle.cgm_atom.specs.declared.checks.Violated.TheVariants as violated
-use Rattle.cgm_atom.specs.declared.entries.BadStep.{BadStep}
 use Rattle.cgm_atom.specs.declared.entries.BadStep.TheVariants as fault
-use Rattle.cgm_atom.specs.Acceptance.{IsAccepted, IsAcceptedAfter, fault_of, faults, first_fault, is_refuted}
+use Rattle.cgm_atom.specs.Acceptance.{IsAccepted, IsAcceptedAfter, fault_of, faults, first_fault}
 use Rattle.cgm_atom.specs.Bounds.{Bounds, lower_of, upper_of}
 use Rattle.cgm_atom.specs.Instance.{Instance, fault_unless, first_some, first_violation, outside_from, var_count, violations}
 use Rattle.cgm_atom.specs.Limits.{IsBound, IsWellFormed}

@@ -1,7 +1,6 @@
 -- The atoms of the parts of a cut.
-use Rattle.std.proofs.Common.{◌≡◌, ℕ, zero, suc, ◌+◌, ◌<◌, ◌≤◌, max, Bool, true, false, cond, ◌||◌, ◌==◌, nat_lt, List, [], ◌∷◌, length, get_or, map, refl, ap, sym, ◌∙◌, subst, arith, rules}
+use Rattle.std.proofs.Common.{◌≡◌, ℕ, zero, suc, ◌+◌, ◌<◌, ◌≤◌, max, Bool, true, false, cond, ◌||◌, ◌==◌, nat_lt, List, [], ◌∷◌, length, map, refl, ap, sym, ◌∙◌, subst, arith}
 use Rattle.std.specs.Prelude.{ℤ, pos, ◌-ℤ◌, slice_get}
-use Rattle.std.specs.declared.option.Option.{Option}
 use Rattle.std.specs.declared.option.Option.TheVariants.{Some, None}
 use Rattle.std.specs.List.{All}
 use Rattle.std.specs.Option.{option_map, option_map_or}
@@ -17,7 +16,7 @@ use Rattle.cgm_atom.specs.Bounds.{value_of}
 use Rattle.cgm_atom.specs.Cut.{cut, at_most_atom, with_lesser}
 use Rattle.cgm_atom.specs.Instance.{Instance, values_at, var_count, vector}
 use Rattle.cgm_atom.specs.Limits.{IsBound, IsWellFormed}
-use Rattle.cgm_atom.specs.LogState.{Constraint, of_clause}
+use Rattle.cgm_atom.specs.LogState.{of_clause}
 use Rattle.cgm_step.specs.Naming.{AreKnown, AreValuesOf, cut_limit, part_atoms}
 
 length-cut : (values : List ℤ) (x : Var) (os : List Var) → length (cut (x ∷ os) (values_at values (x ∷ os))) ≡ suc (length os)
@@ -116,7 +115,7 @@ known_part count values x (y ∷ os) zero h known =
 known_part count values x (y ∷ os) (suc part) h known =
     rw (part_atoms-suc values x y os part (omega arith))
     (All-cons (λ a. a.var.0 < count) (at_most_atom x (value_of values x.0 -ℤ pos 1)) (part_atoms (y ∷ os) (values_at values (y ∷ os)) part)
-     (All-head (λ v. v.0 < count) x (y ∷ os) known) (known_part count values y os part (omega arith) (All-tail (λ v. v.0 < count) x (y ∷ os) known)))
+    (All-head (λ v. v.0 < count) x (y ∷ os) known) (known_part count values y os part (omega arith) (All-tail (λ v. v.0 < count) x (y ∷ os) known)))
 
 -- the variables of a part are objectives
 pub AreKnown-part_atoms : (count : ℕ) (values : List ℤ) (os : List Var) (part : ℕ) → part < max 1 (length os) → All (λ v. v.0 < count) os → AreKnown count (part_atoms os (values_at values os) part)
@@ -146,12 +145,15 @@ part_past values os objectives part e h =
 
 -- a part that is there, as it is looked up
 pub part_there : (p : Instance) (values : List ℤ) (os : List Var) (part : ℕ) → os ≡ p.objectives → IsWellFormed p → AreValuesOf p values → part < max 1 (length os)
-  → (option_map of_clause (slice_get (cut p.objectives (vector p values)) part) ≡ Some (of_clause (record { atoms = part_atoms os (values_at values os) part })))
-  × ((All (λ v. v.0 < length values) os × All IsBound values × (part < max 1 (length os))) × AreKnown (var_count p) (part_atoms os (values_at values os) part))
+    → (option_map of_clause (slice_get (cut p.objectives (vector p values)) part) ≡ Some (of_clause (record { atoms = part_atoms os (values_at values os) part })))
+    × ((All (λ v. v.0 < length values) os × All IsBound values × (part < max 1 (length os))) × AreKnown (var_count p) (part_atoms os (values_at values os) part))
 part_there p values os part e wf fit h =
     let within : part < length (cut os (values_at values os)) = omega (arith, length-parts values os) in
-    let known : All (λ (v : Var). v.0 < var_count p) os = subst (λ (xs : List Var). All (λ (v : Var). v.0 < var_count p) xs) (sym e) wf.objectives in
-    (subst (λ (xs : List Var). option_map of_clause (slice_get (cut xs (values_at values xs)) part) ≡ Some (of_clause (record { atoms = part_atoms os (values_at values os) part }))) e
-     (atoms_there (cut os (values_at values os)) part within),
-     ((subst (λ (n : ℕ). All (λ (v : Var). v.0 < n) os) (sym fit.count) known, fit.sizes, h),
-      AreKnown-part_atoms (var_count p) values os part h known))
+    let known : All (λ (v : Var). v.0 < var_count p) os = subst (λ (xs : List Var). All (λ (v : Var). v.0 < var_count p) xs) (sym e) wf.objectives in (
+      subst (λ (xs : List Var). option_map of_clause (slice_get (cut xs (values_at values xs)) part) ≡ Some (of_clause (record { atoms = part_atoms os (values_at values os) part }))) e
+          (atoms_there (cut os (values_at values os)) part within),
+      (
+        (subst (λ (n : ℕ). All (λ (v : Var). v.0 < n) os) (sym fit.count) known, fit.sizes, h),
+        AreKnown-part_atoms (var_count p) values os part h known,
+      ),
+    )

@@ -1,10 +1,8 @@
 -- The atoms of a clause that a box leaves.
-use Rattle.std.proofs.Common.{◌≡◌, ℕ, zero, suc, ◌+◌, ◌<◌, Bool, true, false, cond, List, [], ◌∷◌, length, get_or, drop, refl, ap, sym, ◌∙◌, subst, arith, rules}
+use Rattle.std.proofs.Common.{◌≡◌, ℕ, zero, suc, ◌+◌, ◌<◌, Bool, true, false, cond, List, [], ◌∷◌, length, get_or, drop, ap, sym, ◌∙◌, subst, arith}
 use Rattle.std.specs.Prelude.{slice_get, not, pos}
-use Rattle.std.specs.declared.option.Option.{Option}
 use Rattle.std.specs.declared.option.Option.TheVariants.{Some, None}
 use Rattle.std.proofs.lemmas.Option.{same_Some, slice_get-get_or}
-use Rattle.std.proofs.lemmas.List.{drop_more, drop_all}
 use Rattle.cgm_atom.specs.declared.constraints.Atom.{Atom}
 use Rattle.cgm_atom.specs.Bounds.{Bounds}
 use Rattle.cgm_atom.specs.Narrowing.{is_false_in, left_by_atoms, left_by_clause, made_true}
@@ -35,11 +33,13 @@ left_past b atoms i a e h =
 
 -- the first atom that is left, where those before it from a place on are false
 pub first_left_at : (b : Bounds) (atoms : List Atom) (start i : ℕ) (a : Atom) → i < length atoms → slice_get atoms i ≡ Some a → is_false_in b a ≡ false → left_in b (drop start atoms) ≡ left_in b (drop i atoms) → IsFirstLeft b atoms start (Some i)
-first_left_at b atoms start i a within e h passed =
-    (within, λ (x : Atom) (k : slice_get atoms i ≡ Some x).
+first_left_at b atoms start i a within e h passed = (
+  within,
+  λ (x : Atom) (k : slice_get atoms i ≡ Some x).
       let same : a ≡ x = same_Some a x (sym e ∙ k) in
       subst (λ (y : Atom). (is_false_in b y ≡ false) × (left_in b (drop start atoms) ≡ y ∷ left_in b (drop (i + 1) atoms))) same
-      (h, passed ∙ left_at b atoms i a e h))
+      (h, passed ∙ left_at b atoms i a e h),
+)
 
 -- ---- what the clause leaves, by its first atoms that are left
 

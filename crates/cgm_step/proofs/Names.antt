@@ -1,5 +1,5 @@
 -- What hints name and carry, hint by hint.
-use Rattle.std.proofs.Common.{◌≡◌, ℕ, List, refl, ap, sym, ◌∙◌, subst, max}
+use Rattle.std.proofs.Common.{◌≡◌, ℕ, List, ap, sym, ◌∙◌, subst}
 use Rattle.std.specs.Prelude.{ℤ, slice_get}
 use Rattle.std.specs.declared.option.Option.{Option}
 use Rattle.std.specs.declared.option.Option.TheVariants.{Some, None}
@@ -44,10 +44,11 @@ named-Cut p s h best part o e k =
 
 -- the clause of a lemma that a hint names
 pub lemma_found : (p : Instance) (log : List Entry) (h : Hint) (place : ℕ) (clause : Clause) (atoms : List Atom) → IsAccepted p log → h ≡ hint.Entry place → Some clause ≡ option_and_then lemma_clause (live_at (state_of log).entries place) → atoms ≡ clause.atoms
-  → (named p (state_of log) h ≡ Some (of_clause (record { atoms = atoms }))) × (Unit {0} × AreKnown (var_count p) atoms)
-lemma_found p log h place clause atoms accepted e k same =
-    (named-Entry p (state_of log) h place (Some clause) e k ∙ ap (λ (xs : List Atom). Some (of_clause (record { atoms = xs }))) (sym same),
-     (tt, subst (λ (xs : List Atom). AreKnown (var_count p) xs) (sym same) (lemma_atoms_known p log place clause accepted (sym k))))
+    → (named p (state_of log) h ≡ Some (of_clause (record { atoms = atoms }))) × (Unit {0} × AreKnown (var_count p) atoms)
+lemma_found p log h place clause atoms accepted e k same = (
+  named-Entry p (state_of log) h place (Some clause) e k ∙ ap (λ (xs : List Atom). Some (of_clause (record { atoms = xs }))) (sym same),
+  (tt, subst (λ (xs : List Atom). AreKnown (var_count p) xs) (sym same) (lemma_atoms_known p log place clause accepted (sym k))),
+)
 
 -- ---- what is carried
 

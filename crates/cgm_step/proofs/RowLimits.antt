@@ -1,7 +1,7 @@
 -- A row of a problem is within its limits in each box of the problem.
-use Rattle.std.proofs.Common.{◌≡◌, ℕ, ◌+◌, ◌*◌, ◌≤◌, ◌<◌, max, List, [], ◌∷◌, length, subst, sym, arith}
+use Rattle.std.proofs.Common.{ℕ, ◌≤◌, ◌<◌, List, [], ◌∷◌, subst, sym, arith}
 use Rattle.std.proofs.Math.Nat.{mul-le-mul_left}
-use Rattle.std.specs.Prelude.{ℤ, ◌≤ℤ◌, unsigned_abs, IfSome}
+use Rattle.std.specs.Prelude.{ℤ, unsigned_abs, IfSome}
 use Rattle.cgm_atom.specs.declared.constraints.Atom.{Atom}
 use Rattle.cgm_atom.specs.declared.constraints.Row.{Row}
 use Rattle.cgm_atom.specs.declared.constraints.Var.{Var}

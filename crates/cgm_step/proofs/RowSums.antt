@@ -1,12 +1,12 @@
 -- Sums of rows as far as a loop has come.
-use Rattle.std.proofs.Common.{◌≡◌, ◌≢◌, ℕ, suc, ◌+◌, ◌*◌, ◌<◌, ◌≤◌, max, List, [], ◌∷◌, length, get_or, drop, sym, ◌∙◌, subst, arith}
+use Rattle.std.proofs.Common.{◌≡◌, ℕ, ◌+◌, ◌*◌, ◌<◌, ◌≤◌, max, List, ◌∷◌, length, get_or, drop, subst, arith}
 use Rattle.std.proofs.Math.Nat.{mul-le-mul_left}
 use Rattle.std.specs.Prelude.{ℤ, pos, ◌+ℤ◌, ◌*ℤ◌, unsigned_abs}
 use Rattle.std.proofs.lemmas.Int.{ints, unsigned_abs-mul}
 use Rattle.std.proofs.lemmas.List.{drop_more}
 use Rattle.cgm_atom.specs.declared.constraints.Var.{Var}
-use Rattle.cgm_atom.specs.Bounds.{Bounds, lower_of, upper_of}
-use Rattle.cgm_atom.specs.Limits.{AreTermsOf, IsAbsent, greatest_size, measure}
+use Rattle.cgm_atom.specs.Bounds.{Bounds}
+use Rattle.cgm_atom.specs.Limits.{AreTermsOf, greatest_size, measure}
 use Rattle.cgm_atom.specs.Narrowing.{greatest_activity, greatest_term}
 
 product_size : (c v : ℤ) (n : ℕ) → unsigned_abs v ≤ n → unsigned_abs (c *ℤ v) ≤ unsigned_abs c * n

@@ -1,8 +1,7 @@
 -- The terms of a row that have tightened a box as far as a loop has come.
-use Rattle.std.proofs.Common.{◌≡◌, ◌≢◌, ℕ, zero, suc, ◌<◌, Bool, true, false, cond, List, [], ◌∷◌, length, refl, ap, sym, ◌∙◌, subst, arith, length-set}
+use Rattle.std.proofs.Common.{◌≡◌, ◌≢◌, ℕ, zero, suc, Bool, true, false, cond, List, [], ◌∷◌, length, refl, ap, sym, ◌∙◌, subst, arith, length-set}
 use Rattle.std.specs.Prelude.{ℤ, pos, negsuc, ◌+ℤ◌, ◌-ℤ◌, ◌≤ℤ◌, ◌<ℤ◌, ◌/◌, int_lt, slice_set, unsigned_abs}
-use Rattle.std.specs.declared.option.Option.{Option}
-use Rattle.std.specs.declared.option.Option.TheVariants.{Some, None}
+use Rattle.std.specs.declared.option.Option.TheVariants.{Some}
 use Rattle.std.specs.Int.{int_max, int_min}
 use Rattle.std.proofs.lemmas.Int.{ints}
 use Rattle.std.proofs.lemmas.List.{get_or-set_other}
@@ -16,7 +15,7 @@ use Rattle.cgm_step.specs.declared.outcome.Narrowed.{Narrowed}
 use Rattle.cgm_step.specs.declared.outcome.Narrowed.TheVariants.{Same}
 use Rattle.cgm_step.specs.Outcome.{IsTightening, joined}
 use Rattle.cgm_step.specs.Steps.{AreBounds, IsKept}
-use Rattle.cgm_step.proofs.Tightening.{AreBounds-inside, IsBoxOf-itself, made_true_inside, tightening_after}
+use Rattle.cgm_step.proofs.Tightening.{AreBounds-inside, IsBoxOf-itself, tightening_after}
 
 -- two boxes have the same bounds of a variable
 abbrev pub AgreesAt : Bounds → Bounds → ℕ → Type 0
@@ -80,10 +79,10 @@ tightening_steps old room terms rest t now new a outcome step far kept proper e 
     let same : a.var.0 ≡ t.1.0 = ap (λ (x : Var). x.0) kept.var in
     record {
       left =
-        ap (tightened_by_terms old room rest) (e ∙ sym (tightened_alike old now room t.0 t.1 now far.agrees.0 ∙ kept.tightened)) ∙ far.left;
+          ap (tightened_by_terms old room rest) (e ∙ sym (tightened_alike old now room t.0 t.1 now far.agrees.0 ∙ kept.tightened)) ∙ far.left;
       agrees =
-        subst (λ (b : Bounds). AgreesOn old b rest) (sym e)
-        (AgreesOn-made_true old now a rest (subst (λ (x : ℕ). IsAbsent x rest) (sym same) far.known.2) far.agrees.1);
+          subst (λ (b : Bounds). AgreesOn old b rest) (sym e)
+          (AgreesOn-made_true old now a rest (subst (λ (x : ℕ). IsAbsent x rest) (sym same) far.known.2) far.agrees.1);
       known = subst (λ (n : ℕ). AreTermsOf n rest) (sym (ap (λ (b : Bounds). length b.lower) e ∙ length-made_true now a)) far.known.3;
       sizes = AreBounds-inside now new far.sizes own.inside own.ordered;
       answer = tightening_after old now new outcome step own.inside far.answer answer;

@@ -1,5 +1,5 @@
 -- The state of a log and its index, entry by entry.
-use Rattle.std.proofs.Common.{◌≡◌, ℕ, zero, suc, ◌+◌, ◌-◌, Bool, ◌||◌, List, [], ◌∷◌, ◌++◌, length, map, refl, ap, sym, ◌∙◌, arith, length-append, append_assoc}
+use Rattle.std.proofs.Common.{◌≡◌, ℕ, zero, suc, ◌+◌, Bool, ◌||◌, List, [], ◌∷◌, ◌++◌, length, map, refl, ap, sym, ◌∙◌, arith, append_assoc}
 use Rattle.std.specs.Prelude.{ℤ, slice_get}
 use Rattle.std.specs.declared.option.Option.{Option}
 use Rattle.std.specs.declared.option.Option.TheVariants.{Some, None}
@@ -163,7 +163,7 @@ unfolding index_of
 last_by_index log index own =
     let bests = (state_of log).bests in
     let count : length bests ≡ length index.bests =
-        ap length (bests_of log) ∙ length-map (best_values log) Some ∙ sym (length-places log) ∙ sym (ap (λ (x : Index). length x.bests) own) in
+    ap length (bests_of log) ∙ length-map (best_values log) Some ∙ sym (length-places log) ∙ sym (ap (λ (x : Index). length x.bests) own) in
     live_last bests ∙ ap (live_at bests) count
 
 pub closed_by_index : (log : List Entry) (index : Index) → IsIndexOf index log → (state_of log).closed ≡ index.closed

@@ -1,6 +1,6 @@
 -- The tests of an entry as far as a loop has come.
-use Rattle.std.proofs.Common.{◌≡◌, ℕ, zero, suc, ◌+◌, ◌<◌, ◌≤◌, max, Bool, true, false, cond, not, ◌||◌, ◌&&◌, nat_lt, List, [], ◌∷◌, length, get_or, map, drop, refl, ap, sym, ◌∙◌, subst, arith, rules}
-use Rattle.std.specs.Prelude.{ℤ, pos, ◌+ℤ◌, ◌-ℤ◌, ◌<ℤ◌, ◌≤ℤ◌, int_le, int_lt}
+use Rattle.std.proofs.Common.{◌≡◌, ℕ, ◌+◌, ◌<◌, ◌≤◌, Bool, true, false, cond, not, nat_lt, List, ◌∷◌, length, get_or, map, drop, refl, ap, sym, ◌∙◌, arith}
+use Rattle.std.specs.Prelude.{ℤ, pos, ◌+ℤ◌, ◌-ℤ◌, int_le, int_lt}
 use Rattle.std.specs.declared.option.Option.{Option}
 use Rattle.std.specs.declared.option.Option.TheVariants.{Some, None}
 use Rattle.std.specs.List.{position_from}
@@ -9,18 +9,14 @@ use Rattle.std.proofs.lemmas.Int.{ints}
 use Rattle.std.proofs.lemmas.List.{drop_more, drop_all}
 use Rattle.cgm_atom.specs.declared.constraints.Atom.{Atom}
 use Rattle.cgm_atom.specs.declared.constraints.Clause.{Clause}
-use Rattle.cgm_atom.specs.declared.constraints.Var.{Var}
-use Rattle.cgm_atom.specs.declared.entries.Entry.{Entry}
 use Rattle.cgm_atom.specs.declared.entries.Entry.TheVariants.{Best}
 use Rattle.cgm_atom.specs.declared.entries.Hint.{Hint}
 use Rattle.cgm_atom.specs.Acceptance.{first_fault, is_refuted}
 use Rattle.cgm_atom.specs.Atoms.{negation}
-use Rattle.cgm_atom.specs.Bounds.{Bounds, IsBoxOf, lower_of, upper_of, value_of}
-use Rattle.cgm_atom.specs.Instance.{Instance, values_at, var_count}
-use Rattle.cgm_atom.specs.LogState.{LogState, all_narrowed, carried, greatest_carried, named}
+use Rattle.cgm_atom.specs.Bounds.{Bounds, IsBoxOf, lower_of, upper_of}
+use Rattle.cgm_atom.specs.Instance.{Instance}
+use Rattle.cgm_atom.specs.LogState.{LogState, all_narrowed, named}
 use Rattle.cgm_atom.specs.Narrowing.{all_assumed, is_false_in, is_true_in, made_true}
-use Rattle.cgm_atom.specs.Order.{is_less}
-use Rattle.cgm_step.specs.Naming.{AreKnown}
 use Rattle.cgm_step.proofs.RowTightening.{length-made_true}
 
 -- ---- the first item with a fault
@@ -79,9 +75,9 @@ assuming_begins b atoms = record { left = refl; count = refl; within = λ limits
 pub assuming_steps : (old : Bounds) (atoms rest : List Atom) (a : Atom) (now new : Bounds) → AreAssumedSoFar old atoms (a ∷ rest) now → is_true_in now a ≡ false → new ≡ made_true now (negation a) → ((limits : Bounds) → IsBoxOf limits now → IsBoxOf limits new) → AreAssumedSoFar old atoms rest new
 assuming_steps old atoms rest a now new far e h within = record {
   left =
-    ap (λ (b : Bounds). all_assumed b (map negation rest)) h
-    ∙ sym (ap (λ (t : Bool). cond t None (all_assumed (made_true now (negation a)) (map negation rest))) (is_false_in-negation now a ∙ e))
-    ∙ far.left;
+      ap (λ (b : Bounds). all_assumed b (map negation rest)) h
+      ∙ sym (ap (λ (t : Bool). cond t None (all_assumed (made_true now (negation a)) (map negation rest))) (is_false_in-negation now a ∙ e))
+      ∙ far.left;
   count = ap (λ (b : Bounds). length b.lower) h ∙ length-made_true now (negation a) ∙ far.count;
   within = λ limits box. within limits (far.within limits box);
 }

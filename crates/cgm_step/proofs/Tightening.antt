@@ -1,8 +1,8 @@
 -- What making an atom true does to the bounds.
-use Rattle.std.proofs.Common.{◌≡◌, ◌≢◌, ◌⊎◌, ℕ, zero, suc, ◌<◌, Bool, true, false, cond, List, [], ◌∷◌, length, refl, ap, sym, subst, inl, inr, ◌∙◌, ◌^◌, ◌≤◌, arith, rules}
-use Rattle.std.specs.Prelude.{ℤ, pos, ◌≤ℤ◌, ◌<ℤ◌, int_lt, int_le, slice_set, not, if◌then◌else◌, unsigned_abs}
+use Rattle.std.proofs.Common.{◌≡◌, ◌≢◌, ◌⊎◌, ℕ, zero, suc, ◌<◌, Bool, true, false, cond, List, [], ◌∷◌, length, refl, ap, sym, subst, inl, inr, ◌∙◌, ◌^◌, ◌≤◌, arith}
+use Rattle.std.specs.Prelude.{ℤ, pos, ◌≤ℤ◌, ◌<ℤ◌, int_le, slice_set, not, if◌then◌else◌, unsigned_abs}
 use Rattle.std.specs.declared.option.Option.{Option}
-use Rattle.std.specs.declared.option.Option.TheVariants.{Some, None}
+use Rattle.std.specs.declared.option.Option.TheVariants.{Some}
 use Rattle.std.specs.Int.{int_max, int_min}
 use Rattle.std.proofs.lemmas.Int.{ints, clamps}
 use Rattle.std.proofs.lemmas.List.{get_or-set_same}
@@ -46,14 +46,16 @@ written b x up k =
     (record b { upper = slice_set b.upper x (int_min (upper_of b x) k) })
 
 written_inside : (b : Bounds) (i : ℕ) (up : Bool) (k : ℤ) → IsInside (written b i up k) b
-written_inside b i true k x =
-    (value_of-set (λ l. lower_of b x ≤ℤ l) b.lower i x (int_max (lower_of b i) k) (≤ℤ_refl (lower_of b x))
-     (λ e. subst (λ y. lower_of b y ≤ℤ int_max (lower_of b i) k) (sym e) (le-int_max (lower_of b i) k)),
-     ≤ℤ_refl (upper_of b x))
-written_inside b i false k x =
-    (≤ℤ_refl (lower_of b x),
-     value_of-set (λ u. u ≤ℤ upper_of b x) b.upper i x (int_min (upper_of b i) k) (≤ℤ_refl (upper_of b x))
-     (λ e. subst (λ y. int_min (upper_of b i) k ≤ℤ upper_of b y) (sym e) (int_min-le (upper_of b i) k)))
+written_inside b i true k x = (
+  value_of-set (λ l. lower_of b x ≤ℤ l) b.lower i x (int_max (lower_of b i) k) (≤ℤ_refl (lower_of b x))
+      (λ e. subst (λ y. lower_of b y ≤ℤ int_max (lower_of b i) k) (sym e) (le-int_max (lower_of b i) k)),
+  ≤ℤ_refl (upper_of b x),
+)
+written_inside b i false k x = (
+  ≤ℤ_refl (lower_of b x),
+  value_of-set (λ u. u ≤ℤ upper_of b x) b.upper i x (int_min (upper_of b i) k) (≤ℤ_refl (upper_of b x))
+      (λ e. subst (λ y. int_min (upper_of b i) k ≤ℤ upper_of b y) (sym e) (int_min-le (upper_of b i) k)),
+)
 
 -- the box that an atom leaves is inside the old one
 pub made_true_inside : (b : Bounds) (a : Atom) → IsInside (made_true b a) b
@@ -114,9 +116,10 @@ pub between : (l z u : ℤ) (n : ℕ) → l ≤ℤ z → z ≤ℤ u → unsigned
 between l z u n h k a b = omega (arith, ints)
 
 pub AreBounds-inside : (outer inner : Bounds) → AreBounds outer → IsInside inner outer → ((x : ℕ) → lower_of inner x ≤ℤ upper_of inner x) → AreBounds inner
-AreBounds-inside outer inner sizes inside ordered x =
-    (between (lower_of outer x) (lower_of inner x) (upper_of outer x) (10 ^ 15) (inside x).0 (≤ℤ_trans (lower_of inner x) (upper_of inner x) (upper_of outer x) (ordered x) (inside x).1) (sizes x).0 (sizes x).1,
-     between (lower_of outer x) (upper_of inner x) (upper_of outer x) (10 ^ 15) (≤ℤ_trans (lower_of outer x) (lower_of inner x) (upper_of inner x) (inside x).0 (ordered x)) (inside x).1 (sizes x).0 (sizes x).1)
+AreBounds-inside outer inner sizes inside ordered x = (
+  between (lower_of outer x) (lower_of inner x) (upper_of outer x) (10 ^ 15) (inside x).0 (≤ℤ_trans (lower_of inner x) (upper_of inner x) (upper_of outer x) (ordered x) (inside x).1) (sizes x).0 (sizes x).1,
+  between (lower_of outer x) (upper_of inner x) (upper_of outer x) (10 ^ 15) (≤ℤ_trans (lower_of outer x) (lower_of inner x) (upper_of inner x) (inside x).0 (ordered x)) (inside x).1 (sizes x).0 (sizes x).1,
+)
 
 -- a box is one within itself
 pub IsBoxOf-itself : (b : Bounds) → IsProper b → IsBoxOf b b

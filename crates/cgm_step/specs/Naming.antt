@@ -1,5 +1,5 @@
 -- What a hint names, as it is looked up, and which atoms it stands for.
-use Rattle.std.specs.Prelude.{◌≡◌, Bool, false, not, cond, ◌||◌, ℕ, ◌+◌, ◌<◌, ◌==◌, nat_lt, max, ℤ, pos, ◌-ℤ◌, List, [], ◌∷◌, length, drop, slice_get, Option, Some, None}
+use Rattle.std.specs.Prelude.{◌≡◌, false, not, cond, ◌||◌, ℕ, ◌+◌, ◌<◌, ◌==◌, nat_lt, max, ℤ, pos, ◌-ℤ◌, List, [], ◌∷◌, length, drop, slice_get, Option, Some, None}
 use Rattle.std.specs.List.{All, filter}
 use Rattle.std.specs.Option.{option_map_or}
 use Rattle.cgm_atom.specs.declared.constraints.Atom.{Atom}

@@ -1,5 +1,5 @@
 -- What narrowing answers: whether the box is the same, tighter, or in conflict.
-use Rattle.std.specs.Prelude.{◌≡◌, ◌≢◌, ◌⊎◌, Bool, ℕ, ◌<ℤ◌, Option, Some, None, Result, Ok, Err}
+use Rattle.std.specs.Prelude.{◌≡◌, ◌≢◌, ◌⊎◌, ℕ, ◌<ℤ◌, Option, Some, None, Result, Ok, Err}
 use Rattle.cgm_atom.specs.Bounds.{Bounds, lower_of, upper_of}
 use Rattle.cgm_step.specs.declared.outcome.Narrowed.{Narrowed}
 use Rattle.cgm_step.specs.declared.outcome.Narrowed.TheVariants.{Same, Tighter, Conflict}

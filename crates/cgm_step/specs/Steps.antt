@@ -1,5 +1,5 @@
 -- What the steps of narrowing by a row need and give.
-use Rattle.std.specs.Prelude.{◌≡◌, Bool, false, ℕ, ◌<◌, length, ℤ}
+use Rattle.std.specs.Prelude.{◌≡◌, false, ℕ, ◌<◌, length, ℤ}
 use Rattle.cgm_atom.specs.declared.constraints.Atom.{Atom}
 use Rattle.cgm_atom.specs.declared.constraints.Var.{Var}
 use Rattle.cgm_atom.specs.Bounds.{Bounds, lower_of, upper_of}

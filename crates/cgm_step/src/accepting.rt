@@ -19,7 +19,9 @@ use crate::atoms::{make_true, negated};
 use crate::index::LogIndex;
 use crate::naming::{carried_by, find, last_best};
 use crate::narrowing::reaches_conflict;
-use cgm_atom::{Atom, BadStep, BoxState, Clause, Entry, Hint, Problem, Var, Violated, first_violated};
+use cgm_atom::{
+    Atom, BadStep, BoxState, Clause, Entry, Hint, Problem, Var, Violated, first_violated,
+};
 
 /// Tests the next entry of a log: answers the fault of the first test that it fails, in their order.
 ///
@@ -53,12 +55,7 @@ pub fn accepts_next(
 }
 
 #[tactic(auto, using(crate::proofs::States::closed_by_index), unfolding(cgm_atom::specs::Acceptance::first_fault))]
-fn accepts_best(
-    p: &Problem,
-    log: &[Entry],
-    index: &LogIndex,
-    values: &[i64],
-) -> Result<(), BadStep>
+fn accepts_best(p: &Problem, log: &[Entry], index: &LogIndex, values: &[i64]) -> Result<(), BadStep>
     requires accepted { IsAccepted p.now log.now }
     requires own { IsIndexOf index.now log.now }
     ensures { IsVerdict (first_fault p.now (state_of log.now) (entry.Best 0 values.now)) result }
@@ -180,12 +177,7 @@ fn test_atoms(p: &Problem, atoms: &[Atom]) -> Result<(), BadStep>
 }
 
 /// The hints name something.
-fn test_hints(
-    p: &Problem,
-    log: &[Entry],
-    index: &LogIndex,
-    hints: &[Hint],
-) -> Result<(), BadStep>
+fn test_hints(p: &Problem, log: &[Entry], index: &LogIndex, hints: &[Hint]) -> Result<(), BadStep>
     requires accepted { IsAccepted p.now log.now }
     requires own { IsIndexOf index.now log.now }
     ensures { IsVerdict

@@ -34,7 +34,9 @@ fn count_of(atoms: Atoms<'_>) -> usize
     match atoms {
         Atoms::Listed(atoms) => atoms.len(),
         Atoms::OfCut {
-            objectives, part, ..
+            objectives,
+            part,
+            ..
         } => count_of_part(objectives, part),
     }
 }

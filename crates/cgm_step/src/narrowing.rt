@@ -17,13 +17,7 @@ use cgm_atom::{BoxState, Entry, Hint, Problem};
 ///
 /// `Conflict` comes exactly where no values of the box are left, and the box is then as it was;
 /// `Tighter` where a bound has changed. Takes no memory.
-pub fn narrow(
-    p: &Problem,
-    log: &[Entry],
-    index: &LogIndex,
-    b: &mut BoxState,
-    h: &Hint,
-) -> Narrowed
+pub fn narrow(p: &Problem, log: &[Entry], index: &LogIndex, b: &mut BoxState, h: &Hint) -> Narrowed
     requires accepted { IsAccepted p.now log.now }
     requires own { IsIndexOf index.now log.now }
     requires in_box { IsBoxOf p.now.bounds b.old }

@@ -1,4 +1,4 @@
-use Rattle.std.proofs.Common.{◌≡◌, ap, sym, subst, Bool}
+use Rattle.std.proofs.Common.{ap, sym, subst, Bool}
 use Rattle.std.specs.declared.option.Option.TheVariants.{Some, None}
 use Rattle.std.proofs.lemmas.Bool.{iff_false}
 use Rattle.cgm_atom.specs.declared.entries.BadStep.TheVariants as fault
@@ -14,7 +14,7 @@ returns-then-not-assume_negations-clause-exact c =
     let p = c.args.p.now in
     ap (λ (t : Bool). fault_unless t fault.NoConflict)
     (refuted_at_once p (state_of c.args.log.now) c.args.clause.now c.args.hints.now
-     (all_assumed-same c.reset.new.self p.bounds c.as_slice.result.now c.args.clause.now.atoms None c.reset.ensures c.as_slice.ensures c.if-not-assume_negations.ensures.exact))
+    (all_assumed-same c.reset.new.self p.bounds c.as_slice.result.now c.args.clause.now.atoms None c.reset.ensures c.as_slice.ensures c.if-not-assume_negations.ensures.exact))
 
 pub returns-then-not-assume_negations-clause-within : goal.returns-then-not-assume_negations-clause-within
 returns-then-not-assume_negations-clause-within c =
@@ -33,13 +33,13 @@ returns-then-reaches_conflict-clause-exact c =
     let p = c.args.p.now in
     ap (λ (t : Bool). fault_unless t fault.NoConflict)
     (refuted p (state_of c.args.log.now) c.args.clause.now c.args.hints.now c.assume_negations.new.b
-     (all_assumed-same c.reset.new.self p.bounds c.as_slice.result.now c.args.clause.now.atoms (Some c.assume_negations.new.b) c.reset.ensures c.as_slice.ensures c.if-not-assume_negations.ensures.exact)
-     (c.reaches_conflict.ensures.exact.0 c.if-reaches_conflict.true))
+    (all_assumed-same c.reset.new.self p.bounds c.as_slice.result.now c.args.clause.now.atoms (Some c.assume_negations.new.b) c.reset.ensures c.as_slice.ensures c.if-not-assume_negations.ensures.exact)
+    (c.reaches_conflict.ensures.exact.0 c.if-reaches_conflict.true))
 
 pub returns-clause-exact : goal.returns-clause-exact
 returns-clause-exact c =
     let p = c.args.p.now in
     ap (λ (t : Bool). fault_unless t fault.NoConflict)
     (not_refuted p (state_of c.args.log.now) c.args.clause.now c.args.hints.now c.assume_negations.new.b
-     (all_assumed-same c.reset.new.self p.bounds c.as_slice.result.now c.args.clause.now.atoms (Some c.assume_negations.new.b) c.reset.ensures c.as_slice.ensures c.if-not-assume_negations.ensures.exact)
-     (iff_false c.reaches_conflict.ensures.exact c.if-reaches_conflict.false))
+    (all_assumed-same c.reset.new.self p.bounds c.as_slice.result.now c.args.clause.now.atoms (Some c.assume_negations.new.b) c.reset.ensures c.as_slice.ensures c.if-not-assume_negations.ensures.exact)
+    (iff_false c.reaches_conflict.ensures.exact c.if-reaches_conflict.false))

@@ -1,4 +1,4 @@
-use Rattle.std.proofs.Common.{◌≡◌, ◌==◌, length, true, false, arith}
+use Rattle.std.proofs.Common.{arith}
 use Rattle.std.proofs.lemmas.Bool.Decides.{nat_tests}
 use Rattle.cgm_step.proofs.CutParts.{length-part_atoms}
 use Rattle.cgm_step.proofs.clauses.count_of_part.Goals as goal

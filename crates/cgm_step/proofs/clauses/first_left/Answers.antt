@@ -1,4 +1,4 @@
-use Rattle.std.proofs.Common.{◌≡◌, ◌∙◌, sym, true, false, arith, rules}
+use Rattle.std.proofs.Common.{◌≡◌, ◌∙◌, true, false, arith}
 use Rattle.cgm_atom.specs.Narrowing.{is_false_in}
 use Rattle.cgm_step.specs.Naming.{atoms_of}
 use Rattle.cgm_step.proofs.Leaving.{first_left_at, left_past}

@@ -1,4 +1,4 @@
-use Rattle.std.proofs.Common.{◌≡◌, ◌∙◌, ap, sym, refl, rules, arith}
+use Rattle.std.proofs.Common.{◌∙◌, ap, sym, refl}
 use Rattle.std.proofs.lemmas.Option.{get_or_from_slice_get}
 use Rattle.std.specs.declared.option.Option.TheVariants.{Some}
 use Rattle.cgm_step.specs.Naming.{atoms_of}
@@ -18,7 +18,7 @@ pub returns-in-None-first_left-clause-exact : goal.returns-in-None-first_left-cl
 returns-in-None-first_left-clause-exact c =
     narrowing_from _ c.args.b.now c.make_true.new.b c.make_true.result
     (one_left c.args.b.now (atoms_of c.args.atoms) c.in-Some.only c.atom_at.result c.in-Some.ensures.first c.atom_at.ensures c.in-None-first_left.ensures.first
-     ∙ ap Some (sym c.make_true.ensures.after))
+    ∙ ap Some (sym c.make_true.ensures.after))
     c.make_true.ensures.answer
 
 pub returns-in-Some-first_left-clause-exact : goal.returns-in-Some-first_left-clause-exact

@@ -1,4 +1,4 @@
-use Rattle.std.proofs.Common.{◌≡◌, ◌∙◌, sym, ap}
+use Rattle.std.proofs.Common.{◌∙◌, sym, ap}
 use Rattle.std.specs.declared.option.Option.TheVariants.{Some, None}
 use Rattle.cgm_atom.specs.LogState.{carried, state_of}
 use Rattle.cgm_step.proofs.Names.{carried-Entry}

@@ -1,4 +1,4 @@
-use Rattle.std.proofs.Common.{◌≡◌, sym}
+use Rattle.std.proofs.Common.{sym}
 use Rattle.std.specs.declared.option.Option.TheVariants.{Some, None}
 use Rattle.cgm_atom.specs.LogState.{state_of}
 use Rattle.cgm_step.proofs.Accepted.{best_values_fit}

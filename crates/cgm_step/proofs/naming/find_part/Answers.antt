@@ -1,4 +1,4 @@
-use Rattle.std.proofs.Common.{arith, max, length, ◌≤◌, ◌<◌}
+use Rattle.std.proofs.Common.{arith}
 use Rattle.cgm_step.proofs.CutParts.{part_past, part_there}
 use Rattle.cgm_step.proofs.naming.find_part.Goals as goal
 

@@ -1,4 +1,4 @@
-use Rattle.std.proofs.Common.{◌≡◌, ◌∙◌, ◌≤◌, ap, sym, refl, true, false, w64, arith, rules, ℤ, ◌≤ℤ◌, ◌<ℤ◌, ◌-ℤ◌}
+use Rattle.std.proofs.Common.{◌≡◌, ◌∙◌, ap, sym, refl, true, false, w64, arith, rules, ◌≤ℤ◌, ◌<ℤ◌, ◌-ℤ◌}
 use Rattle.std.specs.Prelude.{FitsSigned, unsigned_abs}
 use Rattle.std.specs.declared.option.Option.TheVariants.{Some}
 use Rattle.std.proofs.lemmas.Int.{fits_signed_from_abs, ints, to_z-of_z}
@@ -28,9 +28,9 @@ returns-then-is_claimed-clause-exact c =
     let most_fits : FitsSigned w64 most = search rules in
     let least_fits : FitsSigned w64 r.least = fits_signed_from_abs w64 r.least (omega arith) in
     let room : c.room_of.result ≡ unsigned_abs (most -ℤ r.least) =
-        rw (to_z-of_z w64 most most_fits, to_z-of_z w64 r.least least_fits) at c.room_of.ensures.value in
+    rw (to_z-of_z w64 most most_fits, to_z-of_z w64 r.least least_fits) at c.room_of.ensures.value in
     let after : c.tighten_by_terms.new.b ≡ tightened_by_terms b (unsigned_abs (most -ℤ r.least)) r.terms b =
-        cc (c.tighten_by_terms.ensures.after, room, c.as_slice-terms.ensures) in
+    cc (c.tighten_by_terms.ensures.after, room, c.as_slice-terms.ensures) in
     narrowing_from _ b c.tighten_by_terms.new.b c.tighten_by_terms.result
     (left_by_row-claimed b r most sum met claimed ∙ ap Some (sym after)) c.tighten_by_terms.ensures.answer
 

@@ -1,4 +1,4 @@
-use Rattle.std.proofs.Common.{◌≡◌, ◌<◌, ◌+◌, length, get_or, drop, rules, arith, pos}
+use Rattle.std.proofs.Common.{◌+◌, get_or, drop, pos}
 use Rattle.cgm_step.proofs.RowSums.{rest_at}
 use Rattle.cgm_step.proofs.RowTightening.{IsTightenedSoFar, tightening_begins, tightening_steps}
 use Rattle.cgm_step.proofs.rows.tighten_by_terms.Goals as goal
@@ -14,5 +14,5 @@ loop-term-preserved c =
     let now = c.loop-term.b in
     rw c.then-outcome.ensures
     (tightening_steps old c.args.room terms (drop (i + 1) terms) (get_or terms i (pos 0, record { 0 = 0 })) now c.make_true.new.b c.kept_by_term-kept.result c.loop-term.outcome c.make_true.result
-     (rest_at (λ rest. IsTightenedSoFar old c.args.room terms rest now c.loop-term.outcome) terms i (pos 0, record { 0 = 0 }) c.loop-term-test.true c.loop-term.invariant)
-     c.kept_by_term-kept.ensures.kept c.kept_by_term-kept.ensures.proper c.make_true.ensures.after c.make_true.ensures.answer c.make_true.ensures.within)
+    (rest_at (λ rest. IsTightenedSoFar old c.args.room terms rest now c.loop-term.outcome) terms i (pos 0, record { 0 = 0 }) c.loop-term-test.true c.loop-term.invariant)
+    c.kept_by_term-kept.ensures.kept c.kept_by_term-kept.ensures.proper c.make_true.ensures.after c.make_true.ensures.answer c.make_true.ensures.within)

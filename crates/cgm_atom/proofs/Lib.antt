@@ -1,2 +1,4 @@
 pub mod Fresh
 pub mod Growing
+pub mod Keeping
+pub mod SignedSteps

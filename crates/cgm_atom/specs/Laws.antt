@@ -1,0 +1,41 @@
+-- Laws over the definitions: on narrowing, cuts, bounds of lemmas, and closed logs.
+use Rattle.std.specs.Prelude.{◌≡◌, ◌↔◌, ℕ, ◌≤◌, ℤ, List, slice_get, length, Option, Some, None, IsTrue, IsSomeAnd}
+use Rattle.std.specs.List.{All}
+use Rattle.cgm_atom.specs.declared.constraints.Atom.{Atom}
+use Rattle.cgm_atom.specs.declared.constraints.Clause.{Clause}
+use Rattle.cgm_atom.specs.declared.constraints.Row.{Row}
+use Rattle.cgm_atom.specs.declared.constraints.Var.{Var}
+use Rattle.cgm_atom.specs.declared.entries.Entry.{Entry}
+use Rattle.cgm_atom.specs.declared.entries.Entry.TheVariants.{Lemma}
+use Rattle.cgm_atom.specs.declared.entries.Hint.{Hint}
+use Rattle.cgm_atom.specs.Acceptance.{IsAccepted, IsClosed}
+use Rattle.cgm_atom.specs.Atoms.{atom_true, clause_true, row_true}
+use Rattle.cgm_atom.specs.Bounds.{Bounds, IsWithin, IsInside}
+use Rattle.cgm_atom.specs.Cut.{cut}
+use Rattle.cgm_atom.specs.Entailment.{Follows}
+use Rattle.cgm_atom.specs.Instance.{Instance, HasNoSolution, IsLeast, IsSolution, values_at}
+use Rattle.cgm_atom.specs.LogState.{last_best, state_of}
+use Rattle.cgm_atom.specs.Narrowing.{all_assumed, left_by_clause, left_by_row, made_true}
+use Rattle.cgm_atom.specs.Order.{IsLess}
+
+-- ---- narrowing keeps solutions
+
+-- what is left is a box, and the values lie in it
+abbrev pub IsLeft : Option Bounds → List ℤ → Type 0
+IsLeft left values = IsSomeAnd left (λ b. IsWithin b values)
+
+abbrev pub ClauseKeepsValues : Type 0
+ClauseKeepsValues =
+    (b : Bounds) (c : Clause) (values : List ℤ) → IsWithin b values → IsTrue (clause_true values c) → IsLeft (left_by_clause b c) values
+
+abbrev pub RowKeepsValues : Type 0
+RowKeepsValues =
+    (b : Bounds) (r : Row) (values : List ℤ) → IsWithin b values → IsTrue (row_true values r) → IsLeft (left_by_row b r) values
+
+abbrev pub MadeTrueKeepsValues : Type 0
+MadeTrueKeepsValues =
+    (b : Bounds) (a : Atom) (values : List ℤ) → IsWithin b values → IsTrue (atom_true values a) → IsWithin (made_true b a) values
+
+abbrev pub AssumedKeepValues : Type 0
+AssumedKeepValues =
+    (b : Bounds) (atoms : List Atom) (values : List ℤ) → IsWithin b values → All (λ a. IsTrue (atom_true values a)) atoms → IsLeft (all_assumed b atoms) values

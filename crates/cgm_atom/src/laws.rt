@@ -1,0 +1,25 @@
+//! Laws over the definitions. Each function does nothing: its contract is the law.
+ghost use Rattle.cgm_atom.specs.Laws.{AssumedKeepValues, ClauseKeepsValues, MadeTrueKeepsValues, RowKeepsValues};
+
+/// Values of a box that make an atom true are in what is left of the box where the atom is made true.
+pub fn made_true_keeps_values()
+    ensures { MadeTrueKeepsValues }
+{}
+
+/// Values of a box that make each of the atoms true are in what is left where the atoms are
+/// assumed in their order, and there is no conflict.
+pub fn assumed_atoms_keep_values()
+    ensures { AssumedKeepValues }
+{}
+
+/// Values of a box that make a clause true are in what the clause leaves of the box.
+/// So where it leaves conflict there are none.
+pub fn clause_keeps_values()
+    ensures { ClauseKeepsValues }
+{}
+
+/// Values of a box that meet a row are in what the row leaves of the box.
+/// So where it leaves conflict there are none.
+pub fn row_keeps_values()
+    ensures { RowKeepsValues }
+{}

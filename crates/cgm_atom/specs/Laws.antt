@@ -39,3 +39,15 @@ MadeTrueKeepsValues =
 abbrev pub AssumedKeepValues : Type 0
 AssumedKeepValues =
     (b : Bounds) (atoms : List Atom) (values : List ℤ) → IsWithin b values → All (λ a. IsTrue (atom_true values a)) atoms → IsLeft (all_assumed b atoms) values
+
+-- ---- a lesser vector and the cut
+
+abbrev pub CutIsLess : Type 0
+CutIsLess =
+    (objectives : List Var) (values v : List ℤ) → IsLess (values_at values objectives) v ↔ All (λ c. IsTrue (clause_true values c)) (cut objectives v)
+
+-- ---- later bounds
+
+abbrev pub LaterBoundsFollow : Type 0
+LaterBoundsFollow =
+    (p : Instance) (log : List Entry) (c : Clause) (bound later : ℕ) → IsAccepted p log → bound ≤ later → Follows p log bound c → Follows p log later c

@@ -1,5 +1,5 @@
 //! Laws over the definitions. Each function does nothing: its contract is the law.
-ghost use Rattle.cgm_atom.specs.Laws.{AssumedKeepValues, ClauseKeepsValues, MadeTrueKeepsValues, RowKeepsValues};
+ghost use Rattle.cgm_atom.specs.Laws.{AssumedKeepValues, ClauseKeepsValues, CutIsLess, LaterBoundsFollow, MadeTrueKeepsValues, RowKeepsValues};
 
 /// Values of a box that make an atom true are in what is left of the box where the atom is made true.
 pub fn made_true_keeps_values()
@@ -22,4 +22,14 @@ pub fn clause_keeps_values()
 /// So where it leaves conflict there are none.
 pub fn row_keeps_values()
     ensures { RowKeepsValues }
+{}
+
+/// The objective values are less than a vector exactly where each clause of the vector's cut is true.
+pub fn cut_is_less()
+    ensures { CutIsLess }
+{}
+
+/// In an accepted log what follows under a bound follows under each later bound.
+pub fn later_bounds_follow()
+    ensures { LaterBoundsFollow }
 {}

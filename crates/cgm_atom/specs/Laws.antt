@@ -6,13 +6,13 @@ use Rattle.cgm_atom.specs.declared.constraints.Clause.{Clause}
 use Rattle.cgm_atom.specs.declared.constraints.Row.{Row}
 use Rattle.cgm_atom.specs.declared.constraints.Var.{Var}
 use Rattle.cgm_atom.specs.declared.entries.Entry.{Entry}
-use Rattle.cgm_atom.specs.declared.entries.Entry.TheVariants.{Lemma}
+use Rattle.cgm_atom.specs.declared.entries.Entry.TheVariants.{Best, Lemma}
 use Rattle.cgm_atom.specs.declared.entries.Hint.{Hint}
 use Rattle.cgm_atom.specs.Acceptance.{IsAccepted, IsClosed}
 use Rattle.cgm_atom.specs.Atoms.{atom_true, clause_true, row_true}
 use Rattle.cgm_atom.specs.Bounds.{Bounds, IsWithin, IsInside}
 use Rattle.cgm_atom.specs.Cut.{cut}
-use Rattle.cgm_atom.specs.Entailment.{Follows}
+use Rattle.cgm_atom.specs.Entailment.{Follows, best_values}
 use Rattle.cgm_atom.specs.Instance.{Instance, HasNoSolution, IsLeast, IsSolution, values_at}
 use Rattle.cgm_atom.specs.LogState.{last_best, state_of}
 use Rattle.cgm_atom.specs.Narrowing.{all_assumed, left_by_clause, left_by_row, made_true}
@@ -51,3 +51,26 @@ CutIsLess =
 abbrev pub LaterBoundsFollow : Type 0
 LaterBoundsFollow =
     (p : Instance) (log : List Entry) (c : Clause) (bound later : ℕ) → IsAccepted p log → bound ≤ later → Follows p log bound c → Follows p log later c
+
+-- ---- accepted and closed logs
+
+-- a lemma follows under its bound, which is 0 or the ordinal of a best
+abbrev pub IsEntailed : Instance → List Entry → Entry → Type 0
+IsEntailed p log (Best by values) = Unit {0}
+IsEntailed p log (Lemma by clause hints bound) = Follows p log bound clause × (bound ≤ length (best_values log))
+
+abbrev pub LemmasFollow : Type 0
+LemmasFollow = (p : Instance) (log : List Entry) → IsAccepted p log → All (IsEntailed p log) log
+
+abbrev pub BestsAreSolutions : Type 0
+BestsAreSolutions =
+    (p : Instance) (log : List Entry) → length p.bounds.upper ≡ length p.bounds.lower → IsAccepted p log → All (IsSolution p) (best_values log)
+
+-- the best is a least solution, or there is no solution
+abbrev pub IsConcluded : Instance → Option (List ℤ) → Type 0
+IsConcluded p None = HasNoSolution p
+IsConcluded p (Some values) = IsSolution p values × IsLeast p values
+
+abbrev pub ClosedLogIsLeast : Type 0
+ClosedLogIsLeast =
+    (p : Instance) (log : List Entry) → length p.bounds.upper ≡ length p.bounds.lower → IsAccepted p log → IsClosed log → IsConcluded p (last_best (state_of log))

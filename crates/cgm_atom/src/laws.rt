@@ -1,5 +1,5 @@
 //! Laws over the definitions. Each function does nothing: its contract is the law.
-ghost use Rattle.cgm_atom.specs.Laws.{AssumedKeepValues, ClauseKeepsValues, CutIsLess, LaterBoundsFollow, MadeTrueKeepsValues, RowKeepsValues};
+ghost use Rattle.cgm_atom.specs.Laws.{AssumedKeepValues, ClauseKeepsValues, CutIsLess, LaterBoundsFollow, LemmasFollow, MadeTrueKeepsValues, RowKeepsValues};
 
 /// Values of a box that make an atom true are in what is left of the box where the atom is made true.
 pub fn made_true_keeps_values()
@@ -32,4 +32,9 @@ pub fn cut_is_less()
 /// In an accepted log what follows under a bound follows under each later bound.
 pub fn later_bounds_follow()
     ensures { LaterBoundsFollow }
+{}
+
+/// Each lemma of an accepted log follows under the bound that it names, which is 0 or the ordinal of a best.
+pub fn lemmas_follow()
+    ensures { LemmasFollow }
 {}

@@ -34,7 +34,7 @@ mapped : {X Y : Type 0} (o : Option X) (f : X → Y) (P : Y → Type 0) → IfSo
 mapped None f P h = tt
 mapped (Some x) f P h = h
 
-each_at : {X : Type 0} (P : X → Type 0) (xs : List X) (n : ℕ) → AllByRecursion P xs → IfSome (slice_get xs n) P
+pub each_at : {X : Type 0} (P : X → Type 0) (xs : List X) (n : ℕ) → AllByRecursion P xs → IfSome (slice_get xs n) P
 each_at P [] n h = tt
 each_at P (x ∷ xs) zero h = h.0
 each_at P (x ∷ xs) (suc n) h = each_at P xs n h.1
@@ -148,7 +148,7 @@ all_carried_within p log s (h ∷ hints) known here =
 
 -- ---- one more entry
 
-none_mapped : {X Y : Type 0} (f : X → Y) (o : Option X) → option_map f o ≡ None → o ≡ None
+pub none_mapped : {X Y : Type 0} (f : X → Y) (o : Option X) → option_map f o ≡ None → o ≡ None
 none_mapped f None h = refl
 none_mapped f (Some x) h = absurd (cc)
 

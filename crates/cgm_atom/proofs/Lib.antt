@@ -1,3 +1,4 @@
+pub mod Concluding
 pub mod Cutting
 pub mod Entailing
 pub mod Fresh
@@ -6,3 +7,4 @@ pub mod Keeping
 pub mod LaterBounds
 pub mod Refuting
 pub mod SignedSteps
+pub mod Solving

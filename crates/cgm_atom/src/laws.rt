@@ -1,5 +1,5 @@
 //! Laws over the definitions. Each function does nothing: its contract is the law.
-ghost use Rattle.cgm_atom.specs.Laws.{AssumedKeepValues, ClauseKeepsValues, CutIsLess, LaterBoundsFollow, LemmasFollow, MadeTrueKeepsValues, RowKeepsValues};
+ghost use Rattle.cgm_atom.specs.Laws.{AssumedKeepValues, BestsAreSolutions, ClauseKeepsValues, ClosedLogIsLeast, CutIsLess, LaterBoundsFollow, LemmasFollow, MadeTrueKeepsValues, RowKeepsValues};
 
 /// Values of a box that make an atom true are in what is left of the box where the atom is made true.
 pub fn made_true_keeps_values()
@@ -37,4 +37,15 @@ pub fn later_bounds_follow()
 /// Each lemma of an accepted log follows under the bound that it names, which is 0 or the ordinal of a best.
 pub fn lemmas_follow()
     ensures { LemmasFollow }
+{}
+
+/// Each best of an accepted log is a solution.
+pub fn bests_are_solutions()
+    ensures { BestsAreSolutions }
+{}
+
+/// Of an accepted, closed log the last best is a solution, and no solution is less.
+/// Without a best there is no solution.
+pub fn closed_log_is_least()
+    ensures { ClosedLogIsLeast }
 {}

@@ -16,7 +16,7 @@ use Rattle.cgm_atom.specs.Atoms.{activity, atom_true, clause_true, guard_true, n
 use Rattle.cgm_atom.specs.Bounds.{Bounds, IsWithin, lower_of, upper_of, value_of}
 use Rattle.cgm_atom.specs.Laws.{IsLeft}
 use Rattle.cgm_atom.specs.Narrowing.{all_assumed, greatest_activity, greatest_term, is_claimed_in, is_false_in, is_true_in, left_by_atoms, left_by_clause, left_by_met, left_by_row, left_by_unmet, made_true, tightened_by_term, tightened_by_terms}
-use Rattle.cgm_atom.proofs.SignedSteps.{le_from_true, le_is_false, le_is_true, lt_is_false, scaled_up, scaled_down, quotient_at_most}
+use Rattle.cgm_atom.proofs.SignedSteps.{le_from_true, le_is_false, le_is_true, lt_is_false, scaled_up, scaled_down, quotient_at_most, sum_at_most}
 use borrow.Author.Differences.{up, down, le_out, lt_out, le-true, le-false, lt-true, lt-false}
 
 -- ---- one bound set
@@ -134,9 +134,6 @@ greatest_term-pos b n x = positive_cases n (pos n *ℤ lower_of b x) (pos n *ℤ
 pub term_at_most : (b : Bounds) (values : List ℤ) (c : ℤ) (x : ℕ) → IsWithin b values → (c *ℤ value_of values x) ≤ℤ greatest_term b c x
 term_at_most b values c x within =
     term_cases c (value_of values x) (lower_of b x) (upper_of b x) (int_lt c (pos 0)) (within x).0 (within x).1 refl
-
-sum_at_most : (x y u v : ℤ) → x ≤ℤ y → u ≤ℤ v → (x +ℤ u) ≤ℤ (y +ℤ v)
-sum_at_most x y u v h k = omega (arith, ints)
 
 pub activity_at_most : (b : Bounds) (values : List ℤ) (terms : List (ℤ × Var)) → IsWithin b values → activity values terms ≤ℤ greatest_activity b terms
 activity_at_most b values [] within = omega (arith, ints)

@@ -6,5 +6,6 @@ pub mod Growing
 pub mod Keeping
 pub mod LaterBounds
 pub mod Refuting
+pub mod Shrinking
 pub mod SignedSteps
 pub mod Solving

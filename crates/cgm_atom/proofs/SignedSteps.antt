@@ -26,6 +26,11 @@ lt_is_true a b h = sym (true_is_lt a b (omega (arith, ints)))
 pub lt_is_false : (a b : ℤ) → b ≤ℤ a → int_lt a b ≡ false
 lt_is_false a b h = sym (false_is_lt a b (omega (arith, ints)))
 
+-- ---- sums
+
+pub sum_at_most : (x y u v : ℤ) → x ≤ℤ y → u ≤ℤ v → (x +ℤ u) ≤ℤ (y +ℤ v)
+sum_at_most x y u v h k = omega (arith, ints)
+
 -- ---- products
 
 pub scaled_up : (n : ℕ) (a b : ℤ) → a ≤ℤ b → (pos n *ℤ a) ≤ℤ (pos n *ℤ b)

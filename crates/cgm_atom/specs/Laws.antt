@@ -14,7 +14,7 @@ use Rattle.cgm_atom.specs.Bounds.{Bounds, IsWithin, IsInside}
 use Rattle.cgm_atom.specs.Cut.{cut}
 use Rattle.cgm_atom.specs.Entailment.{Follows, best_values}
 use Rattle.cgm_atom.specs.Instance.{Instance, HasNoSolution, IsLeast, IsSolution, values_at}
-use Rattle.cgm_atom.specs.LogState.{last_best, state_of}
+use Rattle.cgm_atom.specs.LogState.{Constraint, LogState, all_narrowed, last_best, left_by, state_of}
 use Rattle.cgm_atom.specs.Narrowing.{all_assumed, left_by_clause, left_by_row, made_true}
 use Rattle.cgm_atom.specs.Order.{IsLess}
 
@@ -74,3 +74,33 @@ IsConcluded p (Some values) = IsSolution p values × IsLeast p values
 abbrev pub ClosedLogIsLeast : Type 0
 ClosedLogIsLeast =
     (p : Instance) (log : List Entry) → length p.bounds.upper ≡ length p.bounds.lower → IsAccepted p log → IsClosed log → IsConcluded p (last_best (state_of log))
+
+-- ---- smaller boxes
+
+-- a box of the same variables, each value of which is one of the outer box
+pub record IsSmaller (inner outer : Bounds) : Type 0 where
+  pub lower_count : length inner.lower ≡ length outer.lower
+  pub upper_count : length inner.upper ≡ length outer.upper
+  pub inside : IsInside inner outer
+
+-- what is left of the inner box is conflict, or smaller than what is left of the outer
+abbrev pub IsLeftSmaller : Option Bounds → Option Bounds → Type 0
+IsLeftSmaller None outer = Unit {0}
+IsLeftSmaller (Some inner) None = ⊥
+IsLeftSmaller (Some inner) (Some outer) = IsSmaller inner outer
+
+abbrev pub NarrowingShrinks : Type 0
+NarrowingShrinks =
+    (b : Bounds) (c : Constraint) → IsLeftSmaller (left_by b c) (Some b)
+
+abbrev pub SmallerBoxesNarrow : Type 0
+SmallerBoxesNarrow =
+    (inner outer : Bounds) (c : Constraint) → IsSmaller inner outer → IsLeftSmaller (left_by inner c) (left_by outer c)
+
+abbrev pub SmallerBoxesAssume : Type 0
+SmallerBoxesAssume =
+    (inner outer : Bounds) (atoms : List Atom) → IsSmaller inner outer → IsLeftSmaller (all_assumed inner atoms) (all_assumed outer atoms)
+
+abbrev pub SmallerBoxesFollowHints : Type 0
+SmallerBoxesFollowHints =
+    (p : Instance) (s : LogState) (inner outer : Bounds) (hints : List Hint) → IsSmaller inner outer → IsLeftSmaller (all_narrowed p s inner hints) (all_narrowed p s outer hints)

@@ -1,5 +1,5 @@
 //! Laws over the definitions. Each function does nothing: its contract is the law.
-ghost use Rattle.cgm_atom.specs.Laws.{AssumedKeepValues, BestsAreSolutions, ClauseKeepsValues, ClosedLogIsLeast, CutIsLess, LaterBoundsFollow, LemmasFollow, MadeTrueKeepsValues, RowKeepsValues};
+ghost use Rattle.cgm_atom.specs.Laws.{AssumedKeepValues, BestsAreSolutions, ClauseKeepsValues, ClosedLogIsLeast, CutIsLess, LaterBoundsFollow, LemmasFollow, MadeTrueKeepsValues, NarrowingShrinks, RowKeepsValues, SmallerBoxesAssume, SmallerBoxesFollowHints, SmallerBoxesNarrow};
 
 /// Values of a box that make an atom true are in what is left of the box where the atom is made true.
 pub fn made_true_keeps_values()
@@ -48,4 +48,25 @@ pub fn bests_are_solutions()
 /// Without a best there is no solution.
 pub fn closed_log_is_least()
     ensures { ClosedLogIsLeast }
+{}
+
+/// What a clause or a row leaves of a box is a smaller box.
+pub fn narrowing_shrinks()
+    ensures { NarrowingShrinks }
+{}
+
+/// A clause or a row leaves of a smaller box a smaller box or conflict.
+/// Where it leaves conflict of the larger box, it does so of the smaller.
+pub fn smaller_boxes_narrow()
+    ensures { SmallerBoxesNarrow }
+{}
+
+/// Atoms that are assumed in their order leave of a smaller box a smaller box or conflict.
+pub fn smaller_boxes_assume()
+    ensures { SmallerBoxesAssume }
+{}
+
+/// Hints in their order leave of a smaller box a smaller box or conflict.
+pub fn smaller_boxes_follow_hints()
+    ensures { SmallerBoxesFollowHints }
 {}

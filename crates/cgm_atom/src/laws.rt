@@ -24,6 +24,27 @@ pub fn row_keeps_values()
     ensures { RowKeepsValues }
 {}
 
+/// What a clause or a row leaves of a box is a smaller box.
+pub fn narrowing_shrinks()
+    ensures { NarrowingShrinks }
+{}
+
+/// A clause or a row leaves of a smaller box a smaller box or conflict.
+/// Where it leaves conflict of the larger box, it does so of the smaller.
+pub fn smaller_boxes_narrow()
+    ensures { SmallerBoxesNarrow }
+{}
+
+/// Atoms that are assumed in their order leave of a smaller box a smaller box or conflict.
+pub fn smaller_boxes_assume()
+    ensures { SmallerBoxesAssume }
+{}
+
+/// Hints in their order leave of a smaller box a smaller box or conflict.
+pub fn smaller_boxes_follow_hints()
+    ensures { SmallerBoxesFollowHints }
+{}
+
 /// The objective values are less than a vector exactly where each clause of the vector's cut is true.
 pub fn cut_is_less()
     ensures { CutIsLess }
@@ -48,25 +69,4 @@ pub fn bests_are_solutions()
 /// Without a best there is no solution.
 pub fn closed_log_is_least()
     ensures { ClosedLogIsLeast }
-{}
-
-/// What a clause or a row leaves of a box is a smaller box.
-pub fn narrowing_shrinks()
-    ensures { NarrowingShrinks }
-{}
-
-/// A clause or a row leaves of a smaller box a smaller box or conflict.
-/// Where it leaves conflict of the larger box, it does so of the smaller.
-pub fn smaller_boxes_narrow()
-    ensures { SmallerBoxesNarrow }
-{}
-
-/// Atoms that are assumed in their order leave of a smaller box a smaller box or conflict.
-pub fn smaller_boxes_assume()
-    ensures { SmallerBoxesAssume }
-{}
-
-/// Hints in their order leave of a smaller box a smaller box or conflict.
-pub fn smaller_boxes_follow_hints()
-    ensures { SmallerBoxesFollowHints }
 {}

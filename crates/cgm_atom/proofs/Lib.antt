@@ -1,3 +1,4 @@
+pub mod Assuming
 pub mod Concluding
 pub mod Cutting
 pub mod Entailing
@@ -8,4 +9,6 @@ pub mod LaterBounds
 pub mod Refuting
 pub mod Shrinking
 pub mod SignedSteps
+pub mod Solutions
 pub mod Solving
+pub mod Sums

@@ -1,6 +1,5 @@
 //! Boxes.
 ghost use Rattle.std.specs.Prelude.{◌≡◌, ℕ, ◌<◌, ◌≤ℤ◌, length, not, if◌then◌else◌, IfOk};
-ghost use Rattle.std.specs.Int.{int_max, int_min};
 ghost use Rattle.cgm_atom.specs.Bounds.{Bounds, IsBoxOf, IsProper, lower_of, upper_of};
 ghost use Rattle.cgm_atom.specs.Narrowing.{is_false_in, made_true};
 
@@ -75,17 +74,18 @@ impl BoxState {
         ensures after { self.new ≡ (if result then made_true self.old a else self.old) }
         ensures within { (limits : Bounds) → IsBoxOf limits self.old → IsBoxOf limits self.new }
     {
-        let at = a.var.0 as usize;
+        let lo = self.lo(a.var);
+        let hi = self.hi(a.var);
         if a.at_least {
-            if self.upper[at] < a.k {
+            if hi < a.k {
                 return false;
             }
-            self.lower[at] = self.lower[at].max(a.k);
+            self.lower[a.var.0 as usize] = lo.max(a.k);
         } else {
-            if a.k < self.lower[at] {
+            if a.k < lo {
                 return false;
             }
-            self.upper[at] = self.upper[at].min(a.k);
+            self.upper[a.var.0 as usize] = hi.min(a.k);
         }
         true
     }

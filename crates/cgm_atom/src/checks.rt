@@ -1,4 +1,13 @@
 //! Whether values are a solution.
+ghost use Rattle.std.specs.Prelude.{◌≡◌, ℕ, ◌+◌, ◌*◌, ◌^◌, ◌<◌, ◌≤◌, ◌↔◌, ◌&&◌, ◌+ℤ◌, ◌*ℤ◌, not, length, int_le, unsigned_abs, IsTrue, IsNone, IfSome};
+ghost use Rattle.std.specs.List.{position_from};
+ghost use Rattle.cgm_atom.specs.Atoms.{activity, atom_true, clause_true, guard_true, row_true};
+ghost use Rattle.cgm_atom.specs.Bounds.{IsWithin, value_of};
+ghost use Rattle.cgm_atom.specs.Instance.{IsSolution, first_violation, outside_from, var_count};
+ghost use Rattle.cgm_atom.specs.Limits.{AreTermsOf, IsClauseOf, IsRowOf, greatest_size, measure};
+
+use crate::constraints::{Atom, Clause, Row, Var};
+use crate::problems::Problem;
 
 /// The first thing that keeps values from being a solution.
 #[derive(Clone, Copy, Debug, PartialEq, Eq)]
@@ -11,4 +20,175 @@ pub enum Violated {
     Clause(u32),
     /// The row with this number isn't met.
     Row(u32),
+}
+
+/// Whether the values, one for each variable by its number, are a solution.
+pub fn satisfied(p: &Problem, values: &[i64]) -> bool
+    ensures { IsTrue result ↔ IsSolution p.now values.now }
+{
+    first_violated(p, values).is_none()
+}
+
+/// What keeps the values from being a solution: the count, then the first bound, clause or row by its number.
+pub fn first_violated(p: &Problem, values: &[i64]) -> Option<Violated>
+    ensures first { result ≡ first_violation p.now values.now }
+    ensures none { IsNone result ↔ IsSolution p.now values.now }
+{
+    if values.len() != p.vars() as usize {
+        return Some(Violated::Count);
+    }
+    match first_outside(p, values) {
+        Some(x) => return Some(Violated::Bound(x)),
+        None => {}
+    }
+    match first_false_clause(p, values) {
+        Some(n) => return Some(Violated::Clause(n)),
+        None => {}
+    }
+    match first_unmet_row(p, values) {
+        Some(n) => Some(Violated::Row(n)),
+        None => None,
+    }
+}
+
+fn first_outside(p: &Problem, values: &[i64]) -> Option<u32>
+    requires { length values.now ≡ var_count p.now }
+    ensures first { result ≡ outside_from p.now.bounds 0 values.now }
+    ensures none { IsNone result ↔ IsWithin p.now.bounds values.now }
+{
+    let _valid = p.objectives();
+    for (x, value) in values.iter().enumerate() {
+        let (lo, hi) = p.bounds(Var(x as u32));
+        if !is_between(lo, *value, hi) {
+            return Some(x as u32);
+        }
+    }
+    None
+}
+
+fn is_between(lo: i64, value: i64, hi: i64) -> bool
+    ensures { result ≡ (int_le lo value && int_le value hi) }
+{
+    lo <= value && value <= hi
+}
+
+fn first_false_clause(p: &Problem, values: &[i64]) -> Option<u32>
+    requires { length values.now ≡ var_count p.now }
+    ensures { result ≡ position_from (λ c. not (clause_true values.now c)) 0 p.now.clauses }
+{
+    let _valid = p.objectives();
+    for (n, clause) in p.clause_list().iter().enumerate() {
+        if !is_clause_true(clause, values) {
+            return Some(n as u32);
+        }
+    }
+    None
+}
+
+fn first_unmet_row(p: &Problem, values: &[i64]) -> Option<u32>
+    requires count { length values.now ≡ var_count p.now }
+    requires within { IsWithin p.now.bounds values.now }
+    ensures { result ≡ position_from (λ r. not (row_true values.now r)) 0 p.now.rows }
+{
+    let _valid = p.objectives();
+    for (n, row) in p.row_list().iter().enumerate() {
+        if !is_row_true(p, row, values) {
+            return Some(n as u32);
+        }
+    }
+    None
+}
+
+fn is_atom_true(a: Atom, values: &[i64]) -> bool
+    requires { a.var.0 < length values.now }
+    ensures { result ≡ atom_true values.now a }
+{
+    let value = value_at(values, a.var);
+    if a.at_least {
+        a.k <= value
+    } else {
+        value <= a.k
+    }
+}
+
+fn is_clause_true(c: &Clause, values: &[i64]) -> bool
+    requires { IsClauseOf (length values.now) c.now }
+    ensures { result ≡ clause_true values.now c.now }
+{
+    for atom in c.atoms.as_slice() {
+        if is_atom_true(*atom, values) {
+            return true;
+        }
+    }
+    false
+}
+
+fn is_row_true(p: &Problem, r: &Row, values: &[i64]) -> bool
+    requires known { IsRowOf p.now.bounds r.now }
+    requires count { length values.now ≡ var_count p.now }
+    requires within { IsWithin p.now.bounds values.now }
+    ensures { result ≡ row_true values.now r.now }
+{
+    if !is_guard_true(r.guard, values) {
+        return true;
+    }
+    r.least <= activity_of(p, r.terms.as_slice(), values)
+}
+
+fn is_guard_true(guard: Option<Atom>, values: &[i64]) -> bool
+    requires { IfSome guard (λ g. g.var.0 < length values.now) }
+    ensures { result ≡ guard_true values.now guard }
+{
+    match guard {
+        None => true,
+        Some(atom) => is_atom_true(atom, values),
+    }
+}
+
+// By the row's measure each sum on the way fits.
+fn activity_of(p: &Problem, terms: &[(i64, Var)], values: &[i64]) -> i64
+    requires known { AreTermsOf (var_count p.now) terms.now }
+    requires limit { measure p.now.bounds terms.now ≤ 4 * 10 ^ 18 }
+    requires count { length values.now ≡ var_count p.now }
+    requires within { IsWithin p.now.bounds values.now }
+    ensures { result ≡ activity values.now terms.now }
+{
+    let mut sum = 0;
+    for (coefficient, v) in terms {
+        sum = total(sum, term_value(p, *coefficient, *v, values));
+    }
+    sum
+}
+
+fn term_value(p: &Problem, coefficient: i64, v: Var, values: &[i64]) -> i64
+    requires known { v.0 < var_count p.now }
+    requires limit { unsigned_abs coefficient * greatest_size p.now.bounds v.0 ≤ 4 * 10 ^ 18 }
+    requires count { length values.now ≡ var_count p.now }
+    requires within { IsWithin p.now.bounds values.now }
+    ensures value { result ≡ coefficient *ℤ value_of values.now v.0 }
+    ensures size { unsigned_abs result ≤ unsigned_abs coefficient * greatest_size p.now.bounds v.0 }
+{
+    product(coefficient, value_at(values, v))
+}
+
+fn value_at(values: &[i64], v: Var) -> i64
+    requires { v.0 < length values.now }
+    ensures { result ≡ value_of values.now v.0 }
+{
+    values[v.0 as usize]
+}
+
+fn product(x: i64, y: i64) -> i64
+    requires { unsigned_abs x * unsigned_abs y ≤ 4 * 10 ^ 18 }
+    ensures value { result ≡ x *ℤ y }
+    ensures size { unsigned_abs result ≡ unsigned_abs x * unsigned_abs y }
+{
+    x * y
+}
+
+fn total(x: i64, y: i64) -> i64
+    requires { unsigned_abs x + unsigned_abs y ≤ 4 * 10 ^ 18 }
+    ensures { result ≡ x +ℤ y }
+{
+    x + y
 }

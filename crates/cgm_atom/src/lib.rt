@@ -12,7 +12,7 @@ mod problems;
 
 pub use boxes::BoxState;
 pub use builders::{BuildStop, ProblemBuilder};
-pub use checks::Violated;
+pub use checks::{Violated, first_violated, satisfied};
 pub use constraints::{Atom, Clause, Row, Var};
 pub use entries::{BadStep, Entry, Hint};
 pub use lists::Seq;

@@ -124,6 +124,18 @@ impl Problem {
         self.upper.as_slice()
     }
 
+    pub(crate) fn clause_list(&self) -> &[Clause]
+        ensures { result.now ≡ self.now.clauses }
+    {
+        self.clauses.as_slice()
+    }
+
+    pub(crate) fn row_list(&self) -> &[Row]
+        ensures { result.now ≡ self.now.rows }
+    {
+        self.rows.as_slice()
+    }
+
     pub(crate) fn empty(alloc: Global) -> Problem
         ensures { result ≡ empty_instance }
     {

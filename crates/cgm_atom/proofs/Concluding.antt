@@ -1,6 +1,6 @@
 -- Of an accepted, closed log the last best is least, and without a best there is no solution.
-use Rattle.std.proofs.Common.{◌≡◌, ℕ, zero, suc, ◌+◌, ◌<◌, ◌≤◌, Bool, true, false, cond, ◌||◌, List, [], ◌∷◌, ◌++◌, length, refl, sym, ap, ◌∙◌, subst, arith}
-use Rattle.std.specs.Prelude.{ℤ, IfSome, IsSomeAnd, IsTrue, ◌==◌, slice_get}
+use Rattle.std.proofs.Common.{◌≡◌, ℕ, zero, suc, ◌≤◌, Bool, true, false, ◌||◌, List, [], ◌∷◌, length, refl, sym, ap, ◌∙◌, subst, arith}
+use Rattle.std.specs.Prelude.{ℤ, IfSome, IsSomeAnd, slice_get}
 use Rattle.std.specs.declared.option.Option.{Option}
 use Rattle.std.specs.declared.option.Option.TheVariants.{Some, None}
 use Rattle.std.specs.List.{AllByRecursion, last_or, list_any}
@@ -11,7 +11,8 @@ use Rattle.cgm_atom.specs.declared.constraints.Clause.{Clause}
 use Rattle.cgm_atom.specs.declared.entries.Entry.{Entry}
 use Rattle.cgm_atom.specs.declared.entries.Entry.TheVariants.{Best, Lemma}
 use Rattle.cgm_atom.specs.Acceptance.{IsAccepted, IsClosed}
-use Rattle.cgm_atom.specs.Atoms.{atom_true, clause_true}
+use Rattle.cgm_atom.specs.Atoms.{atom_true}
+use Rattle.cgm_atom.specs.Bounds.{IsProper}
 use Rattle.cgm_atom.specs.Entailment.{Follows, IsUnderBound, best_values}
 use Rattle.cgm_atom.specs.Instance.{Instance, IsSolution, vector}
 use Rattle.cgm_atom.specs.Laws.{IsConcluded, IsEntailed}
@@ -85,9 +86,9 @@ concluded_by_bests p log (suc bound) [] e accepted le refuted solutions = absurd
 concluded_by_bests p log bound (x ∷ xs) e accepted le refuted solutions =
     concluded_at p log bound (length xs) (last_or (Some x) xs) (ap (λ (bests : List (List ℤ)). slice_get bests (length xs)) e ∙ last_at x xs) (some_last x xs) accepted le refuted solutions
 
-pub closed_log_is_least : (p : Instance) (log : List Entry) → length p.bounds.upper ≡ length p.bounds.lower → IsAccepted p log → IsClosed log → IsConcluded p (last_best (state_of log))
+pub closed_log_is_least : (p : Instance) (log : List Entry) → IsProper p.bounds → IsAccepted p log → IsClosed log → IsConcluded p (last_best (state_of log))
 unfolding state_of
-closed_log_is_least p log same accepted closed =
+closed_log_is_least p log proper accepted closed =
     let closing = closing_bound p log empty_state log refl (all_entailed p log accepted) closed in
-    let concluded = concluded_by_bests p log closing.0 (best_values log) refl accepted closing.1 closing.2 (all_bests_are_solutions p log same accepted) in
+    let concluded = concluded_by_bests p log closing.0 (best_values log) refl accepted closing.1 closing.2 (all_bests_are_solutions p log proper accepted) in
     subst (IsConcluded p) (sym (last_best_of_log log)) concluded

@@ -1,6 +1,6 @@
 -- A vector is less than another exactly where each clause of the cut holds.
-use Rattle.std.proofs.Common.{◌≡◌, ℕ, zero, suc, ◌+◌, ◌<◌, ◌≤◌, Bool, true, false, cond, ◌||◌, List, [], ◌∷◌, map, length, refl, sym, ap, ◌∙◌, inl, inr, arith}
-use Rattle.std.specs.Prelude.{ℤ, pos, ◌-ℤ◌, ◌≤ℤ◌, ◌<ℤ◌, ◌↔◌, ◌⊎◌, int_le, IsTrue}
+use Rattle.std.proofs.Common.{◌≡◌, Bool, true, false, ◌||◌, List, [], ◌∷◌, map, refl, sym, inl, inr, arith}
+use Rattle.std.specs.Prelude.{ℤ, pos, ◌-ℤ◌, ◌<ℤ◌, ◌↔◌, ◌⊎◌, int_le, IsTrue}
 use Rattle.std.specs.List.{All, AllByRecursion}
 use Rattle.std.proofs.lemmas.Bool.{false≢true, or_left, or_right}
 use Rattle.std.proofs.lemmas.Int.{ints}
@@ -12,7 +12,7 @@ use Rattle.cgm_atom.specs.Bounds.{value_of}
 use Rattle.cgm_atom.specs.Cut.{cut, with_lesser}
 use Rattle.cgm_atom.specs.Instance.{values_at}
 use Rattle.cgm_atom.specs.Order.{IsLess}
-use Rattle.cgm_atom.proofs.SignedSteps.{le_from_true, lt_from_false, le_is_true}
+use Rattle.cgm_atom.proofs.SignedSteps.{le_is_true}
 use borrow.Author.Differences.{same_in}
 
 -- each clause holds

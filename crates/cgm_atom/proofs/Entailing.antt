@@ -1,28 +1,26 @@
 -- Each lemma of an accepted log follows under its bound.
-use Rattle.std.proofs.Common.{◌≡◌, ℕ, zero, suc, ◌+◌, ◌<◌, ◌≤◌, max, Bool, true, false, not, cond, ◌||◌, List, [], ◌∷◌, ◌++◌, length, refl, sym, ap, ◌∙◌, subst, arith, append_assoc}
-use Rattle.std.specs.Prelude.{ℤ, IfSome, IsSomeAnd, IsTrue, ◌==◌, is_none, slice_get}
+use Rattle.std.proofs.Common.{◌≡◌, ℕ, zero, suc, ◌+◌, ◌<◌, ◌≤◌, Bool, true, false, cond, List, [], ◌∷◌, ◌++◌, length, refl, sym, ap, ◌∙◌, subst, arith, append_assoc}
+use Rattle.std.specs.Prelude.{ℤ, IfSome, IsSomeAnd, IsTrue, is_none, slice_get}
 use Rattle.std.specs.declared.option.Option.{Option}
 use Rattle.std.specs.declared.option.Option.TheVariants.{Some, None}
 use Rattle.std.specs.List.{All, AllByRecursion, position_from}
 use Rattle.std.specs.Option.{option_and_then, option_flatten, option_map, option_map_or}
 use Rattle.std.proofs.lemmas.Bool.{false≢true, eqb-true}
-use Rattle.std.proofs.lemmas.List.{append-nil, length_push}
+use Rattle.std.proofs.lemmas.List.{length_push}
 use Rattle.std.proofs.lemmas.List.Elements.{All-from_recursion, recursion_from_All}
 use Rattle.cgm_atom.specs.declared.constraints.Clause.{Clause}
-use Rattle.cgm_atom.specs.declared.constraints.Row.{Row}
-use Rattle.cgm_atom.specs.declared.entries.BadStep.{BadStep}
 use Rattle.cgm_atom.specs.declared.entries.BadStep.TheVariants as fault
 use Rattle.cgm_atom.specs.declared.entries.Entry.{Entry}
 use Rattle.cgm_atom.specs.declared.entries.Entry.TheVariants.{Best, Lemma}
 use Rattle.cgm_atom.specs.declared.entries.Hint.{Hint}
 use Rattle.cgm_atom.specs.declared.entries.Hint.TheVariants as hint
-use Rattle.cgm_atom.specs.Acceptance.{IsAccepted, IsAcceptedAfter, faults, first_fault, is_refuted}
+use Rattle.cgm_atom.specs.Acceptance.{IsAccepted, IsAcceptedAfter, faults, first_fault}
 use Rattle.cgm_atom.specs.Atoms.{clause_true, row_true}
 use Rattle.cgm_atom.specs.Cut.{cut}
 use Rattle.cgm_atom.specs.Entailment.{Follows, IsUnderBound, best_values}
 use Rattle.cgm_atom.specs.Instance.{Instance, IsSolution, vector}
 use Rattle.cgm_atom.specs.Laws.{IsEntailed}
-use Rattle.cgm_atom.specs.LogState.{Constraint, of_clause, of_row, LogState, carried, empty_state, greatest_carried, lemma_bound, lemma_clause, live_at, named, state_with}
+use Rattle.cgm_atom.specs.LogState.{of_clause, of_row, LogState, carried, empty_state, greatest_carried, lemma_bound, lemma_clause, live_at, named, state_with}
 use Rattle.cgm_atom.specs.Order.{IsLess}
 use Rattle.cgm_atom.proofs.Cutting.{cut_of_less}
 use Rattle.cgm_atom.proofs.LaterBounds.{AreNone, none_fails, passes, under_earlier_bound}
@@ -136,7 +134,7 @@ none_found_step P true i rest h next = absurd (cc)
 none_found_step P false i rest h next = (refl, next h)
 
 -- no item passes the test
-pub none_found : {X : Type 0} (test : X → Bool) (i : ℕ) (xs : List X) → position_from test i xs ≡ None → AllByRecursion (λ x. test x ≡ false) xs
+none_found : {X : Type 0} (test : X → Bool) (i : ℕ) (xs : List X) → position_from test i xs ≡ None → AllByRecursion (λ x. test x ≡ false) xs
 none_found test i [] h = tt
 none_found test i (x ∷ xs) h =
     none_found_step (AllByRecursion (λ y. test y ≡ false) xs) (test x) i (position_from test (i + 1) xs) h (none_found test (i + 1) xs)

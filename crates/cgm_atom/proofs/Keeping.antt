@@ -1,6 +1,6 @@
 -- Narrowing keeps the values of the box that make the atom or clause true, or meet the row.
-use Rattle.std.proofs.Common.{◌≡◌, ℕ, zero, suc, ◌+◌, ◌-◌, ◌*◌, ◌/◌, ◌<◌, ◌≤◌, Bool, true, false, not, cond, ◌||◌, List, [], ◌∷◌, length, refl, sym, ap, ◌∙◌, arith}
-use Rattle.std.specs.Prelude.{ℤ, pos, negsuc, ◌+ℤ◌, ◌-ℤ◌, ◌*ℤ◌, ◌≤ℤ◌, ◌<ℤ◌, int_le, int_lt, unsigned_abs, slice_set, IsTrue, IsSomeAnd, if◌then◌else◌}
+use Rattle.std.proofs.Common.{◌≡◌, ℕ, zero, suc, ◌+◌, ◌*◌, ◌/◌, ◌≤◌, Bool, true, false, not, cond, ◌||◌, List, [], ◌∷◌, refl, sym, ◌∙◌, arith}
+use Rattle.std.specs.Prelude.{ℤ, pos, negsuc, ◌+ℤ◌, ◌-ℤ◌, ◌*ℤ◌, ◌≤ℤ◌, int_le, int_lt, unsigned_abs, slice_set, IsTrue, if◌then◌else◌}
 use Rattle.std.specs.declared.option.Option.{Option}
 use Rattle.std.specs.declared.option.Option.TheVariants.{Some, None}
 use Rattle.std.specs.Int.{int_max, int_min}
@@ -17,7 +17,7 @@ use Rattle.cgm_atom.specs.Bounds.{Bounds, IsWithin, lower_of, upper_of, value_of
 use Rattle.cgm_atom.specs.Laws.{IsLeft}
 use Rattle.cgm_atom.specs.Narrowing.{all_assumed, greatest_activity, greatest_term, is_claimed_in, is_false_in, is_true_in, left_by_atoms, left_by_clause, left_by_met, left_by_row, left_by_unmet, made_true, tightened_by_term, tightened_by_terms}
 use Rattle.cgm_atom.proofs.SignedSteps.{le_from_true, le_is_false, le_is_true, lt_is_false, scaled_up, scaled_down, quotient_at_most, sum_at_most}
-use borrow.Author.Differences.{up, down, le_out, lt_out, le-true, le-false, lt-true, lt-false}
+use borrow.Author.Differences.{up, down}
 
 -- ---- one bound set
 

@@ -1,20 +1,19 @@
 -- In an accepted log each best is less than the bests before it, so what follows under a bound follows under later ones.
-use Rattle.std.proofs.Common.{◌≡◌, ℕ, zero, suc, ◌+◌, ◌<◌, ◌≤◌, Bool, true, false, cond, ◌||◌, ◌&&◌, List, [], ◌∷◌, ◌++◌, length, refl, sym, ap, ◌∙◌, inl, inr, subst, arith}
-use Rattle.std.specs.Prelude.{ℤ, ◌≤ℤ◌, ◌<ℤ◌, ◌⊎◌, int_le, int_lt, slice_get, IsSomeAnd, IsTrue}
+use Rattle.std.proofs.Common.{◌≡◌, ℕ, zero, suc, ◌≤◌, Bool, true, false, ◌||◌, ◌&&◌, List, [], ◌∷◌, ◌++◌, refl, sym, ◌∙◌, inl, inr, subst, arith}
+use Rattle.std.specs.Prelude.{ℤ, ◌<ℤ◌, ◌⊎◌, int_le, int_lt, slice_get, IsSomeAnd}
 use Rattle.std.specs.declared.option.Option.{Option}
 use Rattle.std.specs.declared.option.Option.TheVariants.{Some, None}
 use Rattle.std.specs.Option.{option_map, option_flatten}
 use Rattle.std.specs.List.{last_or}
-use Rattle.std.proofs.lemmas.Bool.{false≢true, or_cases, and_parts}
+use Rattle.std.proofs.lemmas.Bool.{false≢true, and_parts}
 use Rattle.std.proofs.lemmas.Int.{ints}
 use Rattle.cgm_atom.specs.declared.constraints.Clause.{Clause}
-use Rattle.cgm_atom.specs.declared.entries.BadStep.{BadStep}
 use Rattle.cgm_atom.specs.declared.entries.BadStep.TheVariants as fault
 use Rattle.cgm_atom.specs.declared.entries.Entry.{Entry}
 use Rattle.cgm_atom.specs.declared.entries.Entry.TheVariants.{Best, Lemma}
 use Rattle.cgm_atom.specs.Acceptance.{IsAccepted, IsAcceptedAfter, faults, first_fault}
 use Rattle.cgm_atom.specs.Entailment.{Follows, IsUnderBound, best_values}
-use Rattle.cgm_atom.specs.Instance.{Instance, IsSolution, fault_unless, first_some, vector}
+use Rattle.cgm_atom.specs.Instance.{Instance, fault_unless, first_some, vector}
 use Rattle.cgm_atom.specs.LogState.{LogState, empty_state, last_best, state_with}
 use Rattle.cgm_atom.specs.Order.{IsBelow, IsLess, is_below, is_less}
 use borrow.Author.Differences.{same_in}

@@ -1,6 +1,6 @@
 -- Narrowing gives a smaller box, and of a smaller box a smaller one or conflict.
-use Rattle.std.proofs.Common.{◌≡◌, ℕ, zero, suc, ◌+◌, ◌*◌, ◌/◌, ◌<◌, ◌≤◌, Bool, true, false, not, cond, List, [], ◌∷◌, length, refl, sym, ◌∙◌, ◌⊎◌, inl, inr, subst, arith}
-use Rattle.std.specs.Prelude.{ℤ, pos, negsuc, ◌+ℤ◌, ◌-ℤ◌, ◌*ℤ◌, ◌≤ℤ◌, ◌<ℤ◌, int_le, int_lt, unsigned_abs, slice_set, if◌then◌else◌}
+use Rattle.std.proofs.Common.{◌≡◌, ℕ, zero, suc, ◌+◌, ◌*◌, ◌/◌, ◌≤◌, Bool, true, false, not, cond, List, [], ◌∷◌, length, refl, sym, ◌∙◌, ◌⊎◌, inl, inr, subst, arith}
+use Rattle.std.specs.Prelude.{ℤ, pos, negsuc, ◌+ℤ◌, ◌-ℤ◌, ◌*ℤ◌, ◌≤ℤ◌, int_le, int_lt, unsigned_abs, slice_set, if◌then◌else◌}
 use Rattle.std.specs.declared.option.Option.{Option}
 use Rattle.std.specs.declared.option.Option.TheVariants.{Some, None}
 use Rattle.std.specs.Int.{int_max, int_min}
@@ -15,13 +15,13 @@ use Rattle.cgm_atom.specs.declared.constraints.Row.{Row}
 use Rattle.cgm_atom.specs.declared.constraints.Var.{Var}
 use Rattle.cgm_atom.specs.declared.entries.Hint.{Hint}
 use Rattle.cgm_atom.specs.Atoms.{negation}
-use Rattle.cgm_atom.specs.Bounds.{Bounds, IsInside, lower_of, upper_of, value_of}
+use Rattle.cgm_atom.specs.Bounds.{Bounds, lower_of, upper_of, value_of}
 use Rattle.cgm_atom.specs.Instance.{Instance}
 use Rattle.cgm_atom.specs.Laws.{IsLeftSmaller, IsSmaller}
 use Rattle.cgm_atom.specs.LogState.{Constraint, of_clause, of_row, LogState, all_narrowed, left_by, left_by_named, named, narrowed}
 use Rattle.cgm_atom.specs.Narrowing.{all_assumed, greatest_activity, greatest_term, is_claimed_in, is_false_in, is_true_in, left_by_atoms, left_by_clause, left_by_met, left_by_row, left_by_unmet, made_true, tightened_by_term, tightened_by_terms}
 use Rattle.cgm_atom.proofs.Keeping.{each_after_set, greatest_term-pos}
-use Rattle.cgm_atom.proofs.SignedSteps.{le_is_true, lt_is_true, lt_is_false, quotient_at_most, scaled_up, scaled_down, sum_at_most}
+use Rattle.cgm_atom.proofs.SignedSteps.{le_is_true, lt_is_true, quotient_at_most, scaled_up, scaled_down, sum_at_most}
 use borrow.Author.Differences.{up, down}
 
 -- ---- the order of boxes

@@ -1,5 +1,5 @@
 -- Laws over the definitions: on narrowing, cuts, bounds of lemmas, and closed logs.
-use Rattle.std.specs.Prelude.{◌≡◌, ◌↔◌, ℕ, ◌≤◌, ℤ, List, slice_get, length, Option, Some, None, IsTrue, IsSomeAnd}
+use Rattle.std.specs.Prelude.{◌≡◌, ◌↔◌, ℕ, ◌≤◌, ℤ, List, length, Option, Some, None, IsTrue, IsSomeAnd}
 use Rattle.std.specs.List.{All}
 use Rattle.cgm_atom.specs.declared.constraints.Atom.{Atom}
 use Rattle.cgm_atom.specs.declared.constraints.Clause.{Clause}
@@ -10,7 +10,7 @@ use Rattle.cgm_atom.specs.declared.entries.Entry.TheVariants.{Best, Lemma}
 use Rattle.cgm_atom.specs.declared.entries.Hint.{Hint}
 use Rattle.cgm_atom.specs.Acceptance.{IsAccepted, IsClosed}
 use Rattle.cgm_atom.specs.Atoms.{atom_true, clause_true, row_true}
-use Rattle.cgm_atom.specs.Bounds.{Bounds, IsWithin, IsInside}
+use Rattle.cgm_atom.specs.Bounds.{Bounds, IsInside, IsProper, IsWithin}
 use Rattle.cgm_atom.specs.Cut.{cut}
 use Rattle.cgm_atom.specs.Entailment.{Follows, best_values}
 use Rattle.cgm_atom.specs.Instance.{Instance, HasNoSolution, IsLeast, IsSolution, values_at}
@@ -115,7 +115,7 @@ LemmasFollow = (p : Instance) (log : List Entry) → IsAccepted p log → All (I
 abbrev pub BestsAreSolutions : Type 0
 BestsAreSolutions =
     (p : Instance) (log : List Entry)
-    → length p.bounds.upper ≡ length p.bounds.lower
+    → IsProper p.bounds
     → IsAccepted p log
     → All (IsSolution p) (best_values log)
 
@@ -127,7 +127,7 @@ IsConcluded p (Some values) = IsSolution p values × IsLeast p values
 abbrev pub ClosedLogIsLeast : Type 0
 ClosedLogIsLeast =
     (p : Instance) (log : List Entry)
-    → length p.bounds.upper ≡ length p.bounds.lower
+    → IsProper p.bounds
     → IsAccepted p log
     → IsClosed log
     → IsConcluded p (last_best (state_of log))

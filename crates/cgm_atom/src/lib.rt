@@ -6,7 +6,7 @@ mod builders;
 mod checks;
 mod constraints;
 mod entries;
-mod laws;
+pub mod laws;
 mod lists;
 mod problems;
 

@@ -1,3 +1,4 @@
+pub mod Appending
 pub mod Assuming
 pub mod Concluding
 pub mod Cutting

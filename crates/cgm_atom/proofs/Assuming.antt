@@ -1,13 +1,9 @@
 -- Making an atom true that isn't false keeps a box in order and within its limits.
-use Rattle.std.proofs.Common.{◌≡◌, ℕ, zero, suc, Bool, true, false, not, cond, List, [], ◌∷◌, length, refl, ap, subst, sym, arith, rules, length-set}
-use Rattle.std.specs.Prelude.{ℤ, pos, ◌≤ℤ◌, int_lt, slice_set, if◌then◌else◌}
+use Rattle.std.proofs.Common.{◌≡◌, ℕ, zero, suc, Bool, true, false, cond, List, [], ◌∷◌, refl, ap, subst, sym, arith, rules, length-set, w64, to_z, of_z}
+use Rattle.std.specs.Prelude.{ℤ, ◌≤ℤ◌, FitsSigned, int_lt, slice_set}
 use Rattle.std.specs.Int.{int_max, int_min}
 use Rattle.std.proofs.lemmas.Int.{ints, clamps, to_z-of_z}
-use mir.Syntax.{w64}
-use mir.Val.{SFits, to_z, of_z}
-use Rattle.cgm_atom.specs.declared.constraints.Atom.{Atom}
-use Rattle.cgm_atom.specs.Bounds.{Bounds, IsBoxOf, IsInside, IsProper, value_of, lower_of, upper_of}
-use Rattle.cgm_atom.specs.Narrowing.{is_false_in, made_true}
+use Rattle.cgm_atom.specs.Bounds.{Bounds, IsBoxOf, IsProper, value_of, lower_of, upper_of}
 
 -- a value after a write is the old one, or the written one at its place
 pub value_of-set : (P : ℤ → Type 0) (xs : List ℤ) (i x : ℕ) (v : ℤ) → P (value_of xs x) → (x ≡ i → P v) → P (value_of (slice_set xs i v) x)
@@ -33,14 +29,22 @@ int_min-le : (a b c : ℤ) → a ≤ℤ c → int_min a b ≤ℤ c
 int_min-le a b c h = omega (arith, ints, clamps)
 
 -- what the code's `x.max(y)`, `x.min(y)` and `x < y` give, of values that fit
-pub read_max : (r x y z : ℤ) → SFits w64 r → SFits w64 x → SFits w64 y → r ≡ int_max (to_z w64 (of_z w64 x)) (to_z w64 (of_z w64 y)) → x ≡ z → to_z w64 (of_z w64 r) ≡ int_max z y
+pub read_max : (r x y z : ℤ) → FitsSigned w64 r → FitsSigned w64 x → FitsSigned w64 y → r ≡ int_max (to_z w64 (of_z w64 x)) (to_z w64 (of_z w64 y)) → x ≡ z → to_z w64 (of_z w64 r) ≡ int_max z y
 read_max r x y z fr fx fy h e = rw (to_z-of_z w64 r fr, h, to_z-of_z w64 x fx, to_z-of_z w64 y fy, e) refl
 
-pub read_min : (r x y z : ℤ) → SFits w64 r → SFits w64 x → SFits w64 y → r ≡ int_min (to_z w64 (of_z w64 x)) (to_z w64 (of_z w64 y)) → x ≡ z → to_z w64 (of_z w64 r) ≡ int_min z y
+pub read_min : (r x y z : ℤ) → FitsSigned w64 r → FitsSigned w64 x → FitsSigned w64 y → r ≡ int_min (to_z w64 (of_z w64 x)) (to_z w64 (of_z w64 y)) → x ≡ z → to_z w64 (of_z w64 r) ≡ int_min z y
 read_min r x y z fr fx fy h e = rw (to_z-of_z w64 r fr, h, to_z-of_z w64 x fx, to_z-of_z w64 y fy, e) refl
 
-pub read_not_less : (x y : ℤ) → SFits w64 x → SFits w64 y → int_lt (to_z w64 (of_z w64 x)) (to_z w64 (of_z w64 y)) ≡ false → y ≤ℤ x
-read_not_less x y fx fy h = not_less x y (rw (to_z-of_z w64 x fx, to_z-of_z w64 y fy) at h)
+-- what a test of the code says that found an atom not false
+pub read_not_above : (up : Bool) (k hi z : ℤ) (other : Bool) → FitsSigned w64 hi → hi ≡ z → up ≡ true → false ≡ cond up (int_lt (to_z w64 (of_z w64 hi)) k) other → k ≤ℤ z
+read_not_above true k hi z other fits e up h =
+    subst (λ (u : ℤ). k ≤ℤ u) e (not_less hi k (rw (to_z-of_z w64 hi fits) at (sym h)))
+read_not_above false k hi z other fits e up h = absurd (cc)
+
+pub read_not_below : (up : Bool) (k lo z : ℤ) (other : Bool) → FitsSigned w64 lo → lo ≡ z → up ≡ false → false ≡ cond up other (int_lt k (to_z w64 (of_z w64 lo))) → z ≤ℤ k
+read_not_below true k lo z other fits e up h = absurd (cc)
+read_not_below false k lo z other fits e up h =
+    subst (λ (l : ℤ). l ≤ℤ k) e (not_less k lo (rw (to_z-of_z w64 lo fits) at (sym h)))
 
 abbrev pub raised : Bounds → ℕ → ℤ → Bounds
 raised b x k = record b { lower = slice_set b.lower x (int_max (lower_of b x) k) }
@@ -86,3 +90,9 @@ box_reduced limits b i k h box = record {
   inside = λ x. ((box.inside x).0, le_trans (upper_of (reduced b i k) x) (upper_of b x) (upper_of limits x) (reduced_below b i k x) (box.inside x).1);
   ordered = reduced_ordered b i k box.ordered h;
 }
+
+pub IsProper-raised : (b : Bounds) (i : ℕ) (k : ℤ) → k ≤ℤ upper_of b i → IsProper b → IsProper (raised b i k)
+IsProper-raised b i k h proper = record { same_count = rw length-set proper.same_count; ordered = raised_ordered b i k proper.ordered h }
+
+pub IsProper-reduced : (b : Bounds) (i : ℕ) (k : ℤ) → lower_of b i ≤ℤ k → IsProper b → IsProper (reduced b i k)
+IsProper-reduced b i k h proper = record { same_count = rw length-set proper.same_count; ordered = reduced_ordered b i k proper.ordered h }

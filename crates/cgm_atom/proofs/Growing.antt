@@ -1,6 +1,6 @@
 -- A problem with one more variable is well formed.
-use Rattle.std.proofs.Common.{◌≡◌, ℕ, zero, suc, ◌+◌, ◌-◌, ◌*◌, ◌^◌, ◌<◌, ◌≤◌, List, [], ◌∷◌, ◌++◌, length, get_or, max, refl, ap, arith, rules, length-append}
-use Rattle.std.specs.Prelude.{ℤ, pos, ◌≤ℤ◌, unsigned_abs, IfSome}
+use Rattle.std.proofs.Common.{◌≡◌, ℕ, zero, suc, ◌+◌, ◌-◌, ◌^◌, ◌<◌, ◌≤◌, List, [], ◌∷◌, ◌++◌, length, get_or, refl, arith, rules, length-append}
+use Rattle.std.specs.Prelude.{ℤ, pos, ◌≤ℤ◌, IfSome}
 use Rattle.std.specs.declared.option.Option.{Option}
 use Rattle.std.specs.declared.option.Option.TheVariants.{Some, None}
 use Rattle.std.proofs.lemmas.List.{get_or_append_left}
@@ -8,10 +8,10 @@ use Rattle.cgm_atom.specs.declared.constraints.Atom.{Atom}
 use Rattle.cgm_atom.specs.declared.constraints.Clause.{Clause}
 use Rattle.cgm_atom.specs.declared.constraints.Row.{Row}
 use Rattle.cgm_atom.specs.declared.constraints.Var.{Var}
-use Rattle.cgm_atom.specs.Bounds.{Bounds, IsProper, value_of, lower_of, upper_of}
+use Rattle.cgm_atom.specs.Bounds.{Bounds, value_of, lower_of, upper_of}
 use Rattle.cgm_atom.specs.Building.{with_var}
 use Rattle.cgm_atom.specs.Instance.{Instance, var_count}
-use Rattle.cgm_atom.specs.Limits.{IsBound, IsAtomOf, IsClauseOf, IsAbsent, AreTermsOf, IsRowOf, IsWellFormed, greatest_size, measure}
+use Rattle.cgm_atom.specs.Limits.{IsBound, IsAtomOf, IsClauseOf, AreTermsOf, IsRowOf, IsWellFormed, greatest_size, measure}
 
 -- what holds of the two values at each place holds still after one more of each
 each_of_both_pushed : (P : ℤ → ℤ → Type 0) (ls us : List ℤ) (l u : ℤ) → P (pos 0) (pos 0) → length us ≡ length ls → ((x : ℕ) → P (value_of ls x) (value_of us x)) → P l u → (x : ℕ) → P (value_of (ls ++ l ∷ []) x) (value_of (us ++ u ∷ []) x)

@@ -1,5 +1,5 @@
 -- Nothing is violated exactly where values are a solution.
-use Rattle.std.proofs.Common.{◌≡◌, ℕ, zero, suc, ◌+◌, ◌<◌, ◌≤◌, ◌⊎◌, ◌↔◌, Bool, true, false, not, cond, ◌&&◌, List, [], ◌∷◌, length, get_or, refl, ap, sym, ◌∙◌, subst, arith, rules, inl, inr, zero-add}
+use Rattle.std.proofs.Common.{◌≡◌, ℕ, zero, suc, ◌+◌, ◌<◌, ◌≤◌, ◌⊎◌, ◌↔◌, Bool, true, false, not, cond, ◌&&◌, List, [], ◌∷◌, length, refl, ap, sym, ◌∙◌, subst, arith, inl, inr, zero-add}
 use Rattle.std.specs.Prelude.{ℤ, pos, ◌≤ℤ◌, int_le, ◌==◌, if◌then◌else◌, is_some, IsTrue, IsNone, Option, Some, None}
 use Rattle.std.specs.List.{All, position_from}
 use Rattle.std.specs.Option.{option_map}
@@ -10,7 +10,7 @@ use Rattle.cgm_atom.specs.declared.checks.Violated.{Violated}
 use Rattle.cgm_atom.specs.declared.checks.Violated.TheVariants as violated
 use Rattle.cgm_atom.specs.Atoms.{clause_true, row_true}
 use Rattle.cgm_atom.specs.Bounds.{Bounds, IsProper, IsWithin, lower_of, upper_of, value_of}
-use Rattle.cgm_atom.specs.Instance.{Instance, IsSolution, fault_unless, first_some, first_violation, outside_from, var_count, violations}
+use Rattle.cgm_atom.specs.Instance.{Instance, IsSolution, fault_unless, first_some, first_violation, outside_from, var_count}
 
 -- ---- the first of the faults
 

@@ -1,11 +1,11 @@
 -- A sum over a row's terms, one term at a time, stays within the row's measure.
-use Rattle.std.proofs.Common.{◌≡◌, ℕ, suc, ◌+◌, ◌*◌, ◌<◌, ◌≤◌, List, ◌∷◌, length, get_or, drop, max, sym, ◌∙◌, arith, add-one, drop-cons}
-use Rattle.std.specs.Prelude.{ℤ, pos, ◌+ℤ◌, ◌*ℤ◌, ◌≤ℤ◌, unsigned_abs}
+use Rattle.std.proofs.Common.{◌≡◌, ℕ, ◌+◌, ◌*◌, ◌<◌, ◌≤◌, List, ◌∷◌, length, get_or, drop, max, sym, ◌∙◌, arith, add-one, drop-cons}
+use Rattle.std.specs.Prelude.{ℤ, ◌+ℤ◌, ◌*ℤ◌, ◌≤ℤ◌, unsigned_abs}
 use Rattle.std.proofs.lemmas.Int.{ints}
 use Rattle.std.proofs.Math.Nat.{mul-le-mul_left}
 use Rattle.cgm_atom.specs.declared.constraints.Var.{Var}
 use Rattle.cgm_atom.specs.Atoms.{activity}
-use Rattle.cgm_atom.specs.Bounds.{Bounds, value_of, lower_of, upper_of}
+use Rattle.cgm_atom.specs.Bounds.{Bounds, value_of}
 use Rattle.cgm_atom.specs.Limits.{AreTermsOf, greatest_size, measure}
 
 -- what lies between two numbers is no larger than the larger of them

@@ -1,5 +1,5 @@
 //! Boxes.
-ghost use Rattle.std.specs.Prelude.{◌≡◌, ℕ, ◌<◌, ◌≤ℤ◌, length, not, if◌then◌else◌, IfOk};
+ghost use Rattle.std.specs.Prelude.{◌≡◌, ℕ, ◌<◌, ◌≤ℤ◌, cond, length, not, if◌then◌else◌, int_lt, IfOk};
 ghost use Rattle.cgm_atom.specs.Bounds.{Bounds, IsBoxOf, IsProper, lower_of, upper_of};
 ghost use Rattle.cgm_atom.specs.Narrowing.{is_false_in, made_true};
 
@@ -76,17 +76,20 @@ impl BoxState {
     {
         let lo = self.lo(a.var);
         let hi = self.hi(a.var);
+        if is_false_between(a, lo, hi) {
+            return false;
+        }
         if a.at_least {
-            if hi < a.k {
-                return false;
-            }
             self.lower[a.var.0 as usize] = lo.max(a.k);
         } else {
-            if a.k < lo {
-                return false;
-            }
             self.upper[a.var.0 as usize] = hi.min(a.k);
         }
         true
     }
+}
+
+fn is_false_between(a: Atom, lo: i64, hi: i64) -> bool
+    ensures { result ≡ cond a.at_least (int_lt hi a.k) (int_lt a.k lo) }
+{
+    if a.at_least { hi < a.k } else { a.k < lo }
 }

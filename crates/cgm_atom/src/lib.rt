@@ -18,3 +18,15 @@ pub use entries::{BadStep, Entry, Hint};
 pub use lists::Seq;
 pub use problems::Problem;
 pub use std::alloc::AllocError as OutOfMemory;
+use std::marker::{Send, Sync};
+
+// A problem and an entry can be moved to a thread, and a problem can be shared between threads.
+fn cross_threads(p: &Problem, e: &Entry) {
+    can_be_moved(p);
+    can_be_moved(e);
+    can_be_shared(p);
+}
+
+fn can_be_moved<T: Send>(_: &T) {}
+
+fn can_be_shared<T: Sync>(_: &T) {}

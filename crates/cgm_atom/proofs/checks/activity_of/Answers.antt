@@ -1,4 +1,4 @@
-use Rattle.std.proofs.Common.{rules, ◌≡◌, ◌+◌, get_or, w64, to_z, of_z, ℤ, pos, ◌+ℤ◌}
+use Rattle.std.proofs.Common.{rules, ◌≡◌, get_or, w64, to_z, of_z, ℤ, pos, ◌+ℤ◌}
 use Rattle.std.specs.Prelude.{FitsSigned}
 use Rattle.std.proofs.lemmas.Int.{to_z-of_z}
 use Rattle.cgm_atom.specs.declared.constraints.Var.{Var}

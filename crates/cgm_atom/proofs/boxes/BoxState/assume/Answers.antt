@@ -1,32 +1,48 @@
-use Rattle.std.proofs.Common.{◌≡◌, ◌≤ℤ◌, ℤ, w64, to_z, of_z, rules, subst}
+use Rattle.std.proofs.Common.{◌≡◌, ◌≤ℤ◌, w64, to_z, of_z, rules}
 use Rattle.std.specs.Int.{int_max, int_min}
 use Rattle.cgm_atom.specs.Bounds.{lower_of, upper_of}
 use Rattle.cgm_atom.specs.Parts.{box_bounds}
-use Rattle.cgm_atom.proofs.Assuming.{box_raised, box_reduced, read_max, read_min, read_not_less}
+use Rattle.cgm_atom.proofs.Assuming.{IsProper-raised, IsProper-reduced, box_raised, box_reduced, read_max, read_min, read_not_above, read_not_below}
 use Rattle.cgm_atom.proofs.boxes.BoxState.assume.Goals as goal
 
-pub returns-else-hi-a-clause-within : goal.returns-else-hi-a-clause-within
-returns-else-hi-a-clause-within c = λ limits h.
+-- the least value that is written, and that it is no greater than the greatest
+raised_value : (c : goal.After-self-1) → to_z w64 (of_z w64 c.max.result) ≡ int_max (lower_of (box_bounds c.self.inside) c.args.a.var.0) c.args.a.k
+raised_value c =
     let b = box_bounds c.self.inside in
     let x = c.args.a.var.0 in
-    let k = c.args.a.k in
     let low : c.lo-lo.result ≡ lower_of b x = rw (← c.self.view_is) at c.lo-lo.ensures.value in
-    let high : c.hi-hi.result ≡ upper_of b x = rw (← c.self.view_is) at c.hi-hi.ensures.value in
-    let value : to_z w64 (of_z w64 c.max.result) ≡ int_max (lower_of b x) k =
-        read_max c.max.result c.lo-lo.result k (lower_of b x) (search rules) (search rules) (search rules) c.max.ensures.value low in
-    let below : k ≤ℤ c.hi-hi.result = read_not_less c.hi-hi.result k (search rules) (search rules) c.if-hi-a.false in
-    let bounded : k ≤ℤ upper_of b x = subst (λ (u : ℤ). k ≤ℤ u) high below in
-    rw value (box_raised limits b x k bounded (rw (← c.self.view_is) at h))
+    read_max c.max.result c.lo-lo.result c.args.a.k (lower_of b x) (search rules) (search rules) (search rules) c.max.ensures.value low
 
-pub returns-else-a-lo-clause-within : goal.returns-else-a-lo-clause-within
-returns-else-a-lo-clause-within c = λ limits h.
+raised_within : (c : goal.After-self-1) → c.args.a.k ≤ℤ upper_of (box_bounds c.self.inside) c.args.a.var.0
+raised_within c =
+    let high : c.hi-hi.result ≡ upper_of (box_bounds c.self.inside) c.args.a.var.0 = rw (← c.self.view_is) at c.hi-hi.ensures.value in
+    read_not_above c.args.a.at_least c.args.a.k c.hi-hi.result (upper_of (box_bounds c.self.inside) c.args.a.var.0) _ (search rules) high c.if-a.true c.if-is_false_between.ensures
+
+-- the greatest value that is written, and that it is no less than the least
+reduced_value : (c : goal.After-self-else-a-1) → to_z w64 (of_z w64 c.min.result) ≡ int_min (upper_of (box_bounds c.self.inside) c.args.a.var.0) c.args.a.k
+reduced_value c =
     let b = box_bounds c.self.inside in
     let x = c.args.a.var.0 in
-    let k = c.args.a.k in
-    let low : c.lo-lo.result ≡ lower_of b x = rw (← c.self.view_is) at c.lo-lo.ensures.value in
     let high : c.hi-hi.result ≡ upper_of b x = rw (← c.self.view_is) at c.hi-hi.ensures.value in
-    let value : to_z w64 (of_z w64 c.min.result) ≡ int_min (upper_of b x) k =
-        read_min c.min.result c.hi-hi.result k (upper_of b x) (search rules) (search rules) (search rules) c.min.ensures.value high in
-    let above : c.lo-lo.result ≤ℤ k = read_not_less k c.lo-lo.result (search rules) (search rules) c.if-a-lo.false in
-    let bounded : lower_of b x ≤ℤ k = subst (λ (l : ℤ). l ≤ℤ k) low above in
-    rw value (box_reduced limits b x k bounded (rw (← c.self.view_is) at h))
+    read_min c.min.result c.hi-hi.result c.args.a.k (upper_of b x) (search rules) (search rules) (search rules) c.min.ensures.value high
+
+reduced_within : (c : goal.After-self-else-a-1) → lower_of (box_bounds c.self.inside) c.args.a.var.0 ≤ℤ c.args.a.k
+reduced_within c =
+    let low : c.lo-lo.result ≡ lower_of (box_bounds c.self.inside) c.args.a.var.0 = rw (← c.self.view_is) at c.lo-lo.ensures.value in
+    read_not_below c.args.a.at_least c.args.a.k c.lo-lo.result (lower_of (box_bounds c.self.inside) c.args.a.var.0) _ (search rules) low c.if-a.false c.if-is_false_between.ensures
+
+pub invariant_of-self : goal.invariant_of-self
+invariant_of-self c =
+    rw (raised_value c) (IsProper-raised (box_bounds c.self.inside) c.args.a.var.0 c.args.a.k (raised_within c) c.self.invariant)
+
+pub invariant_of-self-else-a : goal.invariant_of-self-else-a
+invariant_of-self-else-a c =
+    rw (reduced_value c) (IsProper-reduced (box_bounds c.self.inside) c.args.a.var.0 c.args.a.k (reduced_within c) c.self.invariant)
+
+pub returns-then-a-clause-within : goal.returns-then-a-clause-within
+returns-then-a-clause-within c = λ limits h.
+    rw (raised_value c) (box_raised limits (box_bounds c.self.inside) c.args.a.var.0 c.args.a.k (raised_within c) (rw (← c.self.view_is) at h))
+
+pub returns-else-a-clause-within : goal.returns-else-a-clause-within
+returns-else-a-clause-within c = λ limits h.
+    rw (reduced_value c) (box_reduced limits (box_bounds c.self.inside) c.args.a.var.0 c.args.a.k (reduced_within c) (rw (← c.self.view_is) at h))

@@ -1,4 +1,3 @@
-pub mod Appending
 pub mod Assuming
 pub mod Concluding
 pub mod Cutting
@@ -7,9 +6,11 @@ pub mod Fresh
 pub mod Growing
 pub mod Keeping
 pub mod LaterBounds
+pub mod Opening
 pub mod Refuting
 pub mod Shrinking
 pub mod SignedSteps
 pub mod Solutions
 pub mod Solving
+pub mod StateLemmas
 pub mod Sums

@@ -11,3 +11,4 @@ pub mod LogState
 pub mod Narrowing
 pub mod Order
 pub mod Parts
+pub mod Ranges

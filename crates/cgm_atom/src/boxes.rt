@@ -31,7 +31,8 @@ impl Model for BoxState {
 impl BoxState {
     /// The problem's bounds.
     pub fn of(alloc: Global, p: &Problem) -> Result<BoxState, OutOfMemory>
-        ensures { IfOk result (λ b. b ≡ p.now.bounds) }
+        ensures bounds { IfOk result (λ b. b ≡ p.now.bounds) }
+        ensures box_of { IfOk result (λ b. IsBoxOf p.now.bounds b) }
     {
         let _valid = p.objectives();
         let lower = Vec::from_slice(alloc, p.lower())?;
@@ -42,7 +43,8 @@ impl BoxState {
     /// Takes the problem's bounds again. Takes no memory.
     pub fn reset(&mut self, p: &Problem)
         requires { IsBoxOf p.now.bounds self.old }
-        ensures { self.new ≡ p.now.bounds }
+        ensures bounds { self.new ≡ p.now.bounds }
+        ensures box_of { IsBoxOf p.now.bounds self.new }
     {
         let _valid = p.objectives();
         self.lower.copy_from_slice(p.lower());

@@ -37,18 +37,13 @@ pub fn first_violated(p: &Problem, values: &[i64]) -> Option<Violated>
     if values.len() != p.vars() as usize {
         return Some(Violated::Count);
     }
-    match first_outside(p, values) {
-        Some(x) => return Some(Violated::Bound(x)),
-        None => {}
+    if let Some(x) = first_outside(p, values) {
+        return Some(Violated::Bound(x));
     }
-    match first_false_clause(p, values) {
-        Some(n) => return Some(Violated::Clause(n)),
-        None => {}
+    if let Some(n) = first_false_clause(p, values) {
+        return Some(Violated::Clause(n));
     }
-    match first_unmet_row(p, values) {
-        Some(n) => Some(Violated::Row(n)),
-        None => None,
-    }
+    first_unmet_row(p, values).map(Violated::Row)
 }
 
 fn first_outside(p: &Problem, values: &[i64]) -> Option<u32>

@@ -43,6 +43,16 @@ pub record IsCutOff (sink : Printing) (bytes : List ℕ) : Type 0 where
 abbrev pub IsTold : Printing → List ℕ → Type 0
 IsTold sink fault_line = IsPrinted sink fault_line ⊎ IsCutOff sink fault_line
 
+-- the report was printed and its status is answered, or the sink failed
+abbrev pub PrintsReport : Printing → List ℕ → Status → Status → Type 0
+PrintsReport sink report status answer =
+    ((answer ≡ status) × IsPrinted sink report) ⊎ ((answer ≡ Write) × IsCutOff sink report)
+
+-- the line was told and its status is answered, or there was no memory for the line
+abbrev pub TellsOrLacksMemory : Printing → List ℕ → Status → Status → Type 0
+TellsOrLacksMemory sink fault_line status answer =
+    ((answer ≡ status) × IsTold sink fault_line) ⊎ ((answer ≡ Memory) × IsTold sink memory_fault)
+
 -- a realization such that no other is better; without objectives every realization is
 pub record IsLeast (m : Lists) (a : Assignment) : Type 0 where
   pub fits : Fits m a

@@ -29,6 +29,7 @@ use cgm_atom::{
 /// that of the last best. For a lemma: none without atoms stands before it, its variables exist, its hints name
 /// something, its bound is the greatest that they carry, and they refute it.
 /// `work` is afterwards some box of the problem, also after a refusal. Takes no memory.
+/// Condition: the log is accepted, the index is its own, and `work` is a box of the problem.
 #[tactic(auto, unfolding(cgm_atom::specs::Acceptance::first_fault))]
 pub fn accepts_next(
     p: &Problem,

@@ -37,6 +37,7 @@ impl LogIndex {
     }
 
     /// Adds the next entry of the log. Without memory for it the index stays as it was.
+    /// Condition: fewer than 2^63 entries so far.
     pub fn add(&mut self, e: &Entry) -> Result<(), OutOfMemory>
         requires { self.old.entries < 2 ^ 63 }
         ensures ok { OnOk result (self.new ≡ index_with self.old e.now) }
@@ -63,6 +64,7 @@ impl LogIndex {
         self.bests.as_slice()
     }
 
+    /// Whether a lemma without atoms stands in the log.
     pub(crate) fn is_closed(&self) -> bool
         ensures { result ≡ self.now.closed }
     {

@@ -17,6 +17,7 @@ use cgm_atom::{BoxState, Entry, Hint, Problem};
 ///
 /// `Conflict` comes where it leaves nothing of the box, which then is as it was, and `Tighter` where a bound
 /// has changed. Values of the box that meet the clause or row stay in it. Takes no memory.
+/// Condition: the log is accepted, the index is its own, and the box is one of the problem.
 pub fn narrow(p: &Problem, log: &[Entry], index: &LogIndex, b: &mut BoxState, h: &Hint) -> Narrowed
     requires accepted { IsAccepted p.now log.now }
     requires own { IsIndexOf index.now log.now }

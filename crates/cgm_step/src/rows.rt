@@ -1,5 +1,5 @@
 //! Narrowing by a row.
-ghost use Rattle.std.specs.Prelude.{◌≡◌, ◌≢◌, ◌+◌, ◌*◌, ◌/◌, ◌^◌, ◌<◌, ◌≤◌, ℕ, length, false, pos, ◌+ℤ◌, ◌-ℤ◌, ◌*ℤ◌, ◌≤ℤ◌, unsigned_abs, IfSome};
+ghost use Rattle.std.specs.Prelude.{◌≡◌, ◌≢◌, ◌+◌, ◌*◌, ◌^◌, ◌<◌, ◌≤◌, length, pos, ◌+ℤ◌, ◌-ℤ◌, ◌*ℤ◌, ◌≤ℤ◌, unsigned_abs, IfSome};
 ghost use Rattle.cgm_atom.specs.Bounds.{Bounds, IsBoxOf, IsProper, lower_of, upper_of};
 ghost use Rattle.cgm_atom.specs.Limits.{AreTermsOf, IsBound, IsRowOf, greatest_size, measure};
 ghost use Rattle.cgm_atom.specs.Narrowing.{greatest_activity as activity, greatest_term as term_most, is_claimed_in, left_by_row, left_by_unmet, tightened_by_terms};
@@ -32,6 +32,7 @@ fn greatest_term(b: &BoxState, term: &(i64, Var)) -> i64
     }
 }
 
+/// The greatest value of the sum of coefficient times variable.
 fn greatest_activity(b: &BoxState, terms: &[(i64, Var)]) -> i64
     requires known { AreTermsOf (length b.now.lower) terms.now }
     requires limit { measure b.now terms.now ≤ 4 * 10 ^ 18 }

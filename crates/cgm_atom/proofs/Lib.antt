@@ -1,7 +1,17 @@
+pub mod Appending
 pub mod Assuming
+pub mod Concluding
+pub mod Cutting
+pub mod Entailing
 pub mod Fresh
 pub mod Growing
+pub mod Keeping
+pub mod LaterBounds
 pub mod Opening
+pub mod Refuting
+pub mod Shrinking
+pub mod SignedSteps
 pub mod Solutions
+pub mod Solving
 pub mod StateLemmas
 pub mod Sums

@@ -5,6 +5,7 @@ pub mod Building
 pub mod Cut
 pub mod Entailment
 pub mod Instance
+pub mod Laws
 pub mod Limits
 pub mod LogState
 pub mod Narrowing

@@ -6,6 +6,7 @@ mod builders;
 mod checks;
 mod constraints;
 mod entries;
+pub mod laws;
 mod lists;
 mod problems;
 

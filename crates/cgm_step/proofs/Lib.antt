@@ -1,0 +1,11 @@
+pub mod Tightening
+pub mod CutParts
+pub mod RowSums
+pub mod Leaving
+pub mod RowTightening
+pub mod States
+pub mod Accepted
+pub mod Names
+pub mod RowLimits
+pub mod Testing
+pub mod KeptValues

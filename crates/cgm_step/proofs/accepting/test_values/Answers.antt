@@ -1,0 +1,7 @@
+use Rattle.std.proofs.Common.{sym}
+use Rattle.cgm_step.proofs.Accepted.{AreValuesOf-from_none}
+use Rattle.cgm_step.proofs.accepting.test_values.Goals as goal
+
+pub returns-in-None-clause-fit : goal.returns-in-None-clause-fit
+returns-in-None-clause-fit c =
+    AreValuesOf-from_none c.args.p.now c.args.values.now c.objectives-valid.ensures.valid (sym c.in-None.ensures.first)

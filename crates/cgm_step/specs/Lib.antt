@@ -1,0 +1,4 @@
+pub mod Indexing
+pub mod Naming
+pub mod Outcome
+pub mod Steps

@@ -1,0 +1,73 @@
+//! The index of a log.
+ghost use Rattle.std.specs.Prelude.{◌≡◌, ◌+◌, ◌^◌, ◌<◌, ◌++◌, ◌∷◌, [], List, OnOk, OnErr};
+ghost use Rattle.cgm_atom.specs.declared.entries.Entry.{Entry};
+ghost use Rattle.cgm_step.specs.Indexing.{IsIndexOf, empty_index, index_with};
+
+use cgm_atom::{Entry, OutOfMemory};
+use std::alloc::Global;
+use std::marker::Model;
+
+/// The places of the bests of a log, and whether the log is closed.
+#[derive(Debug, Drop)]
+pub struct LogIndex {
+    entries: usize,
+    bests: Vec<usize>,
+    is_closed: bool,
+}
+
+impl Model for LogIndex {
+    ghost use Rattle.cgm_step.specs.Indexing.{Index};
+
+    ghost Value = { Index };
+
+    ghost view = { λ i. record { entries = i.entries; bests = i.bests.items; closed = i.is_closed } };
+}
+
+impl LogIndex {
+    /// The index of the empty log. Takes no memory.
+    pub fn new(alloc: Global) -> LogIndex
+        ensures value { result ≡ empty_index }
+        ensures own { IsIndexOf result [] }
+    {
+        LogIndex {
+            entries: 0,
+            bests: Vec::new(alloc),
+            is_closed: false,
+        }
+    }
+
+    /// Adds the next entry of the log. Without memory for it the index stays as it was.
+    /// Condition: fewer than 2^63 entries so far.
+    pub fn add(&mut self, e: &Entry) -> Result<(), OutOfMemory>
+        requires { self.old.entries < 2 ^ 63 }
+        ensures ok { OnOk result (self.new ≡ index_with self.old e.now) }
+        ensures own { OnOk result
+            ((log : List Entry) → IsIndexOf self.old log → IsIndexOf self.new (log ++ e.now ∷ [])) }
+        ensures err { OnErr result (self.new ≡ self.old) }
+    {
+        match e {
+            Entry::Best { .. } => self.bests.push(self.entries)?,
+            Entry::Lemma { clause, .. } => {
+                if clause.atoms.as_slice().is_empty() {
+                    self.is_closed = true;
+                }
+            }
+        }
+        self.entries += 1;
+        Ok(())
+    }
+
+    /// The places of the bests, from 0.
+    pub(crate) fn bests(&self) -> &[usize]
+        ensures { result.now ≡ self.now.bests }
+    {
+        self.bests.as_slice()
+    }
+
+    /// Whether a lemma without atoms stands in the log.
+    pub(crate) fn is_closed(&self) -> bool
+        ensures { result ≡ self.now.closed }
+    {
+        self.is_closed
+    }
+}

@@ -1,4 +1,3 @@
-pub mod Appending
 pub mod Assuming
 pub mod Concluding
 pub mod Cutting

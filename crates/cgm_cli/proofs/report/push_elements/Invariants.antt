@@ -1,4 +1,4 @@
-use Rattle.std.proofs.Common.{◌≡◌, ◌++◌, ◌≤◌, length, drop}
+use Rattle.std.proofs.Common.{◌≡◌, ◌++◌, drop}
 use Rattle.cgm_cli.specs.Report.{element_lines}
 use Rattle.cgm_cli.proofs.report.push_elements.Given as goal
 

@@ -1,4 +1,4 @@
-use Rattle.std.proofs.Common.{◌≡◌, ◌++◌, ◌≤◌, length, drop}
+use Rattle.std.proofs.Common.{◌≡◌, ◌++◌, drop}
 use Rattle.cgm_cli.specs.Report.{refinement_lines}
 use Rattle.cgm_cli.proofs.report.push_refinements.Given as goal
 

@@ -1,4 +1,4 @@
-use Rattle.std.proofs.Common.{◌≡◌, ◌+◌, ◌≤◌, List, [], ◌∷◌, ◌++◌, length, true, false, subst, sym, arith, rules, IfOk, IfNone}
+use Rattle.std.proofs.Common.{◌+◌, ◌≤◌, [], ◌∷◌, ◌++◌, length, true, subst, arith, rules, IfOk, IfNone}
 use Rattle.std.proofs.lemmas.Grind.{common_steps}
 use Rattle.cgm_model.specs.Model.{lists_of}
 use Rattle.cgm_cli.specs.Search.{NoneBeginsWith, truth_count}

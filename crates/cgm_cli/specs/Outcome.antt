@@ -30,6 +30,13 @@ pub record Shelving : Type 0 where
   pub reads_before : ℕ
   pub reads_after : ℕ
 
+abbrev pub printing : Option (List ℕ) → Option (List ℕ) → ℕ → ℕ → Printing
+printing before after faults_before faults_after =
+    record { before = before; after = after; faults_before = faults_before; faults_after = faults_after }
+
+abbrev pub shelving : Option Files → ℕ → ℕ → Shelving
+shelving files reads_before reads_after = record { files = files; reads_before = reads_before; reads_after = reads_after }
+
 -- exactly these bytes were printed
 abbrev pub IsPrinted : Printing → List ℕ → Type 0
 IsPrinted sink bytes = Adds sink.before sink.after bytes

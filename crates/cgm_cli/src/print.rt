@@ -1,7 +1,7 @@
 ghost use Rattle.std.specs.Prelude.{◌≡◌, IfOk};
 ghost use Rattle.std.specs.String.{string_bytes};
 ghost use Rattle.cgm_base.specs.declared.status.Status.TheVariants as statuses;
-ghost use Rattle.cgm_cli.specs.Outcome.{IsTold, PrintsReport, TellsOrLacksMemory};
+ghost use Rattle.cgm_cli.specs.Outcome.{printing, IsTold, PrintsReport, TellsOrLacksMemory};
 ghost use Rattle.cgm_cli.specs.Report.{text_fault, limit_fault, memory_fault};
 
 use cgm_base::{BadKind, Limit, Status};
@@ -10,14 +10,18 @@ use std::alloc::{AllocError, Global};
 
 /// Prints a fault line; where the sink fails, a front of it.
 pub(crate) fn tell<O: Sink>(out: &mut O, line: &[u8])
-    ensures { IsTold (record { before = O.written out.old; after = O.written out.new; faults_before = O.faults out.old; faults_after = O.faults out.new }) line.now }
+    ensures { IsTold
+        (printing (O.written out.old) (O.written out.new) (O.faults out.old) (O.faults out.new))
+        line.now }
 {
     let _ = write_whole(out, line);
 }
 
 /// Prints a report and answers its status, or that the sink failed.
 pub(crate) fn print_report<O: Sink>(out: &mut O, report: &[u8], status: Status) -> Status
-    ensures { PrintsReport (record { before = O.written out.old; after = O.written out.new; faults_before = O.faults out.old; faults_after = O.faults out.new }) report.now status result }
+    ensures { PrintsReport
+        (printing (O.written out.old) (O.written out.new) (O.faults out.old) (O.faults out.new))
+        report.now status result }
 {
     match write_whole(out, report) {
         Ok(()) => status,
@@ -28,7 +32,9 @@ pub(crate) fn print_report<O: Sink>(out: &mut O, report: &[u8], status: Status) 
 /// Tells that there is no memory.
 pub(crate) fn tell_memory<O: Sink>(out: &mut O) -> Status
     ensures status { result ≡ statuses.Memory }
-    ensures told { IsTold (record { before = O.written out.old; after = O.written out.new; faults_before = O.faults out.old; faults_after = O.faults out.new }) memory_fault }
+    ensures told { IsTold
+        (printing (O.written out.old) (O.written out.new) (O.faults out.old) (O.faults out.new))
+        memory_fault }
 {
     tell(out, b"fault memory\n");
     Status::Memory
@@ -58,7 +64,9 @@ pub(crate) fn tell_text_fault<O: Sink>(
     line: u32,
     kind: BadKind,
 ) -> Status
-    ensures { TellsOrLacksMemory (record { before = O.written out.old; after = O.written out.new; faults_before = O.faults out.old; faults_after = O.faults out.new }) (text_fault line kind) statuses.Text result }
+    ensures { TellsOrLacksMemory
+        (printing (O.written out.old) (O.written out.new) (O.faults out.old) (O.faults out.new))
+        (text_fault line kind) statuses.Text result }
 {
     match text_line(alloc, line, kind) {
         Ok(told) => {
@@ -71,7 +79,9 @@ pub(crate) fn tell_text_fault<O: Sink>(
 
 /// Tells a limit that was passed.
 pub(crate) fn tell_limit<O: Sink>(alloc: Global, out: &mut O, limit: Limit) -> Status
-    ensures { TellsOrLacksMemory (record { before = O.written out.old; after = O.written out.new; faults_before = O.faults out.old; faults_after = O.faults out.new }) (limit_fault limit) statuses.Limit result }
+    ensures { TellsOrLacksMemory
+        (printing (O.written out.old) (O.written out.new) (O.faults out.old) (O.faults out.new))
+        (limit_fault limit) statuses.Limit result }
 {
     match limit_line(alloc, limit) {
         Ok(told) => {

@@ -24,7 +24,8 @@ fn truth_word(truth: bool) -> &'static str
 
 /// Adds the line of one found truth value.
 fn push_line(report: &mut Vec<u8>, word: &str, name: &[u8], truth: bool) -> Result<(), AllocError>
-    ensures { OnOk result (report.new.items ≡ report.old.items ++ found_line word.now name.now truth) }
+    ensures { OnOk result (report.new.items ≡ report.old.items ++ found_line word.now name.now
+        truth) }
 {
     report.extend_from_slice(word.as_bytes())?;
     report.extend_from_slice(b" ")?;
@@ -40,7 +41,8 @@ fn push_elements(
     truths: &[bool],
 ) -> Result<(), AllocError>
     requires { length truths.now ≡ length elements.now }
-    ensures { OnOk result (report.new.items ≡ report.old.items ++ element_lines elements.now truths.now) }
+    ensures { OnOk result (report.new.items ≡ report.old.items ++ element_lines elements.now
+        truths.now) }
 {
     for (at, element) in elements.iter().enumerate() {
         let word = element_word(element.kind);
@@ -55,7 +57,8 @@ fn push_refinements(
     truths: &[bool],
 ) -> Result<(), AllocError>
     requires { length truths.now ≡ length refinements.now }
-    ensures { OnOk result (report.new.items ≡ report.old.items ++ refinement_lines refinements.now truths.now) }
+    ensures { OnOk result (report.new.items ≡ report.old.items ++ refinement_lines refinements.now
+        truths.now) }
 {
     for (at, refinement) in refinements.iter().enumerate() {
         push_line(report, "refine", refinement.name.as_slice(), truths[at])?;

@@ -28,7 +28,8 @@ fn realization_of(
 ) -> Result<Option<Assignment>, AllocError>
     requires { length truths.now ≡ truth_count (lists_of m.now) }
     ensures found { IfOk result (λ found. IfSome found (IsLeast (lists_of m.now))) }
-    ensures none { IfOk result (λ found. IfNone found (NoneBeginsWith (lists_of m.now) truths.now)) }
+    ensures none { IfOk result (λ found. IfNone found (NoneBeginsWith (lists_of m.now)
+        truths.now)) }
 {
     let assignment = assignment_of(alloc, m, truths)?;
     match is_realization(m, &assignment) {
@@ -47,7 +48,8 @@ fn realization_from(
 ) -> Result<Option<Assignment>, AllocError>
     requires { length truths.old.items ≤ truth_count (lists_of m.now) }
     ensures found { IfOk result (λ found. IfSome found (IsLeast (lists_of m.now))) }
-    ensures none { IfOk result (λ found. IfNone found (NoneBeginsWith (lists_of m.now) truths.old.items)) }
+    ensures none { IfOk result (λ found. IfNone found (NoneBeginsWith (lists_of m.now)
+        truths.old.items)) }
     ensures kept { IfOk result (λ found. IfNone found (truths.new.items ≡ truths.old.items)) }
 {
     let count = m.elements.as_slice().len() + m.refinements.as_slice().len();
@@ -70,7 +72,8 @@ fn realization_with(
 ) -> Result<Option<Assignment>, AllocError>
     requires { length truths.old.items + 1 ≤ truth_count (lists_of m.now) }
     ensures found { IfOk result (λ found. IfSome found (IsLeast (lists_of m.now))) }
-    ensures none { IfOk result (λ found. IfNone found (NoneBeginsWith (lists_of m.now) (truths.old.items ++ next ∷ []))) }
+    ensures none { IfOk result (λ found. IfNone found (NoneBeginsWith (lists_of m.now)
+        (truths.old.items ++ next ∷ []))) }
     ensures kept { IfOk result (λ found. IfNone found (truths.new.items ≡ truths.old.items)) }
 {
     truths.push(next)?;

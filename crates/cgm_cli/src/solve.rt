@@ -1,7 +1,7 @@
 ghost use Rattle.std.specs.Prelude.{◌≡◌, ◌≤◌, length, map};
 ghost use Rattle.std.specs.String.{string_bytes};
 ghost use Rattle.cgm_model.specs.Model.{lists_of};
-ghost use Rattle.cgm_cli.specs.Outcome.{HasModelOutcome, HasTextOutcome, HasSolveOutcome, HasOutcome, most_bytes};
+ghost use Rattle.cgm_cli.specs.Outcome.{printing, shelving, HasModelOutcome, HasTextOutcome, HasSolveOutcome, HasOutcome, most_bytes};
 
 use crate::command::model_name;
 use crate::print::{print_report, tell, tell_limit, tell_memory, tell_text_fault};
@@ -18,7 +18,9 @@ const TEXT_BYTES: u64 = 16_777_216;
 
 /// Finds a realization of a model and prints it, or that there is none.
 fn solve_model<O: Sink>(alloc: Global, m: &Model, out: &mut O) -> Status
-    ensures { HasModelOutcome (lists_of m.now) (record { before = O.written out.old; after = O.written out.new; faults_before = O.faults out.old; faults_after = O.faults out.new }) result }
+    ensures { HasModelOutcome (lists_of m.now)
+        (printing (O.written out.old) (O.written out.new) (O.faults out.old) (O.faults out.new))
+        result }
 {
     match find_realization(alloc, m) {
         Ok(Some(found)) => match realized(alloc, m, &found) {
@@ -33,7 +35,9 @@ fn solve_model<O: Sink>(alloc: Global, m: &Model, out: &mut O) -> Status
 /// Solves the model of a text, or tells the text's first fault.
 fn solve_text<O: Sink>(alloc: Global, text: &[u8], out: &mut O) -> Status
     requires { length text.now ≤ most_bytes }
-    ensures { HasTextOutcome text.now (record { before = O.written out.old; after = O.written out.new; faults_before = O.faults out.old; faults_after = O.faults out.new }) result }
+    ensures { HasTextOutcome text.now
+        (printing (O.written out.old) (O.written out.new) (O.faults out.old) (O.faults out.new))
+        result }
 {
     match read(alloc, text) {
         Ok(reading) => solve_model(alloc, &reading.model, out),
@@ -45,7 +49,10 @@ fn solve_text<O: Sink>(alloc: Global, text: &[u8], out: &mut O) -> Status
 
 /// The command `solve MODEL`.
 fn solve<F: Shelf, O: Sink>(alloc: Global, name: &str, shelf: &mut F, out: &mut O) -> Status
-    ensures outcome { HasSolveOutcome name.now (record { files = F.files shelf.old; reads_before = F.read_faults shelf.old; reads_after = F.read_faults shelf.new }) (record { before = O.written out.old; after = O.written out.new; faults_before = O.faults out.old; faults_after = O.faults out.new }) result }
+    ensures outcome { HasSolveOutcome name.now
+        (shelving (F.files shelf.old) (F.read_faults shelf.old) (F.read_faults shelf.new))
+        (printing (O.written out.old) (O.written out.new) (O.faults out.old) (O.faults out.new))
+        result }
     ensures files { F.files shelf.new ≡ F.files shelf.old }
     ensures writes { F.write_faults shelf.new ≡ F.write_faults shelf.old }
 {
@@ -81,7 +88,10 @@ pub fn run_quiet<F: Shelf, O: Sink>(
     shelf: &mut F,
     out: &mut O,
 ) -> Status
-    ensures outcome { HasOutcome (map string_bytes words.now) (record { files = F.files shelf.old; reads_before = F.read_faults shelf.old; reads_after = F.read_faults shelf.new }) (record { before = O.written out.old; after = O.written out.new; faults_before = O.faults out.old; faults_after = O.faults out.new }) result }
+    ensures outcome { HasOutcome (map string_bytes words.now)
+        (shelving (F.files shelf.old) (F.read_faults shelf.old) (F.read_faults shelf.new))
+        (printing (O.written out.old) (O.written out.new) (O.faults out.old) (O.faults out.new))
+        result }
     ensures files { F.files shelf.new ≡ F.files shelf.old }
     ensures writes { F.write_faults shelf.new ≡ F.write_faults shelf.old }
 {

@@ -5,7 +5,7 @@ ghost use Rattle.cgm_step.specs.Indexing.{IsIndexOf, empty_index, index_with};
 
 use cgm_atom::{Entry, OutOfMemory};
 use std::alloc::Global;
-use std::marker::Model;
+use std::marker::{Model, Send};
 
 /// The places of the bests of a log, and whether the log is closed.
 #[derive(Debug, Drop)]
@@ -71,3 +71,10 @@ impl LogIndex {
         self.is_closed
     }
 }
+
+// An index can be moved to a thread with its log.
+fn cross_threads(index: &LogIndex) {
+    can_be_moved(index);
+}
+
+fn can_be_moved<T: Send>(_: &T) {}

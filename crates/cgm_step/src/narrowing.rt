@@ -25,7 +25,8 @@ pub fn narrow(p: &Problem, log: &[Entry], index: &LogIndex, b: &mut BoxState, h:
     ensures exact { IsNarrowing (narrowed p.now (state_of log.now) b.old h.now) b.old b.new result }
     ensures within { IsBoxOf p.now.bounds b.new }
     ensures kept { KeepsValues (named p.now (state_of log.now) h.now) b.old b.new }
-    ensures conflict { result ≡ Narrowed.Conflict → HasNoValues (named p.now (state_of log.now) h.now) b.old }
+    ensures conflict { result ≡ Narrowed.Conflict → HasNoValues (named p.now (state_of log.now)
+        h.now) b.old }
 {
     let _valid = p.objectives();
     match find(p, log, index, h) {

@@ -23,7 +23,8 @@ fn greatest_term(b: &BoxState, term: &(i64, Var)) -> i64
     requires known { term.now.1.0 < length b.now.lower }
     requires limit { unsigned_abs term.now.0 * greatest_size b.now term.now.1.0 ≤ 4 * 10 ^ 18 }
     ensures value { result ≡ term_most b.now term.now.0 term.now.1.0 }
-    ensures size { unsigned_abs result ≤ unsigned_abs term.now.0 * greatest_size b.now term.now.1.0 }
+    ensures size { unsigned_abs result ≤ unsigned_abs term.now.0 * greatest_size b.now
+        term.now.1.0 }
 {
     if term.0 < 0 {
         product(term.0, b.lo(term.1))

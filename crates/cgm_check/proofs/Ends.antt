@@ -1,7 +1,6 @@
 -- What the end of accepted entries tells, and the step from one entry to the next.
 use Rattle.std.proofs.Common.{◌≡◌, ℕ, zero, suc, ◌+◌, ◌<◌, ◌≤◌, Bool, true, false, ◌||◌, List, [], ◌∷◌, ◌++◌, length, get_or, take, refl, sym, ap, ◌∙◌, subst, arith, add-one}
-use Rattle.std.specs.Prelude.{ℤ, slice_get, IsSomeAnd}
-use Rattle.std.specs.Prelude.{IfOk, Result, Ok, Err}
+use Rattle.std.specs.Prelude.{ℤ, slice_get, IfOk, IsSomeAnd, Result, Ok, Err}
 use Rattle.std.specs.declared.option.Option.{Option}
 use Rattle.std.specs.declared.option.Option.TheVariants.{Some, None}
 use Rattle.std.specs.List.{last_or, list_any}
@@ -34,7 +33,7 @@ accepted_next p entries i e within at accepted passes =
     let more : take (i + 1) entries ≡ take i entries ++ e ∷ [] = take_more entries i e within ∙ ap (λ (x : Entry). take i entries ++ x ∷ []) (sym at) in
     rw more (IsAccepted-push p (take i entries) e accepted passes)
 
-pub some_at : (entries : List Entry) (i : ℕ) (e : Entry) → i < length entries → e ≡ get_or entries i e → slice_get entries i ≡ Some e
+some_at : (entries : List Entry) (i : ℕ) (e : Entry) → i < length entries → e ≡ get_or entries i e → slice_get entries i ≡ Some e
 some_at [] i e within at = absurd (omega arith)
 some_at (x ∷ entries) zero e within at = ap Some (sym at)
 some_at (x ∷ entries) (suc i) e within at = some_at entries i e (omega arith) at
@@ -71,7 +70,7 @@ closed_after s (Best by values ∷ log) = closed_after (state_with s (Best by va
 closed_after s (Lemma by clause hints bound ∷ log) =
     closed_after (state_with s (Lemma by clause hints bound)) log ∙ closes-or s.closed (is_empty_clause clause) (list_any is_closing log)
 
-pub closed_of_log : (log : List Entry) → (state_of log).closed ≡ list_any is_closing log
+closed_of_log : (log : List Entry) → (state_of log).closed ≡ list_any is_closing log
 unfolding state_of
 closed_of_log log = closed_after empty_state log
 
@@ -85,7 +84,7 @@ end_least entries values h e = (closed_of_log entries ∙ h, last_best_of_log en
 pub end_without : (entries : List Entry) → list_any is_closing entries ≡ true → None ≡ last_or None (best_values entries) → IsEndOf entries NoSolution
 end_without entries h e = (closed_of_log entries ∙ h, last_best_of_log entries ∙ sym e)
 
-pub verdict_from_end : (p : Instance) (entries : List Entry) (verdict : Verdict) → IsProper p.bounds → IsAccepted p entries → IsEndOf entries verdict → IsVerdictOf p entries verdict
+verdict_from_end : (p : Instance) (entries : List Entry) (verdict : Verdict) → IsProper p.bounds → IsAccepted p entries → IsEndOf entries verdict → IsVerdictOf p entries verdict
 verdict_from_end p entries (Least values) proper accepted end =
     let concluded = subst (IsConcluded p) end.1 (closed_log_is_least p entries proper accepted end.0) in
     (accepted, end.0, end.1, concluded.0, concluded.1)
@@ -94,6 +93,7 @@ verdict_from_end p entries NoSolution proper accepted end =
 verdict_from_end p entries (Open best) proper accepted end = (accepted, end.0, end.1)
 verdict_from_end p entries (Refused step why) proper accepted end = absurd end
 
+-- once all entries are accepted, what their end tells is the verdict
 pub verdict_of_all : {E : Type 0} (p : Instance) (entries : List Entry) (i : ℕ) (r : Result Verdict E) → IsProper p.bounds → length entries ≤ i → IsAccepted p (take i entries) → IfOk r (λ v. IsEndOf entries v) → IfOk r (λ v. IsVerdictOf p entries v)
 verdict_of_all p entries i (Err e) proper all accepted end = tt
 verdict_of_all p entries i (Ok v) proper all accepted end =

@@ -1,5 +1,5 @@
 -- Which words, after the program's own name, are a command line, and the command that they give.
-use Rattle.std.specs.Prelude.{ℕ, Bool, false, true, ◌&&◌, not, ◌==◌, List, [], ◌∷◌, Option, Some, None, codes, if◌then◌else◌}
+use Rattle.std.specs.Prelude.{ℕ, Bool, true, ◌&&◌, not, ◌==◌, List, [], ◌∷◌, Option, Some, None, codes, if◌then◌else◌}
 use Rattle.std.specs.Str.{bytes_eq}
 
 pub data Command : Type 0 where

@@ -1,3 +1,4 @@
 pub mod CommandLine
 pub mod Report
+pub mod Search
 pub mod Outcome

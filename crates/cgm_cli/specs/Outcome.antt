@@ -30,6 +30,13 @@ pub record Shelving : Type 0 where
   pub reads_before : ℕ
   pub reads_after : ℕ
 
+abbrev pub printing : Option (List ℕ) → Option (List ℕ) → ℕ → ℕ → Printing
+printing before after faults_before faults_after =
+    record { before = before; after = after; faults_before = faults_before; faults_after = faults_after }
+
+abbrev pub shelving : Option Files → ℕ → ℕ → Shelving
+shelving files reads_before reads_after = record { files = files; reads_before = reads_before; reads_after = reads_after }
+
 -- exactly these bytes were printed
 abbrev pub IsPrinted : Printing → List ℕ → Type 0
 IsPrinted sink bytes = Adds sink.before sink.after bytes
@@ -42,6 +49,16 @@ pub record IsCutOff (sink : Printing) (bytes : List ℕ) : Type 0 where
 -- the line was printed, unless the sink failed
 abbrev pub IsTold : Printing → List ℕ → Type 0
 IsTold sink fault_line = IsPrinted sink fault_line ⊎ IsCutOff sink fault_line
+
+-- the report was printed and its status is answered, or the sink failed
+abbrev pub PrintsReport : Printing → List ℕ → Status → Status → Type 0
+PrintsReport sink report status answer =
+    ((answer ≡ status) × IsPrinted sink report) ⊎ ((answer ≡ Write) × IsCutOff sink report)
+
+-- the line was told and its status is answered, or there was no memory for the line
+abbrev pub TellsOrLacksMemory : Printing → List ℕ → Status → Status → Type 0
+TellsOrLacksMemory sink fault_line status answer =
+    ((answer ≡ status) × IsTold sink fault_line) ⊎ ((answer ≡ Memory) × IsTold sink memory_fault)
 
 -- a realization such that no other is better; without objectives every realization is
 pub record IsLeast (m : Lists) (a : Assignment) : Type 0 where

@@ -4,7 +4,8 @@ ghost use Rattle.cgm_cli.specs.CommandLine.{Command, command_line, solve, is_pos
 
 /// The model's file name of the command `solve MODEL`; none where the words are no command line.
 pub(crate) fn model_name(words: &[String]) -> Option<&str>
-    ensures { MatchOption result (command_line (map string_bytes words.now) ≡ None) (λ name. command_line (map string_bytes words.now) ≡ Some (solve name.now)) }
+    ensures { MatchOption result (command_line (map string_bytes words.now) ≡ None)
+        (λ name. command_line (map string_bytes words.now) ≡ Some (solve name.now)) }
 {
     match words {
         [word, name] => {

@@ -2,3 +2,9 @@
 #![tactic(auto)]
 
 mod command;
+mod print;
+mod report;
+mod search;
+mod solve;
+
+pub use solve::run_quiet;

@@ -23,7 +23,8 @@ pub(crate) fn admit(d: &Declarations, marks: &mut [bool], s: &Statement) -> Resu
     requires well_formed { IsWellFormed (listed d.now) }
     requires proper { tests.IsProper (listed d.now) s.now }
     requires marked { length d.now.elements ≤ length marks.old }
-    ensures { MatchResult result (λ _. tests.IsAllowed (listed d.now) s.now) (tests.IsNotAdded (listed d.now) s.now) }
+    ensures { MatchResult result (λ _. tests.IsAllowed (listed d.now) s.now) (tests.IsNotAdded
+        (listed d.now) s.now) }
 {
     let acyclic = stays_acyclic(d, marks, s);
     if !has_short_name(s) {
@@ -85,7 +86,8 @@ fn declared_name(s: &Statement) -> Option<&[u8]>
 }
 
 fn has_short_name(s: &Statement) -> bool
-    ensures { result ≡ list_all (λ n. nat_le (length n) (limit_number limits.NameBytes)) (tests.declared_names s.now) }
+    ensures { result ≡ list_all (λ n. nat_le (length n) (limit_number limits.NameBytes))
+        (tests.declared_names s.now) }
 {
     match declared_name(s) {
         Some(name) => name.len() <= limits::NAME_BYTES,
@@ -104,7 +106,8 @@ fn has_spelled_name(s: &Statement) -> bool
 
 fn has_new_name(d: &Declarations, s: &Statement) -> bool
     requires { IsWellFormed (listed d.now) }
-    ensures { result ≡ list_all (λ n. not (list_any (bytes_eq n) (names (listed d.now)))) (tests.declared_names s.now) }
+    ensures { result ≡ list_all (λ n. not (list_any (bytes_eq n) (names (listed d.now))))
+        (tests.declared_names s.now) }
 {
     match declared_name(s) {
         Some(name) => {

@@ -41,7 +41,8 @@ pub(crate) fn refinement_named(refinements: &[Refinement], name: &[u8]) -> Optio
 pub(crate) fn is_declared(elements: &[Element], refinements: &[Refinement], name: &[u8]) -> bool
     requires few_elements { length elements.now ≤ limit_number limits.Elements }
     requires few_refinements { length refinements.now ≤ limit_number limits.Refinements }
-    ensures { result ≡ list_any (bytes_eq name.now) (map (λ e. e.name) elements.now ++ map (λ r. r.name) refinements.now) }
+    ensures { result ≡ list_any (bytes_eq name.now) (map (λ e. e.name) elements.now ++ map
+        (λ r. r.name) refinements.now) }
 {
     element_named(elements, name).is_some() || refinement_named(refinements, name).is_some()
 }

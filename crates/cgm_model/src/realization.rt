@@ -26,7 +26,8 @@ pub enum Broken {
 /// assertions, each by number; none where the assignment is a realization.
 pub fn is_realization(m: &Model, a: &Assignment) -> Option<Broken>
     requires { Fits (lists_of m.now) a.now }
-    ensures { MatchOption result (IsRealization (lists_of m.now) a.now) (IsFirstBroken (lists_of m.now) a.now) }
+    ensures { MatchOption result (IsRealization (lists_of m.now) a.now) (IsFirstBroken (lists_of
+        m.now) a.now) }
 {
     if let Some(number) = first_broken_refinement(m, a) {
         return Some(Broken::Refinement(number));
@@ -119,7 +120,8 @@ fn keeps_must(a: &Assignment, number: u32, e: &Element) -> bool
 }
 
 fn keeps_assertion(a: &Assignment, assertion: &Assertion) -> bool
-    ensures { IsTrue result ↔ (ElementIsTrue a.now assertion.now.element ↔ IsTrue assertion.now.truth) }
+    ensures { IsTrue result ↔ (ElementIsTrue a.now assertion.now.element ↔ IsTrue
+        assertion.now.truth) }
 {
     element_is_true(a, assertion.element) == assertion.truth
 }
@@ -136,7 +138,8 @@ fn is_refined(m: &Model, element: u32) -> bool
 }
 
 fn has_true_refinement(m: &Model, a: &Assignment, element: u32) -> bool
-    ensures { IsTrue result ↔ ((k : ℕ) × (Refines (lists_of m.now) k element × RefinementIsTrue a.now k)) }
+    ensures { IsTrue result ↔ ((k : ℕ) × (Refines (lists_of m.now) k element
+        × RefinementIsTrue a.now k)) }
 {
     for (number, r) in refinements(m).iter().enumerate() {
         if r.target == element && refinement_is_true(a, number as u32) {

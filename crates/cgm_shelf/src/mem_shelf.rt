@@ -33,7 +33,8 @@ impl MemShelf {
         ensures empty { (name : List ℕ) → mem_files result name ≡ None }
         ensures piece { piece_of result ≡ piece }
         ensures fail_reads { (failing_reads result ≡ fail_reads.items) × (reads_made result ≡ 0) }
-        ensures fail_writes { (failing_writes result ≡ fail_writes.items) × (writes_made result ≡ 0) }
+        ensures fail_writes { (failing_writes result ≡ fail_writes.items) × (writes_made result
+            ≡ 0) }
         ensures read_faults { read_faults_of result ≡ 0 }
         ensures write_faults { write_faults_of result ≡ 0 }
         ensures refused { refused_of result ≡ 0 }
@@ -50,11 +51,14 @@ impl MemShelf {
 
     /// Sets a file's bytes, whether it was there or not. This counts as no call.
     pub fn put(&mut self, name: &str, bytes: &[u8]) -> Result<(), OutOfMemory>
-        ensures ok { OnOk result (OnlyChanges (mem_files self.old) (mem_files self.new) name.now bytes.now) }
+        ensures ok { OnOk result (OnlyChanges (mem_files self.old) (mem_files self.new) name.now
+            bytes.now) }
         ensures err { OnErr result (mem_files self.new ≡ mem_files self.old) }
         ensures plan { KeepsPlan self.old self.new }
-        ensures reads { (reads_made self.new ≡ reads_made self.old) × (read_faults_of self.new ≡ read_faults_of self.old) }
-        ensures writes { (writes_made self.new ≡ writes_made self.old) × (write_faults_of self.new ≡ write_faults_of self.old) }
+        ensures reads { (reads_made self.new ≡ reads_made self.old) × (read_faults_of self.new
+            ≡ read_faults_of self.old) }
+        ensures writes { (writes_made self.new ≡ writes_made self.old) × (write_faults_of self.new
+            ≡ write_faults_of self.old) }
         ensures refused { refused_of self.new ≡ refused_of self.old }
     {
         set_bytes(self.alloc, &mut self.files, name, bytes)
@@ -114,7 +118,8 @@ fn add_bytes(
     bytes: &[u8],
 ) -> Result<(), OutOfMemory>
     requires { IsSome (files_in files.old name.now) }
-    ensures ok { OnOk result (Appends (Some (files_in files.old)) (Some (files_in files.new)) name.now bytes.now) }
+    ensures ok { OnOk result (Appends (Some (files_in files.old)) (Some (files_in files.new))
+        name.now bytes.now) }
     ensures err { OnErr result (files_in files.new ≡ files_in files.old) }
 {
     let held = files.get_mut(name).unwrap();
@@ -129,7 +134,8 @@ fn set_bytes(
     name: &str,
     bytes: &[u8],
 ) -> Result<(), OutOfMemory>
-    ensures ok { OnOk result (OnlyChanges (files_in files.old) (files_in files.new) name.now bytes.now) }
+    ensures ok { OnOk result (OnlyChanges (files_in files.old) (files_in files.new) name.now
+        bytes.now) }
     ensures err { OnErr result (files_in files.new ≡ files_in files.old) }
 {
     let key = String::from_str(alloc, name)?;
@@ -150,13 +156,15 @@ impl Shelf for MemShelf {
     ghost small = { λ shelf. files_small shelf.files };
 
     fn start(&mut self, name: &str) -> Result<(), Failed>
-        ensures ok { OnOk result (Leaves (Some (mem_files self.old)) (Some (mem_files self.new)) name.now []) }
+        ensures ok { OnOk result (Leaves (Some (mem_files self.old)) (Some (mem_files self.new))
+            name.now []) }
         ensures err { OnErr result (Some (mem_files self.new) ≡ Some (mem_files self.old)) }
         ensures reads { read_faults_of self.new ≡ read_faults_of self.old }
         ensures cause { HasCause (write_faults_of self.old) (write_faults_of self.new) result }
 
         ensures planned { IsFailingWrite self.old → IsErr result }
-        ensures unplanned { OnErr result (IsFailingWrite self.old ⊎ Rose (refused_of self.old) (refused_of self.new)) }
+        ensures unplanned { OnErr result (IsFailingWrite self.old
+            ⊎ Rose (refused_of self.old) (refused_of self.new)) }
         ensures faults { OnOk result (write_faults_of self.new ≡ write_faults_of self.old) }
         ensures counts { CountsWrite self.old self.new }
         ensures plan { KeepsPlan self.old self.new }
@@ -185,11 +193,14 @@ impl Shelf for MemShelf {
         ensures files { Some (mem_files self.new) ≡ Some (mem_files self.old) }
         ensures writes { write_faults_of self.new ≡ write_faults_of self.old }
         ensures later { read_faults_of self.old ≤ read_faults_of self.new }
-        ensures cause { OnErr result (MissingOrRose (Some (mem_files self.old)) name.now (read_faults_of self.old) (read_faults_of self.new)) }
-        ensures missing { IsMissing (Some (mem_files self.old)) name.now → IsErr result × (read_faults_of self.new ≡ read_faults_of self.old) }
+        ensures cause { OnErr result (MissingOrRose (Some (mem_files self.old)) name.now
+            (read_faults_of self.old) (read_faults_of self.new)) }
+        ensures missing { IsMissing (Some (mem_files self.old)) name.now → IsErr result
+            × (read_faults_of self.new ≡ read_faults_of self.old) }
 
         ensures planned { IsFailingRead self.old → IsErr result }
-        ensures unplanned { OnErr result (IsFailingRead self.old ⊎ (mem_files self.old name.now ≡ None)) }
+        ensures unplanned { OnErr result (IsFailingRead self.old ⊎ (mem_files self.old name.now
+            ≡ None)) }
         ensures moves { IfOk result (λ count. count ≤ piece_of self.old) }
         ensures faults { OnOk result (read_faults_of self.new ≡ read_faults_of self.old) }
         ensures counts { CountsRead self.old self.new }
@@ -216,8 +227,10 @@ impl Shelf for MemShelf {
         ensures err { OnErr result (Some (mem_files self.new) ≡ Some (mem_files self.old)) }
         ensures reads { read_faults_of self.new ≡ read_faults_of self.old }
         ensures later { write_faults_of self.old ≤ write_faults_of self.new }
-        ensures cause { OnErr result (MissingOrRose (Some (mem_files self.old)) name.now (write_faults_of self.old) (write_faults_of self.new)) }
-        ensures missing { IsMissing (Some (mem_files self.old)) name.now → IsErr result × (write_faults_of self.new ≡ write_faults_of self.old) }
+        ensures cause { OnErr result (MissingOrRose (Some (mem_files self.old)) name.now
+            (write_faults_of self.old) (write_faults_of self.new)) }
+        ensures missing { IsMissing (Some (mem_files self.old)) name.now → IsErr result
+            × (write_faults_of self.new ≡ write_faults_of self.old) }
 
         ensures planned { IsFailingWrite self.old → IsErr result }
         ensures unplanned { OnErr result

@@ -73,12 +73,14 @@ impl Sink for MemSink {
     fn write(&mut self, piece: &[u8]) -> Result<usize, Failed>
         ensures within { IfOk result (λ count. count ≤ length piece.now) }
         ensures some { IfOk result (λ count. 0 < length piece.now → 0 < count) }
-        ensures ok { IfOk result (λ count. Adds (Some (bytes_of self.old)) (Some (bytes_of self.new)) (take count piece.now)) }
+        ensures ok { IfOk result (λ count. Adds (Some (bytes_of self.old)) (Some (bytes_of
+            self.new)) (take count piece.now)) }
         ensures err { OnErr result (Some (bytes_of self.new) ≡ Some (bytes_of self.old)) }
         ensures cause { HasCause (faults_of self.old) (faults_of self.new) result }
 
         ensures planned { IsFailingWrite self.old → IsErr result }
-        ensures unplanned { OnErr result (IsFailingWrite self.old ⊎ Rose (refused_of self.old) (refused_of self.new)) }
+        ensures unplanned { OnErr result (IsFailingWrite self.old
+            ⊎ Rose (refused_of self.old) (refused_of self.new)) }
         ensures moves { IfOk result (λ count. count ≡ min (piece_of self.old) (length piece.now)) }
         ensures faults { OnOk result (faults_of self.new ≡ faults_of self.old) }
         ensures counts { CountsWrite self.old self.new }

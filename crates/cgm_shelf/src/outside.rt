@@ -43,7 +43,8 @@ pub trait Shelf {
         ensures files { files self.new ≡ files self.old }
         ensures writes { write_faults self.new ≡ write_faults self.old }
         ensures later { read_faults self.old ≤ read_faults self.new }
-        ensures cause { OnErr result (MissingOrRose (files self.old) name.now (read_faults self.old) (read_faults self.new)) }
+        ensures cause { OnErr result (MissingOrRose (files self.old) name.now (read_faults self.old)
+            (read_faults self.new)) }
         ensures missing { IsMissing (files self.old) name.now → IsErr result × (read_faults self.new ≡ read_faults self.old) };
 
     /// Adds a front of the piece to the named file, and answers its length, which is at least 1 for a
@@ -56,7 +57,8 @@ pub trait Shelf {
         ensures err { OnErr result (files self.new ≡ files self.old) }
         ensures reads { read_faults self.new ≡ read_faults self.old }
         ensures later { write_faults self.old ≤ write_faults self.new }
-        ensures cause { OnErr result (MissingOrRose (files self.old) name.now (write_faults self.old) (write_faults self.new)) }
+        ensures cause { OnErr result (MissingOrRose (files self.old) name.now (write_faults
+            self.old) (write_faults self.new)) }
         ensures missing { IsMissing (files self.old) name.now → IsErr result × (write_faults self.new ≡ write_faults self.old) };
 
     /// A file has fewer than 2^63 bytes.
@@ -79,7 +81,8 @@ pub trait Sink {
     fn write(&mut self, piece: &[u8]) -> Result<usize, Failed>
         ensures within { IfOk result (λ count. count ≤ length piece.now) }
         ensures some { IfOk result (λ count. 0 < length piece.now → 0 < count) }
-        ensures ok { IfOk result (λ count. Adds (written self.old) (written self.new) (take count piece.now)) }
+        ensures ok { IfOk result (λ count. Adds (written self.old) (written self.new) (take count
+            piece.now)) }
         ensures err { OnErr result (written self.new ≡ written self.old) }
         ensures cause { HasCause (faults self.old) (faults self.new) result };
 }

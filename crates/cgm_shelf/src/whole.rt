@@ -32,10 +32,13 @@ pub fn read_whole<F: Shelf>(
     name: &str,
     limit: Option<u64>,
 ) -> Result<Vec<u8>, ReadStop>
-    ensures ok { IfOk result (λ bytes. WhereTold (F.files shelf.old) name.now (λ file. bytes.items ≡ file)) }
+    ensures ok { IfOk result (λ bytes. WhereTold (F.files shelf.old) name.now (λ file. bytes.items
+        ≡ file)) }
     ensures fits { IfOk result (λ bytes. IfSome limit (λ most. vec_len bytes ≤ most)) }
 
-    ensures fault { result ≡ Err ReadStop.Fault → MissingOrRose (F.files shelf.old) name.now (F.read_faults shelf.old) (F.read_faults shelf.new) }
+    ensures fault { result ≡ Err ReadStop.Fault
+        → MissingOrRose (F.files shelf.old) name.now (F.read_faults shelf.old) (F.read_faults
+        shelf.new) }
     ensures missing { IsMissing (F.files shelf.old) name.now →
         (result ≡ Err ReadStop.Fault) × (F.read_faults shelf.new ≡ F.read_faults shelf.old) }
     ensures there { IsThere (F.files shelf.old) name.now → result ≡ Err ReadStop.Fault →
@@ -71,7 +74,9 @@ fn read_more<F: Shelf>(
     ensures grows { IfOk result (λ count. vec_len bytes.new ≡ vec_len bytes.old + count) }
     ensures fits { OnOk result (IfSome limit (λ most. vec_len bytes.new ≤ most)) }
 
-    ensures fault { result ≡ Err ReadStop.Fault → MissingOrRose (F.files shelf.old) name.now (F.read_faults shelf.old) (F.read_faults shelf.new) }
+    ensures fault { result ≡ Err ReadStop.Fault
+        → MissingOrRose (F.files shelf.old) name.now (F.read_faults shelf.old) (F.read_faults
+        shelf.new) }
     ensures missing { IsMissing (F.files shelf.old) name.now →
         (result ≡ Err ReadStop.Fault) × (F.read_faults shelf.new ≡ F.read_faults shelf.old) }
     ensures too_long { result ≡ Err ReadStop.TooLong →
@@ -111,7 +116,8 @@ fn is_past(limit: Option<u64>, count: usize) -> bool
 /// them.
 pub fn write_file<F: Shelf>(shelf: &mut F, name: &str, bytes: &[u8]) -> Result<(), Failed>
     ensures ok { OnOk result (Leaves (F.files shelf.old) (F.files shelf.new) name.now bytes.now) }
-    ensures err { OnErr result (LeavesPart (F.files shelf.old) (F.files shelf.new) name.now bytes.now) }
+    ensures err { OnErr result (LeavesPart (F.files shelf.old) (F.files shelf.new) name.now
+        bytes.now) }
     ensures reads { F.read_faults shelf.new ≡ F.read_faults shelf.old }
     ensures cause { HasCause (F.write_faults shelf.old) (F.write_faults shelf.new) result }
 {

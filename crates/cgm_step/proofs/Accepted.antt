@@ -148,3 +148,8 @@ pub objectives_known : (p : Instance) (os : List Var) (values : List ℤ) → os
 objectives_known p os values e wf fit =
     let known : All (λ (v : Var). v.0 < var_count p) os = subst (λ (xs : List Var). All (λ (v : Var). v.0 < var_count p) xs) (sym e) wf.objectives in
     subst (λ (n : ℕ). All (λ (v : Var). v.0 < n) os) (sym fit.count) known
+
+-- the empty log is accepted
+pub accepted_none : (p : Instance) → IsAccepted p []
+unfolding IsAccepted
+accepted_none p = tt

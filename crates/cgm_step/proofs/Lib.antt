@@ -8,3 +8,4 @@ pub mod Accepted
 pub mod Names
 pub mod RowLimits
 pub mod Testing
+pub mod KeptValues

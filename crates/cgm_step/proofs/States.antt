@@ -190,3 +190,8 @@ pub live_values : (log : List Entry) (ordinal : ℕ) (values : List ℤ) → liv
 live_values log zero values h = absurd (cc)
 live_values log (suc i) values h =
     values_stand log (slice_get (best_places log) i) values (by_places log i ∙ sym (live_best log i) ∙ h)
+
+-- the index counts the entries
+pub entries_by_index : (log : List Entry) (index : Index) → IsIndexOf index log → index.entries ≡ length log
+unfolding index_of
+entries_by_index log index own = ap (λ (x : Index). x.entries) own

@@ -129,3 +129,7 @@ IsBoxOf-itself b proper = record {
   inside = λ x. (≤ℤ_refl (lower_of b x), ≤ℤ_refl (upper_of b x));
   ordered = proper.ordered;
 }
+
+-- the bounds of a problem are a box of it
+pub box_of_problem : (limits b : Bounds) → b ≡ limits → IsProper limits → IsBoxOf limits b
+box_of_problem limits b e proper = subst (λ (x : Bounds). IsBoxOf limits x) (sym e) (IsBoxOf-itself limits proper)

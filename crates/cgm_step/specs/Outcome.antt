@@ -1,6 +1,8 @@
 -- What narrowing answers: whether the box is the same, tighter, or in conflict.
-use Rattle.std.specs.Prelude.{◌≡◌, ◌≢◌, ◌⊎◌, ℕ, ◌<ℤ◌, Option, Some, None, Result, Ok, Err}
-use Rattle.cgm_atom.specs.Bounds.{Bounds, lower_of, upper_of}
+use Rattle.std.specs.Prelude.{IsTrue, IfSome, List, ℤ, ◌≡◌, ◌≢◌, ◌⊎◌, ℕ, ◌<ℤ◌, Option, Some, None, Result, Ok, Err}
+use Rattle.cgm_atom.specs.Atoms.{clause_true, row_true}
+use Rattle.cgm_atom.specs.Bounds.{Bounds, IsWithin, lower_of, upper_of}
+use Rattle.cgm_atom.specs.LogState.{Constraint, of_clause, of_row}
 use Rattle.cgm_step.specs.declared.outcome.Narrowed.{Narrowed}
 use Rattle.cgm_step.specs.declared.outcome.Narrowed.TheVariants.{Same, Tighter, Conflict}
 
@@ -9,6 +11,19 @@ abbrev pub IsNarrowing : Option Bounds → Bounds → Bounds → Narrowed → Ty
 IsNarrowing left old new Same = (left ≡ Some old) × (new ≡ old)
 IsNarrowing left old new Tighter = (left ≡ Some new) × (new ≢ old)
 IsNarrowing left old new Conflict = (left ≡ None) × (new ≡ old)
+
+-- values make the clause true, or meet the row
+abbrev pub IsMetBy : List ℤ → Constraint → Type 0
+IsMetBy values (of_clause c) = IsTrue (clause_true values c)
+IsMetBy values (of_row r) = IsTrue (row_true values r)
+
+-- values of the old box that meet the constraint, if there is one, are in the new box
+abbrev pub KeepsValues : Option Constraint → Bounds → Bounds → Type 0
+KeepsValues there old new = (values : List ℤ) → IsWithin old values → IfSome there (IsMetBy values) → IsWithin new values
+
+-- no values of the box meet it
+abbrev pub HasNoValues : Option Constraint → Bounds → Type 0
+HasNoValues there b = (values : List ℤ) → IsWithin b values → ¬ IfSome there (IsMetBy values)
 
 -- some bound is tighter
 abbrev pub IsNarrower : Bounds → Bounds → Type 0

@@ -29,6 +29,7 @@ use cgm_atom::{
 /// that of the last best. For a lemma: none without atoms stands before it, its variables exist, its hints name
 /// something, its bound is the greatest that they carry, and they refute it.
 /// `work` is afterwards some box of the problem, also after a refusal. Takes no memory.
+/// Condition: the log is accepted, the index is its own, and `work` is a box of the problem.
 #[tactic(auto, unfolding(cgm_atom::specs::Acceptance::first_fault))]
 pub fn accepts_next(
     p: &Problem,
@@ -78,7 +79,8 @@ fn accepts_lemma(
     requires accepted { IsAccepted p.now log.now }
     requires own { IsIndexOf index.now log.now }
     requires in_box { IsBoxOf p.now.bounds work.old }
-    ensures exact { IsVerdict (first_fault p.now (state_of log.now) (entry.Lemma 0 clause.now hints.now bound)) result }
+    ensures exact { IsVerdict (first_fault p.now (state_of log.now) (entry.Lemma 0 clause.now
+        hints.now bound)) result }
     ensures within { IsBoxOf p.now.bounds work.new }
 {
     test_open(index)?;
@@ -100,7 +102,8 @@ fn test_open(index: &LogIndex) -> Result<(), BadStep>
 
 /// The values are a solution.
 fn test_values(p: &Problem, values: &[i64]) -> Result<(), BadStep>
-    ensures exact { IsVerdict (option_map (fault_of (length values.now)) (first_violation p.now values.now)) result }
+    ensures exact { IsVerdict (option_map (fault_of (length values.now)) (first_violation p.now
+        values.now)) result }
     ensures fit { OnOk result (AreValuesOf p.now values.now) }
 {
     let _valid = p.objectives();
@@ -145,7 +148,8 @@ fn test_less(p: &Problem, log: &[Entry], index: &LogIndex, values: &[i64]) -> Re
 fn is_less(objectives: &[Var], values: &[i64], others: &[i64]) -> bool
     requires known { All (λ v. v.0 < length values.now) objectives.now }
     requires others_known { All (λ v. v.0 < length others.now) objectives.now }
-    ensures { result ≡ is_less_vector (values_at values.now objectives.now) (values_at others.now objectives.now) }
+    ensures { result ≡ is_less_vector (values_at values.now objectives.now) (values_at others.now
+        objectives.now) }
 {
     for objective in objectives {
         let at = objective.0 as usize;
@@ -241,7 +245,8 @@ fn test_refuted(
     requires own { IsIndexOf index.now log.now }
     requires in_box { IsBoxOf p.now.bounds work.old }
     requires known { AreKnown (var_count p.now) clause.now.atoms }
-    ensures exact { IsVerdict (fault_unless (is_refuted p.now (state_of log.now) clause.now hints.now) fault.NoConflict) result }
+    ensures exact { IsVerdict (fault_unless (is_refuted p.now (state_of log.now) clause.now
+        hints.now) fault.NoConflict) result }
     ensures within { IsBoxOf p.now.bounds work.new }
 {
     let _valid = p.objectives();

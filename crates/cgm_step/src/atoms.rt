@@ -1,5 +1,5 @@
 //! Atoms in a box.
-ghost use Rattle.std.specs.Prelude.{◌≡◌, ◌<◌, length, true, false, Some, MatchOption};
+ghost use Rattle.std.specs.Prelude.{◌≡◌, ◌<◌, length, true, false, MatchOption};
 ghost use Rattle.cgm_atom.specs.Atoms.{negation};
 ghost use Rattle.cgm_atom.specs.Bounds.{Bounds, IsBoxOf, IsProper};
 ghost use Rattle.cgm_atom.specs.Narrowing.{is_false_in, is_true_in, made_true};
@@ -21,7 +21,7 @@ pub(crate) fn is_true(b: &BoxState, a: Atom) -> bool
     }
 }
 
-/// Whether no value of the box does.
+/// Whether no value of the box makes the atom true.
 pub(crate) fn is_false(b: &BoxState, a: Atom) -> bool
     requires { a.var.0 < length b.now.lower }
     ensures { result ≡ is_false_in b.now a }

@@ -58,7 +58,8 @@ fn atom_at(atoms: Atoms<'_>, i: usize) -> Atom
 
 fn count_of_part(objectives: &[Var], part: usize) -> usize
     requires { part < max 1 (length objectives.now) }
-    ensures { (values : List ℤ) → result ≡ length (part_atoms objectives.now (values_at values objectives.now) part) }
+    ensures { (values : List ℤ) → result
+        ≡ length (part_atoms objectives.now (values_at values objectives.now) part) }
 {
     if objectives.is_empty() {
         return 0;
@@ -71,8 +72,10 @@ fn part_atom(objectives: &[Var], values: &[i64], part: usize, i: usize) -> Atom
     requires known { All (λ v. v.0 < length values.now) objectives.now }
     requires sizes { All IsBound values.now }
     requires part_within { part < max 1 (length objectives.now) }
-    requires within { i < length (part_atoms objectives.now (values_at values.now objectives.now) part) }
-    ensures { slice_get (part_atoms objectives.now (values_at values.now objectives.now) part) i ≡ Some result }
+    requires within { i < length (part_atoms objectives.now (values_at values.now objectives.now)
+        part) }
+    ensures { slice_get (part_atoms objectives.now (values_at values.now objectives.now) part) i
+        ≡ Some result }
 {
     objective_atom(values, objectives[i], i, part, objectives.len())
 }
@@ -83,7 +86,8 @@ fn objective_atom(values: &[i64], objective: Var, i: usize, part: usize, parts: 
     requires known { objective.0 < length values.now }
     requires sizes { All IsBound values.now }
     requires part_within { part < parts }
-    ensures { result ≡ at_most_atom objective (cut_limit (value_of values.now objective.0) i part parts) }
+    ensures { result ≡ at_most_atom objective (cut_limit (value_of values.now objective.0) i part
+        parts) }
 {
     let value = values[objective.0 as usize];
     let is_strict = i < part || part + 1 == parts;
@@ -113,7 +117,8 @@ fn first_left(atoms: Atoms<'_>, b: &BoxState, from: usize) -> Option<usize>
 pub(crate) fn narrow_by_atoms(b: &mut BoxState, atoms: Atoms<'_>) -> Narrowed
     requires readable { IsReadable atoms }
     requires known { AreKnown (length b.old.lower) (atoms_of atoms) }
-    ensures exact { IsNarrowing (left_by_clause b.old (record { atoms = atoms_of atoms.entry })) b.old b.new result }
+    ensures exact { IsNarrowing (left_by_clause b.old (record { atoms = atoms_of atoms.entry }))
+        b.old b.new result }
     ensures within { (limits : Bounds) → IsBoxOf limits b.old → IsBoxOf limits b.new }
 {
     match first_left(atoms, b, 0) {

@@ -5,7 +5,7 @@ ghost use Rattle.cgm_step.specs.Indexing.{IsIndexOf, empty_index, index_with};
 
 use cgm_atom::{Entry, OutOfMemory};
 use std::alloc::Global;
-use std::marker::Model;
+use std::marker::{Model, Send};
 
 /// The places of the bests of a log, and whether the log is closed.
 #[derive(Debug, Drop)]
@@ -37,6 +37,7 @@ impl LogIndex {
     }
 
     /// Adds the next entry of the log. Without memory for it the index stays as it was.
+    /// Condition: fewer than 2^63 entries so far.
     pub fn add(&mut self, e: &Entry) -> Result<(), OutOfMemory>
         requires { self.old.entries < 2 ^ 63 }
         ensures ok { OnOk result (self.new ≡ index_with self.old e.now) }
@@ -63,9 +64,17 @@ impl LogIndex {
         self.bests.as_slice()
     }
 
+    /// Whether a lemma without atoms stands in the log.
     pub(crate) fn is_closed(&self) -> bool
         ensures { result ≡ self.now.closed }
     {
         self.is_closed
     }
 }
+
+// An index can be moved to a thread with its log.
+fn cross_threads(index: &LogIndex) {
+    can_be_moved(index);
+}
+
+fn can_be_moved<T: Send>(_: &T) {}

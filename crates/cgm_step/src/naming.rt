@@ -75,7 +75,8 @@ fn entry_at(log: &[Entry], place: u64) -> Option<&Entry>
 }
 
 fn lemma_at(log: &[Entry], place: u64) -> Option<&Clause>
-    ensures { option_copied result ≡ option_and_then lemma_clause (live_at (state_of log.now).entries place) }
+    ensures { option_copied result ≡ option_and_then lemma_clause (live_at (state_of
+        log.now).entries place) }
 {
     match entry_at(log, place) {
         Some(Entry::Lemma { clause, .. }) => Some(clause),
@@ -117,7 +118,8 @@ pub(crate) fn last_best<'a>(log: &'a [Entry], index: &LogIndex) -> Option<&'a [i
 
 fn find_part<'a>(p: &'a Problem, values: &'a [i64], part: u32) -> Option<Named<'a>>
     requires { AreValuesOf p.now values.now }
-    ensures { IsFound p.now (option_map of_clause (slice_get (cut p.now.objectives (vector p.now values.now)) part)) result }
+    ensures { IsFound p.now (option_map of_clause (slice_get (cut p.now.objectives (vector p.now
+        values.now)) part)) result }
 {
     let objectives = p.objectives();
     let part = part as usize;

@@ -2,9 +2,9 @@
 ghost use Rattle.std.specs.Prelude.{◌≡◌, ◌↔◌, IsTrue, IsNone};
 ghost use Rattle.cgm_atom.specs.Acceptance.{IsAccepted};
 ghost use Rattle.cgm_atom.specs.Bounds.{IsBoxOf};
-ghost use Rattle.cgm_atom.specs.LogState.{all_narrowed, narrowed, state_of};
+ghost use Rattle.cgm_atom.specs.LogState.{all_narrowed, named, narrowed, state_of};
 ghost use Rattle.cgm_step.specs.Indexing.{IsIndexOf};
-ghost use Rattle.cgm_step.specs.Outcome.{IsNarrowing};
+ghost use Rattle.cgm_step.specs.Outcome.{HasNoValues, IsNarrowing, KeepsValues};
 
 use crate::clauses::narrow_by_atoms;
 use crate::index::LogIndex;
@@ -15,14 +15,18 @@ use cgm_atom::{BoxState, Entry, Hint, Problem};
 
 /// Narrows a box by the clause or row that a hint names. A hint that names nothing leaves the box.
 ///
-/// `Conflict` comes exactly where no values of the box are left, and the box is then as it was;
-/// `Tighter` where a bound has changed. Takes no memory.
+/// `Conflict` comes where it leaves nothing of the box, which then is as it was, and `Tighter` where a bound
+/// has changed. Values of the box that meet the clause or row stay in it. Takes no memory.
+/// Condition: the log is accepted, the index is its own, and the box is one of the problem.
 pub fn narrow(p: &Problem, log: &[Entry], index: &LogIndex, b: &mut BoxState, h: &Hint) -> Narrowed
     requires accepted { IsAccepted p.now log.now }
     requires own { IsIndexOf index.now log.now }
     requires in_box { IsBoxOf p.now.bounds b.old }
     ensures exact { IsNarrowing (narrowed p.now (state_of log.now) b.old h.now) b.old b.new result }
     ensures within { IsBoxOf p.now.bounds b.new }
+    ensures kept { KeepsValues (named p.now (state_of log.now) h.now) b.old b.new }
+    ensures conflict { result ≡ Narrowed.Conflict → HasNoValues (named p.now (state_of log.now)
+        h.now) b.old }
 {
     let _valid = p.objectives();
     match find(p, log, index, h) {

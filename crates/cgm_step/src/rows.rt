@@ -1,5 +1,5 @@
 //! Narrowing by a row.
-ghost use Rattle.std.specs.Prelude.{◌≡◌, ◌≢◌, ◌+◌, ◌*◌, ◌/◌, ◌^◌, ◌<◌, ◌≤◌, ℕ, length, false, pos, ◌+ℤ◌, ◌-ℤ◌, ◌*ℤ◌, ◌≤ℤ◌, unsigned_abs, IfSome};
+ghost use Rattle.std.specs.Prelude.{◌≡◌, ◌≢◌, ◌+◌, ◌*◌, ◌^◌, ◌<◌, ◌≤◌, length, pos, ◌+ℤ◌, ◌-ℤ◌, ◌*ℤ◌, ◌≤ℤ◌, unsigned_abs, IfSome};
 ghost use Rattle.cgm_atom.specs.Bounds.{Bounds, IsBoxOf, IsProper, lower_of, upper_of};
 ghost use Rattle.cgm_atom.specs.Limits.{AreTermsOf, IsBound, IsRowOf, greatest_size, measure};
 ghost use Rattle.cgm_atom.specs.Narrowing.{greatest_activity as activity, greatest_term as term_most, is_claimed_in, left_by_row, left_by_unmet, tightened_by_terms};
@@ -23,7 +23,8 @@ fn greatest_term(b: &BoxState, term: &(i64, Var)) -> i64
     requires known { term.now.1.0 < length b.now.lower }
     requires limit { unsigned_abs term.now.0 * greatest_size b.now term.now.1.0 ≤ 4 * 10 ^ 18 }
     ensures value { result ≡ term_most b.now term.now.0 term.now.1.0 }
-    ensures size { unsigned_abs result ≤ unsigned_abs term.now.0 * greatest_size b.now term.now.1.0 }
+    ensures size { unsigned_abs result ≤ unsigned_abs term.now.0 * greatest_size b.now
+        term.now.1.0 }
 {
     if term.0 < 0 {
         product(term.0, b.lo(term.1))
@@ -32,6 +33,7 @@ fn greatest_term(b: &BoxState, term: &(i64, Var)) -> i64
     }
 }
 
+/// The greatest value of the sum of coefficient times variable.
 fn greatest_activity(b: &BoxState, terms: &[(i64, Var)]) -> i64
     requires known { AreTermsOf (length b.now.lower) terms.now }
     requires limit { measure b.now terms.now ≤ 4 * 10 ^ 18 }

@@ -58,7 +58,8 @@ impl Draft {
         ensures added { OnOk result (self.new.builder ≡ added self.old.builder s) }
         ensures allowed { OnOk result (IsAllowed self.old.builder s) }
         ensures few_names { OnOk result (length (names (added self.old.builder s)) ≤ 16) }
-        ensures faulty { result ≡ Err LineStop.Faulty → length (names (added self.old.builder s)) ≤ 16 → ¬ IsAllowed self.old.builder s }
+        ensures faulty { result ≡ Err LineStop.Faulty → length (names (added self.old.builder s)) ≤
+            16 → ¬ IsAllowed self.old.builder s }
     {
         let declared = declared_count(&s);
         if self.name_count + declared > MOST_NAMES {
@@ -77,8 +78,13 @@ impl Draft {
 
     /// Adds the statement that these words make.
     fn add_words(&mut self, alloc: Global, words: &[&[u8]]) -> Result<(), LineStop>
-        ensures added { OnOk result ((s : Statement) × (IsWrittenAs self.old.builder (map (λ word. word.now) words.now) s × IsAllowed self.old.builder s × (length (names (added self.old.builder s)) ≤ 16) × (self.new.builder ≡ added self.old.builder s))) }
-        ensures faulty { result ≡ Err LineStop.Faulty → (s : Statement) → IsWrittenAs self.old.builder (map (λ word. word.now) words.now) s → length (names (added self.old.builder s)) ≤ 16 → ¬ IsAllowed self.old.builder s }
+        ensures added { OnOk result ((s : Statement) × (IsWrittenAs self.old.builder (map
+            (λ word. word.now) words.now) s × IsAllowed self.old.builder s
+            × (length (names (added self.old.builder s)) ≤ 16) × (self.new.builder
+            ≡ added self.old.builder s))) }
+        ensures faulty { result ≡ Err LineStop.Faulty → (s : Statement)
+            → IsWrittenAs self.old.builder (map (λ word. word.now) words.now) s
+            → length (names (added self.old.builder s)) ≤ 16 → ¬ IsAllowed self.old.builder s }
     {
         match statement_of(alloc, &self.builder, words) {
             Ok(Some(s)) => self.add(s),
@@ -90,7 +96,8 @@ impl Draft {
     /// Adds the statement that a line makes.
     pub(crate) fn add_line(&mut self, alloc: Global, line: &[u8]) -> Result<(), LineStop>
         ensures added { OnOk result (MakesStatement self.old.builder line.now self.new.builder) }
-        ensures faulty { result ≡ Err LineStop.Faulty → (s : Statement) → ¬ Says self.old.builder line.now s }
+        ensures faulty { result ≡ Err LineStop.Faulty → (s : Statement)
+            → ¬ Says self.old.builder line.now s }
     {
         match split_words(alloc, line) {
             Ok(words) => self.add_words(alloc, words.as_slice()),

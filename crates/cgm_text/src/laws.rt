@@ -5,10 +5,12 @@ ghost use Rattle.cgm_text.specs.Text.{IsTextOf, HasFault};
 
 /// The law that a text which has a model has no fault.
 pub fn text_has_model_or_fault()
-    ensures { (text : List ℕ) (m : Lists) (line : ℕ) (kind : BadKind) → IsTextOf text m → ¬ HasFault text line kind }
+    ensures { (text : List ℕ) (m : Lists) (line : ℕ) (kind : BadKind) → IsTextOf text m
+        → ¬ HasFault text line kind }
 {}
 
 /// The law that a text has one model at most.
 pub fn text_has_one_model()
-    ensures { (text : List ℕ) (one other : Lists) → IsTextOf text one → IsTextOf text other → one ≡ other }
+    ensures { (text : List ℕ) (one other : Lists) → IsTextOf text one → IsTextOf text other → one
+        ≡ other }
 {}

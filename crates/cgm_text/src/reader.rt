@@ -40,7 +40,8 @@ fn not_yet(line: u32) -> TextStop
 /// Reads the statements of the lines after the header.
 fn read_statements(alloc: Global, text: &[u8]) -> Result<Reading, TextStop>
     requires { length text.now ≤ 16777216 }
-    ensures read { IfOk result (λ reading. Leads no_lists (lines text.now) (lists_of reading.model)) }
+    ensures read { IfOk result (λ reading. Leads no_lists (lines text.now) (lists_of
+        reading.model)) }
     ensures faulty { IfErr result (IsStopAfter (lines text.now)) }
 {
     let mut draft = Draft::new(alloc);

@@ -17,8 +17,10 @@ use std::alloc::{AllocError, Global};
 
 /// The number of the element with this name.
 fn element_named(builder: &ModelBuilder, name: &[u8]) -> Option<u32>
-    ensures found { IfSome result (λ number. slice_get (element_names builder.now) number ≡ Some name.now) }
-    ensures none { IfNone result ((number : ℕ) → slice_get (element_names builder.now) number ≢ Some name.now) }
+    ensures found { IfSome result (λ number. slice_get (element_names builder.now) number
+        ≡ Some name.now) }
+    ensures none { IfNone result ((number : ℕ) → slice_get (element_names builder.now) number
+        ≢ Some name.now) }
 {
     match builder.find(name) {
         Some(Thing::Element(number)) => Some(number),
@@ -33,9 +35,13 @@ fn elements_named(
     builder: &ModelBuilder,
     words: &[&[u8]],
 ) -> Result<Option<Vec<u32>>, AllocError>
-    ensures found { IfOk result (λ found. IfSome found (λ numbers. map (λ word. word.now) words.now ≡ map (element_name builder.now) numbers.items)) }
-    ensures known { IfOk result (λ found. IfSome found (λ numbers. All (λ number. number < length builder.now.elements) numbers.items)) }
-    ensures none { IfOk result (λ found. IfNone found ((numbers : List ℕ) → All (λ number. number < length builder.now.elements) numbers → map (λ word. word.now) words.now ≢ map (element_name builder.now) numbers)) }
+    ensures found { IfOk result (λ found. IfSome found (λ numbers. map (λ word. word.now) words.now
+        ≡ map (element_name builder.now) numbers.items)) }
+    ensures known { IfOk result (λ found. IfSome found (λ numbers. All
+        (λ number. number < length builder.now.elements) numbers.items)) }
+    ensures none { IfOk result (λ found. IfNone found ((numbers : List ℕ) → All
+        (λ number. number < length builder.now.elements) numbers → map (λ word. word.now) words.now
+        ≢ map (element_name builder.now) numbers)) }
 {
     let mut numbers = Vec::new(alloc);
     for word in words {
@@ -53,8 +59,11 @@ fn element_of(
     kind: ElementKind,
     words: &[&[u8]],
 ) -> Result<Option<Element>, AllocError>
-    ensures found { IfOk result (λ found. IfSome found (λ e. (map (λ word. word.now) words.now ≡ element_arguments e) × (e.kind ≡ kind) × (IsTrue e.must → kind ≡ Goal))) }
-    ensures none { IfOk result (λ found. IfNone found ((e : Element) → map (λ word. word.now) words.now ≡ element_arguments e → (IsTrue e.must → kind ≡ Goal) → ¬ IsTrue (is_name e.name))) }
+    ensures found { IfOk result (λ found. IfSome found (λ e. (map (λ word. word.now) words.now
+        ≡ element_arguments e) × (e.kind ≡ kind) × (IsTrue e.must → kind ≡ Goal))) }
+    ensures none { IfOk result (λ found. IfNone found ((e : Element) → map
+        (λ word. word.now) words.now ≡ element_arguments e → (IsTrue e.must → kind ≡ Goal)
+        → ¬ IsTrue (is_name e.name))) }
 {
     match split_word(words) {
         None => Ok(None),
@@ -71,8 +80,12 @@ fn sources_of(
     builder: &ModelBuilder,
     words: &[&[u8]],
 ) -> Result<Option<Vec<u32>>, AllocError>
-    ensures found { IfOk result (λ found. IfSome found (λ numbers. (map (λ word. word.now) words.now ≡ map (element_name builder.now) numbers.items) × (0 < length numbers.items) × All (λ number. number < length builder.now.elements) numbers.items)) }
-    ensures none { IfOk result (λ found. IfNone found ((numbers : List ℕ) → 0 < length numbers → All (λ number. number < length builder.now.elements) numbers → map (λ word. word.now) words.now ≢ map (element_name builder.now) numbers)) }
+    ensures found { IfOk result (λ found. IfSome found (λ numbers. (map (λ word. word.now) words.now
+        ≡ map (element_name builder.now) numbers.items) × (0 < length numbers.items) × All
+        (λ number. number < length builder.now.elements) numbers.items)) }
+    ensures none { IfOk result (λ found. IfNone found ((numbers : List ℕ) → 0 < length numbers → All
+        (λ number. number < length builder.now.elements) numbers → map (λ word. word.now) words.now
+        ≢ map (element_name builder.now) numbers)) }
 {
     if words.is_empty() {
         return Ok(None);
@@ -82,8 +95,12 @@ fn sources_of(
 
 /// The target of a refinement and the words after the colon.
 fn target_of<'w, 't>(builder: &ModelBuilder, words: &'w [&'t [u8]]) -> Option<(u32, &'w [&'t [u8]])>
-    ensures found { IfSome result (λ parts. (map (λ word. word.now) words.now ≡ element_name builder.now parts.0 ∷ codes ":" ∷ map (λ word. word.now) parts.1.now) × (parts.0 < length builder.now.elements)) }
-    ensures none { IfNone result ((target : ℕ) (sources : List (List ℕ)) → target < length builder.now.elements → map (λ word. word.now) words.now ≢ element_name builder.now target ∷ codes ":" ∷ sources) }
+    ensures found { IfSome result (λ parts. (map (λ word. word.now) words.now
+        ≡ element_name builder.now parts.0 ∷ codes ":" ∷ map (λ word. word.now) parts.1.now)
+        × (parts.0 < length builder.now.elements)) }
+    ensures none { IfNone result ((target : ℕ) (sources : List (List ℕ))
+        → target < length builder.now.elements → map (λ word. word.now) words.now
+        ≢ element_name builder.now target ∷ codes ":" ∷ sources) }
 {
     match split_word(words) {
         None => None,
@@ -108,8 +125,11 @@ fn refinement_of(
     builder: &ModelBuilder,
     words: &[&[u8]],
 ) -> Result<Option<Refinement>, AllocError>
-    ensures found { IfOk result (λ found. IfSome found (λ r. (map (λ word. word.now) words.now ≡ refinement_arguments builder.now r) × IsProper builder.now (statements.Refine r))) }
-    ensures none { IfOk result (λ found. IfNone found ((r : Refinement) → map (λ word. word.now) words.now ≡ refinement_arguments builder.now r → IsProper builder.now (statements.Refine r) → ¬ IsTrue (is_name r.name))) }
+    ensures found { IfOk result (λ found. IfSome found (λ r. (map (λ word. word.now) words.now
+        ≡ refinement_arguments builder.now r) × IsProper builder.now (statements.Refine r))) }
+    ensures none { IfOk result (λ found. IfNone found ((r : Refinement) → map
+        (λ word. word.now) words.now ≡ refinement_arguments builder.now r
+        → IsProper builder.now (statements.Refine r) → ¬ IsTrue (is_name r.name))) }
 {
     match split_word(words) {
         None => Ok(None),
@@ -129,8 +149,10 @@ fn refinement_of(
 
 /// The assertion that these words after `assert` make.
 fn assertion_of(builder: &ModelBuilder, words: &[&[u8]]) -> Option<Assertion>
-    ensures found { IfSome result (λ a. (map (λ word. word.now) words.now ≡ assertion_arguments builder.now a) × IsProper builder.now (statements.Assert a)) }
-    ensures none { IfNone result ((a : Assertion) → IsProper builder.now (statements.Assert a) → map (λ word. word.now) words.now ≢ assertion_arguments builder.now a) }
+    ensures found { IfSome result (λ a. (map (λ word. word.now) words.now
+        ≡ assertion_arguments builder.now a) × IsProper builder.now (statements.Assert a)) }
+    ensures none { IfNone result ((a : Assertion) → IsProper builder.now (statements.Assert a) → map
+        (λ word. word.now) words.now ≢ assertion_arguments builder.now a) }
 {
     match split_word(words) {
         None => None,
@@ -151,8 +173,10 @@ fn element_statement(
     words: &[&[u8]],
 ) -> Result<Option<Statement>, AllocError>
     requires { kind ≢ Assume }
-    ensures found { IfOk result (λ found. IfSome found (λ s. (m : Lists) → IsWrittenAs m (kind_word kind ∷ map (λ word. word.now) words.now) s)) }
-    ensures none { IfOk result (λ found. IfNone found ((m : Lists) → SaysNothing m (kind_word kind ∷ map (λ word. word.now) words.now))) }
+    ensures found { IfOk result (λ found. IfSome found (λ s. (m : Lists)
+        → IsWrittenAs m (kind_word kind ∷ map (λ word. word.now) words.now) s)) }
+    ensures none { IfOk result (λ found. IfNone found ((m : Lists)
+        → SaysNothing m (kind_word kind ∷ map (λ word. word.now) words.now))) }
 {
     match element_of(alloc, kind, words)? {
         None => Ok(None),
@@ -166,8 +190,10 @@ fn refinement_statement(
     builder: &ModelBuilder,
     words: &[&[u8]],
 ) -> Result<Option<Statement>, AllocError>
-    ensures found { IfOk result (λ found. IfSome found (IsWrittenAs builder.now (codes "refine" ∷ map (λ word. word.now) words.now))) }
-    ensures none { IfOk result (λ found. IfNone found (SaysNothing builder.now (codes "refine" ∷ map (λ word. word.now) words.now))) }
+    ensures found { IfOk result (λ found. IfSome found (IsWrittenAs builder.now (codes "refine" ∷
+        map (λ word. word.now) words.now))) }
+    ensures none { IfOk result (λ found. IfNone found (SaysNothing builder.now (codes "refine" ∷ map
+        (λ word. word.now) words.now))) }
 {
     match refinement_of(alloc, builder, words)? {
         None => Ok(None),
@@ -181,8 +207,10 @@ pub(crate) fn statement_of(
     builder: &ModelBuilder,
     words: &[&[u8]],
 ) -> Result<Option<Statement>, AllocError>
-    ensures found { IfOk result (λ found. IfSome found (IsWrittenAs builder.now (map (λ word. word.now) words.now))) }
-    ensures none { IfOk result (λ found. IfNone found (SaysNothing builder.now (map (λ word. word.now) words.now))) }
+    ensures found { IfOk result (λ found. IfSome found (IsWrittenAs builder.now (map
+        (λ word. word.now) words.now))) }
+    ensures none { IfOk result (λ found. IfNone found (SaysNothing builder.now (map
+        (λ word. word.now) words.now))) }
 {
     match split_word(words) {
         None => Ok(None),

@@ -16,7 +16,8 @@ pub(crate) fn is(word: &[u8], text: &str) -> bool
 
 /// Takes the first word off.
 pub(crate) fn split_word<'w, 't>(words: &'w [&'t [u8]]) -> Option<(&'t [u8], &'w [&'t [u8]])>
-    ensures { MatchOption result (map (λ word. word.now) words.now ≡ []) (λ parts. map (λ word. word.now) words.now ≡ parts.0.now ∷ map (λ word. word.now) parts.1.now) }
+    ensures { MatchOption result (map (λ word. word.now) words.now ≡ []) (λ parts. map
+        (λ word. word.now) words.now ≡ parts.0.now ∷ map (λ word. word.now) parts.1.now) }
 {
     match words.split_first() {
         None => None,
@@ -37,8 +38,10 @@ pub(crate) fn name_of(alloc: Global, word: &[u8]) -> Result<Option<Name>, AllocE
 
 /// Whether the last words of an element of this kind are `must`, which a goal alone may have, or nothing.
 pub(crate) fn must_of(kind: ElementKind, words: &[&[u8]]) -> Option<bool>
-    ensures found { IfSome result (λ must. (map (λ word. word.now) words.now ≡ must_words must) × (IsTrue must → kind ≡ Goal)) }
-    ensures none { IfNone result ((must : _) → (IsTrue must → kind ≡ Goal) → map (λ word. word.now) words.now ≢ must_words must) }
+    ensures found { IfSome result (λ must. (map (λ word. word.now) words.now ≡ must_words must)
+        × (IsTrue must → kind ≡ Goal)) }
+    ensures none { IfNone result ((must : _) → (IsTrue must → kind ≡ Goal) → map
+        (λ word. word.now) words.now ≢ must_words must) }
 {
     match words {
         [] => Some(false),
@@ -49,8 +52,10 @@ pub(crate) fn must_of(kind: ElementKind, words: &[&[u8]]) -> Option<bool>
 
 /// The truth value that the last words of an assertion, which are one word, mean.
 pub(crate) fn truth_of(words: &[&[u8]]) -> Option<bool>
-    ensures found { IfSome result (λ truth. map (λ word. word.now) words.now ≡ truth_word truth ∷ []) }
-    ensures none { IfNone result ((truth : _) → map (λ word. word.now) words.now ≢ truth_word truth ∷ []) }
+    ensures found { IfSome result (λ truth. map (λ word. word.now) words.now
+        ≡ truth_word truth ∷ []) }
+    ensures none { IfNone result ((truth : _) → map (λ word. word.now) words.now
+        ≢ truth_word truth ∷ []) }
 {
     match words {
         [word] => {

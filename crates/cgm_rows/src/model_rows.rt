@@ -1,5 +1,5 @@
 // Models that are built and read, and the rules that their assignments break.
-ghost use Rattle.std.specs.Prelude.{◌≡◌, ◌+◌, ◌<◌, ◌≤◌, length, All, IfOk};
+ghost use Rattle.std.specs.Prelude.{◌<◌, length, IfOk};
 
 use cgm_base::{BadKind, Status, Which};
 use cgm_model::{
@@ -171,29 +171,46 @@ fn model_of(alloc: Global, text: &[u8]) -> Result<Model, Fail> {
     Ok(read(alloc, text)?.model)
 }
 
+fn is_element(e: &Element, name: &str, kind: ElementKind, must: bool) -> bool {
+    e.name.as_slice() == name.as_bytes() && e.kind == kind && e.must == must
+}
+
+fn has_elements_of_rules(m: &Model) -> bool {
+    match m.elements.as_slice() {
+        [g, h, t, u] => {
+            is_element(g, "G", ElementKind::Goal, true)
+                && is_element(h, "H", ElementKind::Goal, false)
+                && is_element(t, "T", ElementKind::Task, false)
+                && is_element(u, "U", ElementKind::Task, false)
+        }
+        _ => false,
+    }
+}
+
+fn is_refinement(r: &Refinement, name: &str, target: u32, sources: &[u32]) -> bool {
+    r.name.as_slice() == name.as_bytes() && r.target == target && r.sources.as_slice() == sources
+}
+
+fn has_refinements_of_rules(m: &Model) -> bool {
+    match m.refinements.as_slice() {
+        [r, s] => is_refinement(r, "R", 0, &[1, 2]) && is_refinement(s, "S", 1, &[2]),
+        _ => false,
+    }
+}
+
+fn has_assertion_of_rules(m: &Model) -> bool {
+    match m.asserts.as_slice() {
+        [a] => a.element == 3 && !a.truth,
+        _ => false,
+    }
+}
+
 #[test]
 fn reading(rt: HostRuntime) -> Result<(), Fail> {
     let m = model_of(rt.alloc(), RULES)?;
-    let elements = [
-        ("G", ElementKind::Goal, true),
-        ("H", ElementKind::Goal, false),
-        ("T", ElementKind::Task, false),
-        ("U", ElementKind::Task, false),
-    ];
-    for (e, (name, kind, must)) in m.elements.as_slice().iter().zip(elements) {
-        assert_eq!(rt; (e.kind, e.must), (kind, must));
-        assert_eq!(rt; e.name.as_slice(), name.as_bytes());
-    }
-    let refinements = [("R", 0, [1, 2].as_slice()), ("S", 1, [2].as_slice())];
-    for (r, (name, target, sources)) in m.refinements.as_slice().iter().zip(refinements) {
-        assert_eq!(rt; r.name.as_slice(), name.as_bytes());
-        assert_eq!(rt; (r.target, r.sources.as_slice()), (target, sources));
-    }
-    for a in m.asserts.as_slice() {
-        assert_eq!(rt; (a.element, a.truth), (3, false));
-    }
-    let counts = (m.elements.as_slice().len(), m.refinements.as_slice().len());
-    assert_eq!(rt; (counts, m.asserts.as_slice().len()), ((4, 2), 1));
+    assert!(rt; has_elements_of_rules(&m));
+    assert!(rt; has_refinements_of_rules(&m));
+    assert!(rt; has_assertion_of_rules(&m));
     Ok(())
 }
 

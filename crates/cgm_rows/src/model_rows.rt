@@ -302,6 +302,20 @@ fn truth_values_that_do_not_fit(rt: HostRuntime) -> Result<(), Fail> {
 }
 
 #[test]
+fn lists_and_names(rt: HostRuntime) -> Result<(), Fail> {
+    let alloc = rt.alloc();
+    let mut parts = Parts::of(vec![in alloc; 3, 5]?);
+    parts.push(7)?;
+    assert_eq!(rt; parts.as_slice(), [3, 5, 7].as_slice());
+    assert_eq!(rt; parts.into_inner().as_slice(), [3, 5, 7].as_slice());
+    let mut name = Name::of(String::from_str(alloc, "R")?);
+    name.push('1')?;
+    assert_eq!(rt; name.as_slice(), b"R1".as_slice());
+    assert_eq!(rt; name.into_inner().as_str(), "R1");
+    Ok(())
+}
+
+#[test]
 fn whole_files_and_texts(rt: HostRuntime) -> Result<(), Fail> {
     let alloc = rt.alloc();
     let mut shelf = MemShelf::new(alloc, 3, Vec::new(alloc), Vec::new(alloc));

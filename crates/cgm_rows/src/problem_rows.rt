@@ -1,7 +1,8 @@
 // Problems, their limits and their solutions.
-use crate::problems::{at_least, at_most, two_equal};
+use crate::problems::{at_least, at_most, best, two_equal};
 use cgm_atom::{
-    BoxState, BuildStop, Clause, ProblemBuilder, Row, Seq, Var, Violated, first_violated, satisfied,
+    BoxState, BuildStop, Clause, Entry, ProblemBuilder, Row, Seq, Var, Violated, first_violated,
+    satisfied,
 };
 use std::test::Fail;
 
@@ -126,5 +127,35 @@ fn assumptions(rt: HostRuntime) -> Result<(), Fail> {
     assert_eq!(rt; (b.lo(x), b.hi(x)), (0, 0));
     b.reset(&p);
     assert_eq!(rt; (b.lo(x), b.hi(x)), (0, 1));
+    Ok(())
+}
+
+#[test]
+fn rows_are_read_back(rt: HostRuntime) -> Result<(), Fail> {
+    let p = two_equal(rt.alloc())?;
+    let count = p.rows();
+    assert!(rt; count == 2);
+    assert_eq!(rt; (p.row(0).guard, p.row(0).least), (None, 0));
+    assert_eq!(rt;
+        p.row(0).terms.as_slice(),
+        [(1, Var(1)), (-1, Var(0))].as_slice()
+    );
+    assert_eq!(rt;
+        p.row(1).terms.as_slice(),
+        [(-1, Var(1)), (1, Var(0))].as_slice()
+    );
+    Ok(())
+}
+
+#[test]
+fn entry_is_copied(rt: HostRuntime) -> Result<(), Fail> {
+    let alloc = rt.alloc();
+    let mut values = Seq::of(vec![in alloc; 4]?);
+    values.push(-6)?;
+    let copied = match best(values.into_inner()).copy(alloc)? {
+        Entry::Best { by, values } => by == 0 && values.as_slice() == [4, -6].as_slice(),
+        Entry::Lemma { .. } => false,
+    };
+    assert!(rt; copied);
     Ok(())
 }

@@ -165,6 +165,7 @@ fn sink_fails(rt: HostRuntime) -> Result<(), Fail> {
     let status = run_quiet(alloc, words.as_slice(), &mut shelf, &mut sink);
     assert_eq!(rt; (status, status.code()), (Status::Write, 9));
     assert!(rt; has_printed(&sink, "realized"));
+    assert_eq!(rt; sink.faults(), 1);
     Ok(())
 }
 
@@ -282,7 +283,7 @@ fn faulty_after_others(rt: HostRuntime) -> Result<(), Fail> {
     all_faulty(&rt, rt.alloc(), 5, &[cycle])
 }
 
-/// The longest name is of 64 bytes.
+// The longest name has 64 bytes.
 #[test]
 fn longest_name(rt: HostRuntime) -> Result<(), Fail> {
     let alloc = rt.alloc();

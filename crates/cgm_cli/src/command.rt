@@ -1,6 +1,6 @@
-ghost use Rattle.std.specs.Prelude.{◌≡◌, List, ℕ, map, MatchOption};
+ghost use Rattle.std.specs.Prelude.{◌≡◌, map, MatchOption};
 ghost use Rattle.std.specs.String.{string_bytes};
-ghost use Rattle.cgm_cli.specs.CommandLine.{Command, command_line, solve, is_positional};
+ghost use Rattle.cgm_cli.specs.CommandLine.{command_line, solve, is_positional};
 
 /// The model's file name of the command `solve MODEL`; none where the words are no command line.
 pub(crate) fn model_name(words: &[String]) -> Option<&str>

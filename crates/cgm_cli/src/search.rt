@@ -1,6 +1,4 @@
-ghost use Rattle.std.specs.Prelude.{◌≡◌, ◌++◌, ◌+◌, ◌≤◌, List, [], ◌∷◌, length, take, IfOk, IfSome, IfNone, IsTrue, OnOk};
-ghost use Rattle.std.specs.Bool.{IsFalse};
-ghost use Rattle.cgm_model.specs.declared.assignment.Assignment.{Assignment};
+ghost use Rattle.std.specs.Prelude.{◌≡◌, ◌++◌, ◌+◌, ◌≤◌, [], ◌∷◌, length, IfOk, IfSome, IfNone};
 ghost use Rattle.cgm_model.specs.Model.{lists_of};
 ghost use Rattle.cgm_cli.specs.Outcome.{IsLeast, HasNoRealization};
 ghost use Rattle.cgm_cli.specs.Search.{truth_count, NoneBeginsWith, HasTruths};

@@ -1,4 +1,4 @@
--- A text leads to one model at most, and one that does has no fault.
+-- A text leads to one model at most, and one that does has no fault; a text has one first fault at most.
 use Rattle.std.proofs.Common.{◌≡◌, ℕ, ◌+◌, true, List, [], ◌∷◌, refl, sym, ◌∙◌, inl, inr, subst}
 use Rattle.cgm_base.specs.declared.fault.BadKind.{BadKind}
 use Rattle.cgm_model.specs.declared.lists.Statement.{Statement}
@@ -51,3 +51,27 @@ one_model text one other a b = lines_once (lines text) one other a b
 pub model_or_fault : (text : List ℕ) (m : Lists) (line : ℕ) (kind : BadKind) → IsTextOf text m → HasFault text line kind → ⊥
 unfolding IsTextOf HasFault
 model_or_fault text m line kind a fault = lines_or_fault (lines text) m line a fault.1
+
+fails_once : (m : Lists) (number one other : ℕ) (ls : List (List ℕ)) → IsWellFormed m → FailsAt m number ls one → FailsAt m number ls other → one ≡ other
+fails_once m number one other [] known a b = absurd a
+fails_once m number one other (line ∷ []) known a b = a.1 ∙ sym b.1
+fails_once m number one other (line ∷ next ∷ more) known (inl a) (inl b) = a.0 ∙ sym b.0
+fails_once m number one other (line ∷ next ∷ more) known (inl a) (inr b) = absurd (a.1 b.0 b.1.0)
+fails_once m number one other (line ∷ next ∷ more) known (inr a) (inl b) = absurd (b.1 a.0 a.1.0)
+fails_once m number one other (line ∷ next ∷ more) known (inr a) (inr b) =
+    let same = says_one m line b.0 a.0 known b.1.0 a.1.0 in
+    let b' = subst (λ s. FailsAt (added m s) (number + 1) (next ∷ more) other) same b.1.1 in
+    fails_once (added m a.0) (number + 1) one other (next ∷ more) (known_after m line a.0 known a.1.0) a.1.1 b'
+
+fault_once : (ls : List (List ℕ)) (one other : ℕ) → AreFaultyAt ls one → AreFaultyAt ls other → one ≡ other
+fault_once [] one other a b = absurd a
+fault_once (first ∷ []) one other a b = a ∙ sym b
+fault_once (first ∷ next ∷ more) one other (inl a) (inl b) = a.1 ∙ sym b.1
+fault_once (first ∷ next ∷ more) one other (inl a) (inr b) = absurd (a.0 b.0)
+fault_once (first ∷ next ∷ more) one other (inr a) (inl b) = absurd (b.0 a.0)
+fault_once (first ∷ next ∷ more) one other (inr a) (inr b) =
+    fails_once no_lists 2 one other (next ∷ more) IsWellFormed-none a.1 b.1
+
+pub one_fault : (text : List ℕ) (line other : ℕ) (kind kind' : BadKind) → HasFault text line kind → HasFault text other kind' → (line ≡ other) × (kind ≡ kind')
+unfolding HasFault
+one_fault text line other kind kind' a b = (fault_once (lines text) line other a.1 b.1, a.0 ∙ sym b.0)

@@ -11,6 +11,12 @@ pub fn text_has_model_or_fault()
 
 /// The law that a text has one model at most.
 pub fn text_has_one_model()
-    ensures { (text : List ℕ) (one other : Lists) → IsTextOf text one → IsTextOf text other → one
-        ≡ other }
+    ensures { (text : List ℕ) (one other : Lists) → IsTextOf text one → IsTextOf text other
+        → one ≡ other }
+{}
+
+/// The law that a text has one first fault at most: its line and its kind are determined.
+pub fn text_has_one_fault()
+    ensures { (text : List ℕ) (line other : ℕ) (kind other_kind : BadKind) → HasFault text line kind
+        → HasFault text other other_kind → (line ≡ other) × (kind ≡ other_kind) }
 {}

@@ -8,5 +8,5 @@ mod reader;
 mod statement;
 mod word;
 
-pub use laws::{text_has_model_or_fault, text_has_one_model};
+pub use laws::{text_has_model_or_fault, text_has_one_fault, text_has_one_model};
 pub use reader::{Reading, TextStop, read};

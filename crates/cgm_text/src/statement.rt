@@ -1,4 +1,4 @@
-ghost use Rattle.std.specs.Prelude.{◌≡◌, ◌≢◌, ℕ, ◌<◌, List, [], ◌∷◌, codes, length, map, All, IsTrue, IfOk, IfSome, IfNone, Some, slice_get};
+ghost use Rattle.std.specs.Prelude.{◌≡◌, ◌≢◌, ℕ, ◌<◌, List, ◌∷◌, codes, length, map, All, IsTrue, IfOk, IfSome, IfNone, Some, slice_get};
 ghost use Rattle.cgm_model.specs.declared.lists.Element.{Element};
 ghost use Rattle.cgm_model.specs.declared.lists.Refinement.{Refinement};
 ghost use Rattle.cgm_model.specs.declared.lists.Assertion.{Assertion};

@@ -4,6 +4,8 @@ use Rattle.std.specs.Prelude.{ℤ, ◌≤ℤ◌, FitsSigned, int_lt, slice_set}
 use Rattle.std.specs.Int.{int_max, int_min}
 use Rattle.std.proofs.lemmas.Int.{ints, clamps, to_z-of_z}
 use Rattle.cgm_atom.specs.Bounds.{Bounds, IsBoxOf, IsProper, value_of, lower_of, upper_of}
+use Rattle.cgm_atom.specs.Narrowing.{raised, reduced}
+use Rattle.cgm_atom.proofs.SignedSteps.{≤ℤ_trans}
 
 -- a value after a write is the old one, or the written one at its place
 pub value_of-set : (P : ℤ → Type 0) (xs : List ℤ) (i x : ℕ) (v : ℤ) → P (value_of xs x) → (x ≡ i → P v) → P (value_of (slice_set xs i v) x)
@@ -46,12 +48,6 @@ read_not_below true k lo z other fits e up h = absurd (cc)
 read_not_below false k lo z other fits e up h =
     subst (λ (l : ℤ). l ≤ℤ k) e (not_less k lo (rw (to_z-of_z w64 lo fits) at (sym h)))
 
-abbrev pub raised : Bounds → ℕ → ℤ → Bounds
-raised b x k = record b { lower = slice_set b.lower x (int_max (lower_of b x) k) }
-
-abbrev pub reduced : Bounds → ℕ → ℤ → Bounds
-reduced b x k = record b { upper = slice_set b.upper x (int_min (upper_of b x) k) }
-
 pub raised_ordered : (b : Bounds) (i : ℕ) (k : ℤ) → ((x : ℕ) → lower_of b x ≤ℤ upper_of b x) → k ≤ℤ upper_of b i → (x : ℕ) → lower_of (raised b i k) x ≤ℤ upper_of b x
 raised_ordered b i k ordered h x =
     value_of-set (λ l. l ≤ℤ upper_of b x) b.lower i x (int_max (lower_of b i) k) (ordered x)
@@ -72,14 +68,11 @@ reduced_below b i k x =
     value_of-set (λ u. u ≤ℤ upper_of b x) b.upper i x (int_min (upper_of b i) k) (search (rules, ints))
     (λ e. subst (λ y. int_min (upper_of b i) k ≤ℤ upper_of b y) (sym e) (int_min-le (upper_of b i) k (upper_of b i) (search (rules, ints))))
 
-le_trans : (a b c : ℤ) → a ≤ℤ b → b ≤ℤ c → a ≤ℤ c
-le_trans a b c h k = omega (arith, ints)
-
 pub box_raised : (limits b : Bounds) (i : ℕ) (k : ℤ) → k ≤ℤ upper_of b i → IsBoxOf limits b → IsBoxOf limits (raised b i k)
 box_raised limits b i k h box = record {
   lower_count = rw length-set box.lower_count;
   upper_count = box.upper_count;
-  inside = λ x. (le_trans (lower_of limits x) (lower_of b x) (lower_of (raised b i k) x) (box.inside x).0 (raised_above b i k x), (box.inside x).1);
+  inside = λ x. (≤ℤ_trans (lower_of limits x) (lower_of b x) (lower_of (raised b i k) x) (box.inside x).0 (raised_above b i k x), (box.inside x).1);
   ordered = raised_ordered b i k box.ordered h;
 }
 
@@ -87,7 +80,7 @@ pub box_reduced : (limits b : Bounds) (i : ℕ) (k : ℤ) → lower_of b i ≤�
 box_reduced limits b i k h box = record {
   lower_count = box.lower_count;
   upper_count = rw length-set box.upper_count;
-  inside = λ x. ((box.inside x).0, le_trans (upper_of (reduced b i k) x) (upper_of b x) (upper_of limits x) (reduced_below b i k x) (box.inside x).1);
+  inside = λ x. ((box.inside x).0, ≤ℤ_trans (upper_of (reduced b i k) x) (upper_of b x) (upper_of limits x) (reduced_below b i k x) (box.inside x).1);
   ordered = reduced_ordered b i k box.ordered h;
 }
 

@@ -4,7 +4,6 @@ use Rattle.std.specs.Prelude.{ℤ, IfSome, IsSomeAnd, slice_get}
 use Rattle.std.specs.declared.option.Option.{Option}
 use Rattle.std.specs.declared.option.Option.TheVariants.{Some, None}
 use Rattle.std.specs.List.{AllByRecursion, last_or, list_any}
-use Rattle.std.specs.Option.{option_flatten}
 use Rattle.std.proofs.lemmas.Bool.{false≢true, eqb-true}
 use Rattle.cgm_atom.specs.declared.constraints.Atom.{Atom}
 use Rattle.cgm_atom.specs.declared.constraints.Clause.{Clause}
@@ -19,20 +18,9 @@ use Rattle.cgm_atom.specs.Laws.{IsConcluded, IsEntailed}
 use Rattle.cgm_atom.specs.LogState.{LogState, empty_state, is_empty_clause, last_best, state_after, state_of, state_with}
 use Rattle.cgm_atom.specs.Order.{IsLess}
 use Rattle.cgm_atom.proofs.Entailing.{all_entailed, each_at}
-use Rattle.cgm_atom.proofs.LaterBounds.{last_of_pushed, under_earlier_bound}
+use Rattle.cgm_atom.proofs.LaterBounds.{under_earlier_bound}
+use Rattle.cgm_atom.proofs.StateLemmas.{last_at, last_best_of_log}
 use Rattle.cgm_atom.proofs.Solving.{all_bests_are_solutions}
-
--- ---- the last best
-
-last_best_after : (s : LogState) (log : List Entry) → last_best (state_after s log) ≡ last_or (last_best s) (best_values log)
-last_best_after s [] = refl
-last_best_after s (Best by values ∷ log) =
-    last_best_after (state_with s (Best by values)) log ∙ ap (λ (o : Option (Option (List ℤ))). last_or (option_flatten o) (best_values log)) (last_of_pushed None (Some values) s.bests)
-last_best_after s (Lemma by clause hints bound ∷ log) = last_best_after (state_with s (Lemma by clause hints bound)) log
-
-pub last_best_of_log : (log : List Entry) → last_best (state_of log) ≡ last_or None (best_values log)
-unfolding state_of
-last_best_of_log log = last_best_after empty_state log
 
 -- ---- the bound of the lemma that closes the log
 
@@ -59,16 +47,12 @@ closing_by_cases p log s by clause bound false e open_log follows le rest = rest
 closing_bound : (p : Instance) (log : List Entry) (s : LogState) (entries : List Entry) → s.closed ≡ false → AllByRecursion (IsEntailed p log) entries → (state_after s entries).closed ≡ true → IsClosingBound p log
 closing_bound p log s [] open_log entailed h = absurd (false≢true (sym open_log ∙ h))
 closing_bound p log s (Best by values ∷ entries) open_log entailed h =
-    closing_bound p log (state_with s (Best by values)) entries open_log entailed.1 h
+    closing_bound p log (state_with s (Best by values)) entries (rw open_log refl) entailed.1 h
 closing_bound p log s (Lemma by clause hints bound ∷ entries) open_log entailed h =
     closing_by_cases p log s by clause bound (is_empty_clause clause) refl open_log entailed.0.0 entailed.0.1
     (λ still_open. closing_bound p log (state_with s (Lemma by clause hints bound)) entries still_open entailed.1 h)
 
 -- ---- the conclusion
-
-last_at : {X : Type 0} (x : X) (xs : List X) → slice_get (x ∷ xs) (length xs) ≡ last_or (Some x) xs
-last_at x [] = refl
-last_at x (y ∷ xs) = last_at y xs
 
 concluded_at : (p : Instance) (log : List Entry) (bound i : ℕ) (o : Option (List ℤ)) → slice_get (best_values log) i ≡ o → IsSomeAnd o (λ _. Unit {0}) → IsAccepted p log → bound ≤ suc i → IsRefutedUnder p log bound → AllByRecursion (IsSolution p) (best_values log) → IsConcluded p o
 concluded_at p log bound i None e here accepted le refuted solutions = absurd here

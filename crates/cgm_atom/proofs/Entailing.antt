@@ -1,12 +1,11 @@
 -- Each lemma of an accepted log follows under its bound.
-use Rattle.std.proofs.Common.{◌≡◌, ℕ, zero, suc, ◌+◌, ◌<◌, ◌≤◌, Bool, true, false, cond, List, [], ◌∷◌, ◌++◌, length, refl, sym, ap, ◌∙◌, subst, arith, append_assoc}
+use Rattle.std.proofs.Common.{◌≡◌, ℕ, zero, suc, ◌+◌, ◌<◌, ◌≤◌, Bool, true, false, cond, List, [], ◌∷◌, ◌++◌, length, refl, sym, ap, ◌∙◌, subst, arith, append_assoc, append-nil}
 use Rattle.std.specs.Prelude.{ℤ, IfSome, IsSomeAnd, IsTrue, is_none, slice_get}
 use Rattle.std.specs.declared.option.Option.{Option}
 use Rattle.std.specs.declared.option.Option.TheVariants.{Some, None}
 use Rattle.std.specs.List.{All, AllByRecursion, position_from}
-use Rattle.std.specs.Option.{option_and_then, option_flatten, option_map, option_map_or}
+use Rattle.std.specs.Option.{option_and_then, option_map, option_map_or}
 use Rattle.std.proofs.lemmas.Bool.{false≢true, eqb-true}
-use Rattle.std.proofs.lemmas.List.{length_push}
 use Rattle.std.proofs.lemmas.List.Elements.{All-from_recursion, recursion_from_All}
 use Rattle.cgm_atom.specs.declared.constraints.Clause.{Clause}
 use Rattle.cgm_atom.specs.declared.entries.BadStep.TheVariants as fault
@@ -14,16 +13,18 @@ use Rattle.cgm_atom.specs.declared.entries.Entry.{Entry}
 use Rattle.cgm_atom.specs.declared.entries.Entry.TheVariants.{Best, Lemma}
 use Rattle.cgm_atom.specs.declared.entries.Hint.{Hint}
 use Rattle.cgm_atom.specs.declared.entries.Hint.TheVariants as hint
-use Rattle.cgm_atom.specs.Acceptance.{IsAccepted, IsAcceptedAfter, faults, first_fault}
+use Rattle.cgm_atom.specs.Acceptance.{IsAccepted, faults, first_fault}
 use Rattle.cgm_atom.specs.Atoms.{clause_true, row_true}
 use Rattle.cgm_atom.specs.Cut.{cut}
 use Rattle.cgm_atom.specs.Entailment.{Follows, IsUnderBound, best_values}
 use Rattle.cgm_atom.specs.Instance.{Instance, IsSolution, vector}
 use Rattle.cgm_atom.specs.Laws.{IsEntailed}
-use Rattle.cgm_atom.specs.LogState.{of_clause, of_row, LogState, carried, empty_state, greatest_carried, lemma_bound, lemma_clause, live_at, named, state_with}
+use Rattle.cgm_atom.specs.LogState.{LogState, best_at, carried, greatest_carried, item_at, lemma_bound, lemma_clause, live_at, named, state_of}
+use Rattle.cgm_atom.specs.Constraints.{of_clause, of_row}
 use Rattle.cgm_atom.specs.Order.{IsLess}
 use Rattle.cgm_atom.proofs.Cutting.{cut_of_less}
 use Rattle.cgm_atom.proofs.LaterBounds.{AreNone, none_fails, passes, under_earlier_bound}
+use Rattle.cgm_atom.proofs.StateLemmas.{IsAccepted-next, best_is_of_log, best_values-append, live_is_of_log}
 use Rattle.cgm_atom.proofs.Refuting.{IsMet, AreMet, clause_from_refutation}
 
 -- ---- options and places
@@ -37,25 +38,12 @@ each_at P [] n h = tt
 each_at P (x ∷ xs) zero h = h.0
 each_at P (x ∷ xs) (suc n) h = each_at P xs n h.1
 
--- what holds at each place holds still after one more item
-at_each_after_push : {X : Type 0} (P : ℕ → X → Type 0) (items : List (Option X)) (x : X) → ((n : ℕ) → IfSome (option_flatten (slice_get items n)) (P n)) → P (length items) x → (n : ℕ) → IfSome (option_flatten (slice_get (items ++ Some x ∷ []) n)) (P n)
-at_each_after_push P [] x each here zero = here
-at_each_after_push P [] x each here (suc n) = tt
-at_each_after_push P (y ∷ items) x each here zero = each zero
-at_each_after_push P (y ∷ items) x each here (suc n) =
-    at_each_after_push (λ n. P (suc n)) items x (λ n. each (suc n)) here n
-
 -- ---- what is known of a state on the way through a log
-
--- these are the values of the best with this ordinal
-abbrev pub IsBest : List Entry → ℕ → List ℤ → Type 0
-IsBest log zero values = ⊥
-IsBest log (suc i) values = slice_get (best_values log) i ≡ Some values
 
 -- the live entries are entailed by the log, and the live bests are those of the log
 pub record IsKnown (p : Instance) (log : List Entry) (s : LogState) : Type 0 where
-  pub entries : (n : ℕ) → IfSome (live_at s.entries n) (IsEntailed p log)
-  pub bests : (n : ℕ) → IfSome (live_at s.bests n) (IsBest log n)
+  pub entries : (n : ℕ) → IfSome (live_at s n) (IsEntailed p log)
+  pub bests : (n : ℕ) → IfSome (best_at s n) (λ values. item_at (best_values log) n ≡ Some values)
 
 -- ---- hints
 
@@ -69,11 +57,11 @@ entry_met p log bound values (Some (Lemma by clause hints b)) accepted solution 
 less_than_best : (p : Instance) (v best : List ℤ) (o : Option (List ℤ)) → o ≡ Some best → IsSomeAnd o (λ w. IsLess v (vector p w)) → IsLess v (vector p best)
 less_than_best p v best o e h = subst (λ (x : Option (List ℤ)). IsSomeAnd x (λ w. IsLess v (vector p w))) e h
 
-under_best : (p : Instance) (log : List Entry) (ordinal : ℕ) (v best : List ℤ) → IsBest log ordinal best → IsUnderBound p log ordinal v → IsLess v (vector p best)
-under_best p log zero v best h under = absurd h
+under_best : (p : Instance) (log : List Entry) (ordinal : ℕ) (v best : List ℤ) → item_at (best_values log) ordinal ≡ Some best → IsUnderBound p log ordinal v → IsLess v (vector p best)
+under_best p log zero v best h under = absurd (cc)
 under_best p log (suc i) v best h under = less_than_best p v best (slice_get (best_values log) i) h under
 
-cut_met : (p : Instance) (log : List Entry) (ordinal part : ℕ) (values : List ℤ) (o : Option (List ℤ)) → IsUnderBound p log ordinal (vector p values) → IfSome o (IsBest log ordinal) → IfSome (option_map of_clause (option_and_then (λ best. slice_get (cut p.objectives (vector p best)) part) o)) (IsMet values)
+cut_met : (p : Instance) (log : List Entry) (ordinal part : ℕ) (values : List ℤ) (o : Option (List ℤ)) → IsUnderBound p log ordinal (vector p values) → IfSome o (λ best. item_at (best_values log) ordinal ≡ Some best) → IfSome (option_map of_clause (option_and_then (λ best. slice_get (cut p.objectives (vector p best)) part) o)) (IsMet values)
 cut_met p log ordinal part values None under known = tt
 cut_met p log ordinal part values (Some best) under known =
     let less = under_best p log ordinal (vector p values) best known under in
@@ -90,10 +78,10 @@ hint_met p log s bound values (hint.Row n) accepted known solution under le =
     mapped (slice_get p.rows n) of_row (IsMet values)
     (each_at (λ r. IsTrue (row_true values r)) p.rows n (recursion_from_All (λ r. IsTrue (row_true values r)) p.rows solution.rows))
 hint_met p log s bound values (hint.Entry place) accepted known solution under le =
-    entry_met p log bound values (live_at s.entries place) accepted solution under (known.entries place) le
+    entry_met p log bound values (live_at s place) accepted solution under (known.entries place) le
 hint_met p log s bound values (hint.Own place) accepted known solution under le = tt
 hint_met p log s bound values (hint.Cut ordinal part) accepted known solution under le =
-    cut_met p log ordinal part values (live_at s.bests ordinal) (under_earlier_bound p log (vector p values) ordinal bound accepted le under) (known.bests ordinal)
+    cut_met p log ordinal part values (best_at s ordinal) (under_earlier_bound p log (vector p values) ordinal bound accepted le under) (known.bests ordinal)
 
 hints_met : (p : Instance) (log : List Entry) (s : LogState) (bound : ℕ) (values : List ℤ) (hints : List Hint) → IsAccepted p log → IsKnown p log s → IsSolution p values → IsUnderBound p log bound (vector p values) → greatest_carried s hints ≤ bound → AreMet p s values hints
 hints_met p log s bound values [] accepted known solution under le = tt
@@ -107,8 +95,8 @@ place_within [] i x h = absurd (cc)
 place_within (y ∷ xs) zero x h = omega arith
 place_within (y ∷ xs) (suc i) x h = omega (arith, place_within xs i x h)
 
-best_within : (log : List Entry) (ordinal : ℕ) (best : List ℤ) → IsBest log ordinal best → ordinal ≤ length (best_values log)
-best_within log zero best h = absurd h
+best_within : (log : List Entry) (ordinal : ℕ) (best : List ℤ) → item_at (best_values log) ordinal ≡ Some best → ordinal ≤ length (best_values log)
+best_within log zero best h = absurd (cc)
 best_within log (suc i) best h = omega (arith, place_within (best_values log) i best h)
 
 entry_bound_within : (p : Instance) (log : List Entry) (o : Option Entry) → IfSome o (IsEntailed p log) → option_map_or lemma_bound o 0 ≤ length (best_values log)
@@ -116,7 +104,7 @@ entry_bound_within p log None known = omega arith
 entry_bound_within p log (Some (Best by values)) known = omega arith
 entry_bound_within p log (Some (Lemma by clause hints bound)) known = known.1
 
-ordinal_within : (p : Instance) (log : List Entry) (ordinal part : ℕ) (o : Option (List ℤ)) → IfSome o (IsBest log ordinal) → is_none (option_map of_clause (option_and_then (λ best. slice_get (cut p.objectives (vector p best)) part) o)) ≡ false → ordinal ≤ length (best_values log)
+ordinal_within : (p : Instance) (log : List Entry) (ordinal part : ℕ) (o : Option (List ℤ)) → IfSome o (λ best. item_at (best_values log) ordinal ≡ Some best) → is_none (option_map of_clause (option_and_then (λ best. slice_get (cut p.objectives (vector p best)) part) o)) ≡ false → ordinal ≤ length (best_values log)
 ordinal_within p log ordinal part None known h = absurd (false≢true (sym h))
 ordinal_within p log ordinal part (Some best) known h = best_within log ordinal best known
 
@@ -124,10 +112,10 @@ carried_within : (p : Instance) (log : List Entry) (s : LogState) (h : Hint) →
 unfolding named carried
 carried_within p log s (hint.Clause n) known here = omega arith
 carried_within p log s (hint.Row n) known here = omega arith
-carried_within p log s (hint.Entry place) known here = entry_bound_within p log (live_at s.entries place) (known.entries place)
+carried_within p log s (hint.Entry place) known here = entry_bound_within p log (live_at s place) (known.entries place)
 carried_within p log s (hint.Own place) known here = omega arith
 carried_within p log s (hint.Cut ordinal part) known here =
-    ordinal_within p log ordinal part (live_at s.bests ordinal) (known.bests ordinal) here
+    ordinal_within p log ordinal part (best_at s ordinal) (known.bests ordinal) here
 
 none_found_step : (P : Type 0) (test : Bool) (i : ℕ) (rest : Option ℕ) → cond test (Some i) rest ≡ None → (rest ≡ None → P) → (test ≡ false) × P
 none_found_step P true i rest h next = absurd (cc)
@@ -164,56 +152,49 @@ entry_entailed p log s (Best by values) accepted known h = tt
 entry_entailed p log s (Lemma by clause hints bound) accepted known h =
     lemma_entailed p log s by clause hints bound accepted known (none_fails (faults p s (Lemma by clause hints bound)) h)
 
-entries_after : (p : Instance) (log : List Entry) (s : LogState) (e : Entry) → IsKnown p log s → IsEntailed p log e → (n : ℕ) → IfSome (live_at (s.entries ++ Some e ∷ []) n) (IsEntailed p log)
-entries_after p log s e known here zero = tt
-entries_after p log s e known here (suc n) =
-    at_each_after_push (λ _. IsEntailed p log) s.entries e (λ k. known.entries (suc k)) here n
-
-bests_after : (p : Instance) (log : List Entry) (s : LogState) (values : List ℤ) → IsKnown p log s → IsBest log (suc (length s.bests)) values → (n : ℕ) → IfSome (live_at (s.bests ++ Some values ∷ []) n) (IsBest log n)
-bests_after p log s values known here zero = tt
-bests_after p log s values known here (suc n) =
-    at_each_after_push (λ k. IsBest log (suc k)) s.bests values (λ k. known.bests (suc k)) here n
-
 -- ---- all entries
 
-at_front : {X : Type 0} (front : List X) (x : X) (rest : List X) (n : ℕ) → length front ≡ n → slice_get (front ++ x ∷ rest) n ≡ Some x
-at_front [] x rest zero e = refl
-at_front [] x rest (suc n) e = absurd (omega arith)
-at_front (y ∷ front) x rest zero e = absurd (omega arith)
-at_front (y ∷ front) x rest (suc n) e = at_front front x rest n (omega arith)
+item_within : {X : Type 0} (P : X → Type 0) (xs : List X) (place : ℕ) → AllByRecursion P xs → IfSome (item_at xs place) P
+item_within P xs zero h = tt
+item_within P xs (suc i) h = each_at P xs i h
 
-entailed_after : (p : Instance) (log : List Entry) (s : LogState) (entries : List Entry) (front : List (List ℤ)) → IsAccepted p log → IsKnown p log s → length front ≡ length s.bests → best_values log ≡ front ++ best_values entries → IsAcceptedAfter p s entries → AllByRecursion (IsEntailed p log) entries
-entailed_after p log s [] front accepted known count all h = tt
-entailed_after p log s (Best by values ∷ entries) front accepted known count all h =
-    let here : slice_get (best_values log) (length s.bests) ≡ Some values = rw all (at_front front values (best_values entries) (length s.bests) count) in
-    let next : IsKnown p log (state_with s (Best by values)) = record {
-      entries = entries_after p log s (Best by values) known tt;
-      bests = bests_after p log s values known here;
-    } in
-    let longer : length (front ++ values ∷ []) ≡ length (s.bests ++ Some values ∷ []) = length_push front values ∙ ap (λ (n : ℕ). n + 1) count ∙ sym (length_push s.bests (Some values)) in
-    (tt, entailed_after p log (state_with s (Best by values)) entries (front ++ values ∷ []) accepted next longer (all ∙ sym (append_assoc front (values ∷ []) (best_values entries))) h.1)
-entailed_after p log s (Lemma by clause hints bound ∷ entries) front accepted known count all h =
-    let here : IsEntailed p log (Lemma by clause hints bound) = entry_entailed p log s (Lemma by clause hints bound) accepted known h.0 in
-    let next : IsKnown p log (state_with s (Lemma by clause hints bound)) = record {
-      entries = entries_after p log s (Lemma by clause hints bound) known here;
-      bests = known.bests;
-    } in
-    (here, entailed_after p log (state_with s (Lemma by clause hints bound)) entries front accepted next count all h.1)
+item_of_front : {X : Type 0} (front rest : List X) (place : ℕ) (x : X) → item_at front place ≡ Some x → item_at (front ++ rest) place ≡ Some x
+item_of_front front rest zero x h = absurd (cc)
+item_of_front [] rest (suc i) x h = absurd (cc)
+item_of_front (y ∷ front) rest (suc zero) x h = h
+item_of_front (y ∷ front) rest (suc (suc i)) x h = item_of_front front rest (suc i) x h
 
-nothing_entailed : (p : Instance) (log : List Entry) (n : ℕ) → IfSome (live_at {X = Entry} [] n) (IsEntailed p log)
-nothing_entailed p log zero = tt
-nothing_entailed p log (suc n) = tt
+if_some : {X : Type 0} (o : Option X) (P : X → Type 0) → ((x : X) → o ≡ Some x → P x) → IfSome o P
+if_some None P h = tt
+if_some (Some x) P h = h x refl
 
-no_bests : (log : List Entry) (n : ℕ) → IfSome (live_at {X = List ℤ} [] n) (IsBest log n)
-no_bests log zero = tt
-no_bests log (suc n) = tt
+pushed : {X : Type 0} (P : X → Type 0) (xs : List X) (x : X) → AllByRecursion P xs → P x → AllByRecursion P (xs ++ x ∷ [])
+pushed P [] x h here = (here, tt)
+pushed P (y ∷ xs) x h here = (h.0, pushed P xs x h.1 here)
 
-nothing_known : (p : Instance) (log : List Entry) → IsKnown p log empty_state
-nothing_known p log = record { entries = nothing_entailed p log; bests = no_bests log }
+-- the state of the first entries of a log, where each is entailed by the log
+known_front : (p : Instance) (log front rest : List Entry) → log ≡ front ++ rest → AllByRecursion (IsEntailed p log) front → IsKnown p log (state_of front)
+known_front p log front rest all entailed = record {
+  entries = λ n.
+      if_some (live_at (state_of front) n) (IsEntailed p log)
+      (λ e h. subst (λ (o : Option Entry). IfSome o (IsEntailed p log)) (live_is_of_log front n e h) (item_within (IsEntailed p log) front n entailed));
+  bests = λ n.
+      if_some (best_at (state_of front) n) (λ values. item_at (best_values log) n ≡ Some values)
+      (λ values h. ap (λ (xs : List Entry). item_at (best_values xs) n) all
+      ∙ ap (λ (vs : List (List ℤ)). item_at vs n) (best_values-append front rest)
+      ∙ item_of_front (best_values front) (best_values rest) n values (best_is_of_log front n values h));
+}
+
+entailed_after : (p : Instance) (log front rest : List Entry) → IsAccepted p log → log ≡ front ++ rest → AllByRecursion (IsEntailed p log) front → AllByRecursion (IsEntailed p log) log
+entailed_after p log front [] accepted all entailed =
+    subst (AllByRecursion (IsEntailed p log)) (sym (all ∙ append-nil front)) entailed
+entailed_after p log front (e ∷ rest) accepted all entailed =
+    let here = entry_entailed p log (state_of front) e accepted (known_front p log front (e ∷ rest) all entailed)
+    (IsAccepted-next p front e rest (subst (λ (x : List Entry). IsAccepted p x) all accepted)) in
+    entailed_after p log (front ++ e ∷ []) rest accepted (all ∙ sym (append_assoc front (e ∷ []) rest)) (pushed (IsEntailed p log) front e entailed here)
 
 pub all_entailed : (p : Instance) (log : List Entry) → IsAccepted p log → AllByRecursion (IsEntailed p log) log
-unfolding IsAccepted
-all_entailed p log h = entailed_after p log empty_state log [] h (nothing_known p log) refl refl h
+all_entailed p log h = entailed_after p log [] log h refl tt
 
 pub lemmas_follow : (p : Instance) (log : List Entry) → IsAccepted p log → All (IsEntailed p log) log
 lemmas_follow p log h = All-from_recursion (IsEntailed p log) log (all_entailed p log h)

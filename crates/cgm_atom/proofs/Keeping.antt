@@ -15,7 +15,7 @@ use Rattle.cgm_atom.specs.declared.constraints.Var.{Var}
 use Rattle.cgm_atom.specs.Atoms.{activity, atom_true, clause_true, guard_true, negation, row_true}
 use Rattle.cgm_atom.specs.Bounds.{Bounds, IsWithin, lower_of, upper_of, value_of}
 use Rattle.cgm_atom.specs.Laws.{IsLeft}
-use Rattle.cgm_atom.specs.Narrowing.{all_assumed, greatest_activity, greatest_term, is_claimed_in, is_false_in, is_true_in, left_by_atoms, left_by_clause, left_by_met, left_by_row, left_by_unmet, made_true, tightened_by_term, tightened_by_terms}
+use Rattle.cgm_atom.specs.Narrowing.{all_assumed, greatest_activity, greatest_term, is_claimed_in, is_false_in, is_true_in, left_by_atoms, left_by_clause, left_by_met, left_by_row, left_by_unmet, made_true, raised, reduced, tightened_by_term, tightened_by_terms}
 use Rattle.cgm_atom.proofs.SignedSteps.{le_from_true, le_is_false, le_is_true, lt_is_false, scaled_up, scaled_down, quotient_at_most, sum_at_most}
 use borrow.Author.Differences.{up, down}
 
@@ -36,7 +36,7 @@ at_least_max lo k v low h = omega (arith, ints, clamps)
 at_most_min : (hi k v : ℤ) → v ≤ℤ hi → v ≤ℤ k → v ≤ℤ int_min hi k
 at_most_min hi k v high h = omega (arith, ints, clamps)
 
-within_one_made_true : (b : Bounds) (values : List ℤ) (x : ℕ) (k : ℤ) (t : Bool) → IsWithin b values → cond t (int_le k (value_of values x)) (int_le (value_of values x) k) ≡ true → IsWithin (cond t (record b { lower = slice_set b.lower x (int_max (lower_of b x) k) }) (record b { upper = slice_set b.upper x (int_min (upper_of b x) k) })) values
+within_one_made_true : (b : Bounds) (values : List ℤ) (x : ℕ) (k : ℤ) (t : Bool) → IsWithin b values → cond t (int_le k (value_of values x)) (int_le (value_of values x) k) ≡ true → IsWithin (cond t (raised b x k) (reduced b x k)) values
 within_one_made_true b values x k true within h = λ y.
     (each_after_set (λ (n : ℕ) (v : ℤ). v ≤ℤ value_of values n) b.lower x (int_max (lower_of b x) k) (λ n. (within n).0) (at_least_max _ _ _ (within x).0 (omega (arith, ints))) y, (within y).1)
 within_one_made_true b values x k false within h = λ y.

@@ -1,9 +1,9 @@
 -- In an accepted log each best is less than the bests before it, so what follows under a bound follows under later ones.
-use Rattle.std.proofs.Common.{◌≡◌, ℕ, zero, suc, ◌≤◌, Bool, true, false, ◌||◌, ◌&&◌, List, [], ◌∷◌, ◌++◌, refl, sym, ◌∙◌, inl, inr, subst, arith}
+use Rattle.std.proofs.Common.{◌≡◌, ℕ, zero, suc, ◌≤◌, Bool, true, false, ◌||◌, ◌&&◌, List, [], ◌∷◌, ◌++◌, refl, sym, ap, ◌∙◌, inl, inr, subst, arith, append_assoc, append-nil}
 use Rattle.std.specs.Prelude.{ℤ, ◌<ℤ◌, ◌⊎◌, int_le, int_lt, slice_get, IsSomeAnd}
 use Rattle.std.specs.declared.option.Option.{Option}
 use Rattle.std.specs.declared.option.Option.TheVariants.{Some, None}
-use Rattle.std.specs.Option.{option_map, option_flatten}
+use Rattle.std.specs.Option.{option_map}
 use Rattle.std.specs.List.{last_or}
 use Rattle.std.proofs.lemmas.Bool.{false≢true, and_parts}
 use Rattle.std.proofs.lemmas.Int.{ints}
@@ -11,11 +11,12 @@ use Rattle.cgm_atom.specs.declared.constraints.Clause.{Clause}
 use Rattle.cgm_atom.specs.declared.entries.BadStep.TheVariants as fault
 use Rattle.cgm_atom.specs.declared.entries.Entry.{Entry}
 use Rattle.cgm_atom.specs.declared.entries.Entry.TheVariants.{Best, Lemma}
-use Rattle.cgm_atom.specs.Acceptance.{IsAccepted, IsAcceptedAfter, faults, first_fault}
+use Rattle.cgm_atom.specs.Acceptance.{IsAccepted, faults, first_fault}
 use Rattle.cgm_atom.specs.Entailment.{Follows, IsUnderBound, best_values}
 use Rattle.cgm_atom.specs.Instance.{Instance, fault_unless, first_some, vector}
-use Rattle.cgm_atom.specs.LogState.{LogState, empty_state, last_best, state_with}
+use Rattle.cgm_atom.specs.LogState.{LogState, last_best, state_of}
 use Rattle.cgm_atom.specs.Order.{IsBelow, IsLess, is_below, is_less}
+use Rattle.cgm_atom.proofs.StateLemmas.{IsAccepted-next, best_values-append, last_best_of_log, last_of_pushed}
 use borrow.Author.Differences.{same_in}
 
 -- ---- the order
@@ -70,22 +71,28 @@ abbrev pub AreDescending : Instance → Option (List ℤ) → List (List ℤ) �
 AreDescending p limit [] = Unit {0}
 AreDescending p limit (values ∷ others) = IsBelow (vector p values) (option_map (vector p) limit) × AreDescending p (Some values) others
 
-pub last_of_pushed : {X : Type 0} (o : Option X) (x : X) (xs : List X) → last_or o (xs ++ x ∷ []) ≡ Some x
-last_of_pushed o x [] = refl
-last_of_pushed o x (y ∷ xs) = last_of_pushed (Some y) x xs
-
 accepted_best : (p : Instance) (s : LogState) (by : ℕ) (values : List ℤ) → first_fault p s (Best by values) ≡ None → IsBelow (vector p values) (option_map (vector p) (last_best s))
 unfolding first_fault
 accepted_best p s by values h =
     let fails : AreNone (faults p s (Best by values)) = none_fails (faults p s (Best by values)) h in
     IsBelow-from_test (vector p values) (option_map (vector p) (last_best s)) (passes _ fault.NotLess fails.1.1.0)
 
-pub bests_descend : (p : Instance) (s : LogState) (log : List Entry) → IsAcceptedAfter p s log → AreDescending p (last_best s) (best_values log)
-bests_descend p s [] h = tt
-bests_descend p s (Best by values ∷ log) h =
-    let rest : AreDescending p (last_best (state_with s (Best by values))) (best_values log) = bests_descend p (state_with s (Best by values)) log h.1 in
-    (accepted_best p s by values h.0, subst (λ (o : Option (Option (List ℤ))). AreDescending p (option_flatten o) (best_values log)) (last_of_pushed None (Some values) s.bests) rest)
-bests_descend p s (Lemma by clause hints bound ∷ log) h = bests_descend p (state_with s (Lemma by clause hints bound)) log h.1
+bests_descend : (p : Instance) (front log : List Entry) → IsAccepted p (front ++ log) → AreDescending p (last_or None (best_values front)) (best_values log)
+bests_descend p front [] h = tt
+bests_descend p front (Best by values ∷ log) h =
+    let e : Entry = Best by values in
+    let here = accepted_best p (state_of front) by values (IsAccepted-next p front e log h) in
+    let rest = bests_descend p (front ++ e ∷ []) log (subst (λ (x : List Entry). IsAccepted p x) (sym (append_assoc front (e ∷ []) log)) h) in
+    let last : last_or None (best_values (front ++ e ∷ [])) ≡ Some values =
+    ap (last_or None) (best_values-append front (e ∷ [])) ∙ last_of_pushed None values (best_values front) in (
+      subst (λ (o : Option (List ℤ)). IsBelow (vector p values) (option_map (vector p) o)) (last_best_of_log front) here,
+      subst (λ (o : Option (List ℤ)). AreDescending p o (best_values log)) last rest,
+    )
+bests_descend p front (Lemma by clause hints bound ∷ log) h =
+    let e : Entry = Lemma by clause hints bound in
+    let rest = bests_descend p (front ++ e ∷ []) log (subst (λ (x : List Entry). IsAccepted p x) (sym (append_assoc front (e ∷ []) log)) h) in
+    let same : best_values (front ++ e ∷ []) ≡ best_values front = best_values-append front (e ∷ []) ∙ append-nil (best_values front) in
+    subst (λ (vs : List (List ℤ)). AreDescending p (last_or None vs) (best_values log)) same rest
 
 -- ---- later bounds
 
@@ -105,11 +112,10 @@ less_than_earlier p v limit (w ∷ bests) (suc i) (suc j) le d h =
     less_than_earlier p v (Some w) bests i j (omega arith) d.1 h
 
 pub under_earlier_bound : (p : Instance) (log : List Entry) (v : List ℤ) (bound later : ℕ) → IsAccepted p log → bound ≤ later → IsUnderBound p log later v → IsUnderBound p log bound v
-unfolding IsAccepted
 under_earlier_bound p log v zero later h le k = tt
 under_earlier_bound p log v (suc i) zero h le k = absurd (omega arith)
 under_earlier_bound p log v (suc i) (suc j) h le k =
-    less_than_earlier p v None (best_values log) i j (omega arith) (bests_descend p empty_state log h) k
+    less_than_earlier p v None (best_values log) i j (omega arith) (bests_descend p [] log h) k
 
 pub follows_later : (p : Instance) (log : List Entry) (c : Clause) (bound later : ℕ) → IsAccepted p log → bound ≤ later → Follows p log bound c → Follows p log later c
 unfolding Follows

@@ -15,7 +15,8 @@ use Rattle.cgm_atom.specs.Atoms.{atom_true, clause_true, negation, row_true}
 use Rattle.cgm_atom.specs.Bounds.{Bounds, IsWithin}
 use Rattle.cgm_atom.specs.Instance.{Instance}
 use Rattle.cgm_atom.specs.Laws.{IsLeft}
-use Rattle.cgm_atom.specs.LogState.{Constraint, of_clause, of_row, LogState, all_narrowed, left_by, left_by_named, named, narrowed}
+use Rattle.cgm_atom.specs.LogState.{LogState, all_narrowed, named, narrowed}
+use Rattle.cgm_atom.specs.Constraints.{Constraint, of_clause, of_row, left_by, left_by_named}
 use Rattle.cgm_atom.specs.Narrowing.{all_assumed}
 use Rattle.cgm_atom.proofs.Keeping.{negation_true, within_assumed, within_left_by_clause, within_left_by_row}
 

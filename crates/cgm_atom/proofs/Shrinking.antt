@@ -18,32 +18,28 @@ use Rattle.cgm_atom.specs.Atoms.{negation}
 use Rattle.cgm_atom.specs.Bounds.{Bounds, lower_of, upper_of, value_of}
 use Rattle.cgm_atom.specs.Instance.{Instance}
 use Rattle.cgm_atom.specs.Laws.{IsLeftSmaller, IsSmaller}
-use Rattle.cgm_atom.specs.LogState.{Constraint, of_clause, of_row, LogState, all_narrowed, left_by, left_by_named, named, narrowed}
-use Rattle.cgm_atom.specs.Narrowing.{all_assumed, greatest_activity, greatest_term, is_claimed_in, is_false_in, is_true_in, left_by_atoms, left_by_clause, left_by_met, left_by_row, left_by_unmet, made_true, tightened_by_term, tightened_by_terms}
+use Rattle.cgm_atom.specs.LogState.{LogState, all_narrowed, named, narrowed}
+use Rattle.cgm_atom.specs.Constraints.{Constraint, of_clause, of_row, left_by, left_by_named}
+use Rattle.cgm_atom.specs.Narrowing.{all_assumed, greatest_activity, greatest_term, is_claimed_in, is_false_in, is_true_in, left_by_atoms, left_by_clause, left_by_met, left_by_row, left_by_unmet, made_true, raised, reduced, tightened_by_term, tightened_by_terms}
 use Rattle.cgm_atom.proofs.Keeping.{each_after_set, greatest_term-pos}
-use Rattle.cgm_atom.proofs.SignedSteps.{le_is_true, lt_is_true, quotient_at_most, scaled_up, scaled_down, sum_at_most}
+use Rattle.cgm_atom.proofs.SignedSteps.{le_is_true, lt_is_true, quotient_at_most, scaled_up, scaled_down, sum_at_most, ≤ℤ_refl, ≤ℤ_trans}
 use borrow.Author.Differences.{up, down}
 
 -- ---- the order of boxes
 
-≤ℤ_self : (z : ℤ) → z ≤ℤ z
-≤ℤ_self z = omega (arith, ints)
-
-at_most_both : (x y z : ℤ) → x ≤ℤ y → y ≤ℤ z → x ≤ℤ z
-at_most_both x y z h k = omega (arith, ints)
-
+-- a box is smaller than itself, and than each that is larger than a larger one
 pub IsSmaller-same : (b : Bounds) → IsSmaller b b
 IsSmaller-same b = record {
   lower_count = refl;
   upper_count = refl;
-  inside = λ x. (≤ℤ_self (lower_of b x), ≤ℤ_self (upper_of b x));
+  inside = λ x. (≤ℤ_refl (lower_of b x), ≤ℤ_refl (upper_of b x));
 }
 
 pub IsSmaller-trans : (inner middle outer : Bounds) → IsSmaller inner middle → IsSmaller middle outer → IsSmaller inner outer
 IsSmaller-trans inner middle outer h k = record {
   lower_count = h.lower_count ∙ k.lower_count;
   upper_count = h.upper_count ∙ k.upper_count;
-  inside = λ x. (at_most_both _ _ _ (k.inside x).0 (h.inside x).0, at_most_both _ _ _ (h.inside x).1 (k.inside x).1);
+  inside = λ x. (≤ℤ_trans _ _ _ (k.inside x).0 (h.inside x).0, ≤ℤ_trans _ _ _ (h.inside x).1 (k.inside x).1);
 }
 
 left_smaller_than_outer : (left : Option Bounds) (inner outer : Bounds) → IsLeftSmaller left (Some inner) → IsSmaller inner outer → IsLeftSmaller left (Some outer)
@@ -69,30 +65,27 @@ greater_max lo lo' k k' h g = omega (arith, ints, clamps)
 lesser_min : (hi hi' k k' : ℤ) → hi' ≤ℤ hi → k' ≤ℤ k → int_min hi' k' ≤ℤ int_min hi k
 lesser_min hi hi' k k' h g = omega (arith, ints, clamps)
 
-abbrev raised : Bounds → ℕ → ℤ → Bounds
-raised b x k = record b { lower = slice_set b.lower x (int_max (lower_of b x) k) }
-
-abbrev lowered : Bounds → ℕ → ℤ → Bounds
-lowered b x k = record b { upper = slice_set b.upper x (int_min (upper_of b x) k) }
-
-raised_smaller : (inner outer : Bounds) (x : ℕ) (k' k : ℤ) → IsSmaller inner outer → k ≤ℤ k' → IsSmaller (raised inner x k') (raised outer x k)
+-- raising a bound gives of a smaller box a smaller one, the more so where it is raised higher
+pub raised_smaller : (inner outer : Bounds) (x : ℕ) (k' k : ℤ) → IsSmaller inner outer → k ≤ℤ k' → IsSmaller (raised inner x k') (raised outer x k)
 raised_smaller inner outer x k' k h le = record {
   lower_count = length-set inner.lower x _ ∙ h.lower_count ∙ sym (length-set outer.lower x _);
   upper_count = h.upper_count;
   inside = λ y. (each_after_both_set (λ (v u : ℤ). u ≤ℤ v) inner.lower outer.lower x (int_max (lower_of inner x) k') (int_max (lower_of outer x) k) h.lower_count (λ n. (h.inside n).0) (greater_max _ _ _ _ (h.inside x).0 le) y, (h.inside y).1);
 }
 
-lowered_smaller : (inner outer : Bounds) (x : ℕ) (k' k : ℤ) → IsSmaller inner outer → k' ≤ℤ k → IsSmaller (lowered inner x k') (lowered outer x k)
-lowered_smaller inner outer x k' k h le = record {
+-- so does reducing one
+pub reduced_smaller : (inner outer : Bounds) (x : ℕ) (k' k : ℤ) → IsSmaller inner outer → k' ≤ℤ k → IsSmaller (reduced inner x k') (reduced outer x k)
+reduced_smaller inner outer x k' k h le = record {
   lower_count = h.lower_count;
   upper_count = length-set inner.upper x _ ∙ h.upper_count ∙ sym (length-set outer.upper x _);
   inside = λ y. ((h.inside y).0, each_after_both_set (λ (v u : ℤ). v ≤ℤ u) inner.upper outer.upper x (int_min (upper_of inner x) k') (int_min (upper_of outer x) k) h.upper_count (λ n. (h.inside n).1) (lesser_min _ _ _ _ (h.inside x).1 le) y);
 }
 
-made_true_cases : (inner outer : Bounds) (x : ℕ) (k : ℤ) (t : Bool) → IsSmaller inner outer → IsSmaller (cond t (raised inner x k) (lowered inner x k)) (cond t (raised outer x k) (lowered outer x k))
-made_true_cases inner outer x k true h = raised_smaller inner outer x k k h (≤ℤ_self k)
-made_true_cases inner outer x k false h = lowered_smaller inner outer x k k h (≤ℤ_self k)
+made_true_cases : (inner outer : Bounds) (x : ℕ) (k : ℤ) (t : Bool) → IsSmaller inner outer → IsSmaller (cond t (raised inner x k) (reduced inner x k)) (cond t (raised outer x k) (reduced outer x k))
+made_true_cases inner outer x k true h = raised_smaller inner outer x k k h (≤ℤ_refl k)
+made_true_cases inner outer x k false h = reduced_smaller inner outer x k k h (≤ℤ_refl k)
 
+-- an atom that is made true leaves of a smaller box a smaller one
 pub made_true_smaller : (inner outer : Bounds) (a : Atom) → IsSmaller inner outer → IsSmaller (made_true inner a) (made_true outer a)
 made_true_smaller inner outer a h = made_true_cases inner outer a.var.0 a.k a.at_least h
 
@@ -102,18 +95,19 @@ max_above lo k = omega (arith, ints, clamps)
 min_below : (hi k : ℤ) → int_min hi k ≤ℤ hi
 min_below hi k = omega (arith, ints, clamps)
 
-shrinks_cases : (b : Bounds) (x : ℕ) (k : ℤ) (t : Bool) → IsSmaller (cond t (raised b x k) (lowered b x k)) b
+shrinks_cases : (b : Bounds) (x : ℕ) (k : ℤ) (t : Bool) → IsSmaller (cond t (raised b x k) (reduced b x k)) b
 shrinks_cases b x k true = record {
   lower_count = length-set b.lower x _;
   upper_count = refl;
-  inside = λ y. (each_after_set (λ (n : ℕ) (v : ℤ). lower_of b n ≤ℤ v) b.lower x (int_max (lower_of b x) k) (λ n. ≤ℤ_self (lower_of b n)) (max_above (lower_of b x) k) y, ≤ℤ_self (upper_of b y));
+  inside = λ y. (each_after_set (λ (n : ℕ) (v : ℤ). lower_of b n ≤ℤ v) b.lower x (int_max (lower_of b x) k) (λ n. ≤ℤ_refl (lower_of b n)) (max_above (lower_of b x) k) y, ≤ℤ_refl (upper_of b y));
 }
 shrinks_cases b x k false = record {
   lower_count = refl;
   upper_count = length-set b.upper x _;
-  inside = λ y. (≤ℤ_self (lower_of b y), each_after_set (λ (n : ℕ) (v : ℤ). v ≤ℤ upper_of b n) b.upper x (int_min (upper_of b x) k) (λ n. ≤ℤ_self (upper_of b n)) (min_below (upper_of b x) k) y);
+  inside = λ y. (≤ℤ_refl (lower_of b y), each_after_set (λ (n : ℕ) (v : ℤ). v ≤ℤ upper_of b n) b.upper x (int_min (upper_of b x) k) (λ n. ≤ℤ_refl (upper_of b n)) (min_below (upper_of b x) k) y);
 }
 
+-- and of each box a smaller one
 pub made_true_shrinks : (b : Bounds) (a : Atom) → IsSmaller (made_true b a) b
 made_true_shrinks b a = shrinks_cases b a.var.0 a.k a.at_least
 
@@ -123,7 +117,8 @@ false_in_cases : (lo hi lo' hi' k : ℤ) (t : Bool) → lo ≤ℤ lo' → hi' �
 false_in_cases lo hi lo' hi' k true low high h = lt_is_true hi' k (omega (arith, ints))
 false_in_cases lo hi lo' hi' k false low high h = lt_is_true k lo' (omega (arith, ints))
 
-false_in_smaller : (inner outer : Bounds) (a : Atom) → IsSmaller inner outer → is_false_in outer a ≡ true → is_false_in inner a ≡ true
+-- an atom that is false in a box is false in a smaller one
+pub false_in_smaller : (inner outer : Bounds) (a : Atom) → IsSmaller inner outer → is_false_in outer a ≡ true → is_false_in inner a ≡ true
 false_in_smaller inner outer a h e =
     false_in_cases (lower_of outer a.var.0) (upper_of outer a.var.0) (lower_of inner a.var.0) (upper_of inner a.var.0) a.k a.at_least (h.inside a.var.0).0 (h.inside a.var.0).1 e
 
@@ -131,7 +126,8 @@ true_in_cases : (lo hi lo' hi' k : ℤ) (t : Bool) → lo ≤ℤ lo' → hi' ≤
 true_in_cases lo hi lo' hi' k true low high h = le_is_true k lo' (omega (arith, ints))
 true_in_cases lo hi lo' hi' k false low high h = le_is_true hi' k (omega (arith, ints))
 
-true_in_smaller : (inner outer : Bounds) (a : Atom) → IsSmaller inner outer → is_true_in outer a ≡ true → is_true_in inner a ≡ true
+-- an atom that is true in a box is true in a smaller one
+pub true_in_smaller : (inner outer : Bounds) (a : Atom) → IsSmaller inner outer → is_true_in outer a ≡ true → is_true_in inner a ≡ true
 true_in_smaller inner outer a h e =
     true_in_cases (lower_of outer a.var.0) (upper_of outer a.var.0) (lower_of inner a.var.0) (upper_of inner a.var.0) a.k a.at_least (h.inside a.var.0).0 (h.inside a.var.0).1 e
 
@@ -142,6 +138,7 @@ assumed_cases inner outer true t h rest = tt
 assumed_cases inner outer false true h rest = absurd (false≢true (h refl))
 assumed_cases inner outer false false h rest = rest
 
+-- atoms that are assumed in their order leave of a smaller box a smaller one or conflict
 pub assumed_smaller : (inner outer : Bounds) (atoms : List Atom) → IsSmaller inner outer → IsLeftSmaller (all_assumed inner atoms) (all_assumed outer atoms)
 assumed_smaller inner outer [] h = h
 assumed_smaller inner outer (a ∷ atoms) h =
@@ -183,10 +180,12 @@ atoms_narrow_smaller inner outer (x ∷ xs) (y ∷ []) (inr part) h =
 atoms_narrow_smaller inner outer (x ∷ xs) (y ∷ y' ∷ ys) part h =
     left_smaller_than_outer (left_by_atoms inner (x ∷ xs)) inner outer (atoms_shrink inner (x ∷ xs)) h
 
-clause_shrinks : (b : Bounds) (c : Clause) → IsLeftSmaller (left_by_clause b c) (Some b)
+-- what a clause leaves of a box is smaller
+pub clause_shrinks : (b : Bounds) (c : Clause) → IsLeftSmaller (left_by_clause b c) (Some b)
 unfolding left_by_clause
 clause_shrinks b c = atoms_shrink b (filter (λ a. not (is_false_in b a)) c.atoms)
 
+-- and of a smaller box it leaves a smaller one or conflict
 pub clause_narrows_smaller : (inner outer : Bounds) (c : Clause) → IsSmaller inner outer → IsLeftSmaller (left_by_clause inner c) (left_by_clause outer c)
 unfolding left_by_clause
 clause_narrows_smaller inner outer c h =
@@ -200,12 +199,14 @@ term_cases (negsuc n) lo hi lo' hi' true low high e = scaled_down n lo lo' low
 term_cases (pos n) lo hi lo' hi' false low high e = scaled_up n hi' hi high
 term_cases (negsuc n) lo hi lo' hi' false low high e = absurd (omega (arith, ints))
 
-term_smaller : (inner outer : Bounds) (c : ℤ) (x : ℕ) → IsSmaller inner outer → greatest_term inner c x ≤ℤ greatest_term outer c x
+-- the greatest value of a term is no greater in a smaller box
+pub term_smaller : (inner outer : Bounds) (c : ℤ) (x : ℕ) → IsSmaller inner outer → greatest_term inner c x ≤ℤ greatest_term outer c x
 term_smaller inner outer c x h =
     term_cases c (lower_of outer x) (upper_of outer x) (lower_of inner x) (upper_of inner x) (int_lt c (pos 0)) (h.inside x).0 (h.inside x).1 refl
 
-activity_smaller : (inner outer : Bounds) (terms : List (ℤ × Var)) → IsSmaller inner outer → greatest_activity inner terms ≤ℤ greatest_activity outer terms
-activity_smaller inner outer [] h = ≤ℤ_self (pos 0)
+-- nor is the greatest sum of a row
+pub activity_smaller : (inner outer : Bounds) (terms : List (ℤ × Var)) → IsSmaller inner outer → greatest_activity inner terms ≤ℤ greatest_activity outer terms
+activity_smaller inner outer [] h = ≤ℤ_refl (pos 0)
 activity_smaller inner outer (t ∷ terms) h =
     sum_at_most (greatest_term inner t.0 t.1.0) (greatest_term outer t.0 t.1.0) (greatest_activity inner terms) (greatest_activity outer terms) (term_smaller inner outer t.0 t.1.0 h) (activity_smaller inner outer terms h)
 
@@ -228,13 +229,14 @@ rooms_at_greatest old' old room' room n x h =
     subst (λ (z : ℤ). (pos room' +ℤ (pos (suc n) *ℤ upper_of old x)) ≤ℤ (pos room +ℤ z)) (greatest_term-pos old' (suc n) x)
     (subst (λ (z : ℤ). (pos room' +ℤ z) ≤ℤ (pos room +ℤ greatest_term old' (pos (suc n)) x)) (greatest_term-pos old (suc n) x) h)
 
-tightened_by_term_smaller : (old' old : Bounds) (room' room : ℕ) (c : ℤ) (x : Var) (inner outer : Bounds) → (pos room' +ℤ greatest_term old c x.0) ≤ℤ (pos room +ℤ greatest_term old' c x.0) → IsSmaller inner outer → IsSmaller (tightened_by_term old' room' c x inner) (tightened_by_term old room c x outer)
+-- a term tightens a smaller box to a smaller one, where its room and greatest value leave it no more
+pub tightened_by_term_smaller : (old' old : Bounds) (room' room : ℕ) (c : ℤ) (x : Var) (inner outer : Bounds) → (pos room' +ℤ greatest_term old c x.0) ≤ℤ (pos room +ℤ greatest_term old' c x.0) → IsSmaller inner outer → IsSmaller (tightened_by_term old' room' c x inner) (tightened_by_term old room c x outer)
 tightened_by_term_smaller old' old room' room (pos zero) x inner outer h smaller = smaller
 tightened_by_term_smaller old' old room' room (pos (suc n)) x inner outer h smaller =
     let rooms : (pos room' +ℤ (pos (suc n) *ℤ upper_of old x.0)) ≤ℤ (pos room +ℤ (pos (suc n) *ℤ upper_of old' x.0)) = rooms_at_greatest old' old room' room n x.0 h in
     raised_smaller inner outer x.0 (upper_of old' x.0 -ℤ pos (room' / suc n)) (upper_of old x.0 -ℤ pos (room / suc n)) smaller (raised_more n (upper_of old' x.0) (upper_of old x.0) room' room rooms)
 tightened_by_term_smaller old' old room' room (negsuc n) x inner outer h smaller =
-    lowered_smaller inner outer x.0 (lower_of old' x.0 +ℤ pos (room' / suc n)) (lower_of old x.0 +ℤ pos (room / suc n)) smaller (lowered_more n (lower_of old' x.0) (lower_of old x.0) room' room h)
+    reduced_smaller inner outer x.0 (lower_of old' x.0 +ℤ pos (room' / suc n)) (lower_of old x.0 +ℤ pos (room / suc n)) smaller (lowered_more n (lower_of old' x.0) (lower_of old x.0) room' room h)
 
 -- the rooms of two sums are rooms for their first parts, and for the rests
 rooms_for_first : (r' r x' x u' u : ℤ) → u' ≤ℤ u → (r' +ℤ (x +ℤ u)) ≤ℤ (r +ℤ (x' +ℤ u')) → (r' +ℤ x) ≤ℤ (r +ℤ x')
@@ -243,7 +245,8 @@ rooms_for_first r' r x' x u' u k h = omega (arith, ints)
 rooms_for_rest : (r' r x' x u' u : ℤ) → x' ≤ℤ x → (r' +ℤ (x +ℤ u)) ≤ℤ (r +ℤ (x' +ℤ u')) → (r' +ℤ u) ≤ℤ (r +ℤ u')
 rooms_for_rest r' r x' x u' u k h = omega (arith, ints)
 
-tightened_by_terms_smaller : (old' old : Bounds) (room' room : ℕ) (terms : List (ℤ × Var)) (inner outer : Bounds) → IsSmaller old' old → (pos room' +ℤ greatest_activity old terms) ≤ℤ (pos room +ℤ greatest_activity old' terms) → IsSmaller inner outer → IsSmaller (tightened_by_terms old' room' terms inner) (tightened_by_terms old room terms outer)
+-- so do all terms, from old boxes of which one is smaller
+pub tightened_by_terms_smaller : (old' old : Bounds) (room' room : ℕ) (terms : List (ℤ × Var)) (inner outer : Bounds) → IsSmaller old' old → (pos room' +ℤ greatest_activity old terms) ≤ℤ (pos room +ℤ greatest_activity old' terms) → IsSmaller inner outer → IsSmaller (tightened_by_terms old' room' terms inner) (tightened_by_terms old room terms outer)
 tightened_by_terms_smaller old' old room' room [] inner outer olds h smaller = smaller
 tightened_by_terms_smaller old' old room' room (t ∷ terms) inner outer olds h smaller =
     let x' : ℤ = greatest_term old' t.0 t.1.0 in
@@ -253,21 +256,24 @@ tightened_by_terms_smaller old' old room' room (t ∷ terms) inner outer olds h 
     tightened_by_terms_smaller old' old room' room terms (tightened_by_term old' room' t.0 t.1 inner) (tightened_by_term old room t.0 t.1 outer) olds rest
     (tightened_by_term_smaller old' old room' room t.0 t.1 inner outer first smaller)
 
-tightened_by_term_shrinks : (old : Bounds) (room : ℕ) (c : ℤ) (x : Var) (b : Bounds) → IsSmaller (tightened_by_term old room c x b) b
+-- what a term leaves of a box is smaller
+pub tightened_by_term_shrinks : (old : Bounds) (room : ℕ) (c : ℤ) (x : Var) (b : Bounds) → IsSmaller (tightened_by_term old room c x b) b
 tightened_by_term_shrinks old room (pos zero) x b = IsSmaller-same b
 tightened_by_term_shrinks old room (pos (suc n)) x b =
     made_true_shrinks b (record { var = x; at_least = true; k = upper_of old x.0 -ℤ pos (room / suc n) })
 tightened_by_term_shrinks old room (negsuc n) x b =
     made_true_shrinks b (record { var = x; at_least = false; k = lower_of old x.0 +ℤ pos (room / suc n) })
 
-tightened_by_terms_shrinks : (old : Bounds) (room : ℕ) (terms : List (ℤ × Var)) (b : Bounds) → IsSmaller (tightened_by_terms old room terms b) b
+-- so is what all terms leave
+pub tightened_by_terms_shrinks : (old : Bounds) (room : ℕ) (terms : List (ℤ × Var)) (b : Bounds) → IsSmaller (tightened_by_terms old room terms b) b
 tightened_by_terms_shrinks old room [] b = IsSmaller-same b
 tightened_by_terms_shrinks old room (t ∷ terms) b =
     IsSmaller-trans _ (tightened_by_term old room t.0 t.1 b) b (tightened_by_terms_shrinks old room terms (tightened_by_term old room t.0 t.1 b)) (tightened_by_term_shrinks old room t.0 t.1 b)
 
 -- ---- a row
 
-claimed_in_smaller : (inner outer : Bounds) (g : Option Atom) → IsSmaller inner outer → is_claimed_in outer g ≡ true → is_claimed_in inner g ≡ true
+-- a row that is claimed in a box is claimed in a smaller one
+pub claimed_in_smaller : (inner outer : Bounds) (g : Option Atom) → IsSmaller inner outer → is_claimed_in outer g ≡ true → is_claimed_in inner g ≡ true
 claimed_in_smaller inner outer None h e = refl
 claimed_in_smaller inner outer (Some g) h e = true_in_smaller inner outer g h e
 
@@ -336,10 +342,12 @@ row_shrinks_cases : (b : Bounds) (r : Row) (t : Bool) → IsLeftSmaller (if t th
 row_shrinks_cases b r true = unmet_shrinks b r.guard
 row_shrinks_cases b r false = met_shrinks b r
 
-row_shrinks : (b : Bounds) (r : Row) → IsLeftSmaller (left_by_row b r) (Some b)
+-- what a row leaves of a box is smaller
+pub row_shrinks : (b : Bounds) (r : Row) → IsLeftSmaller (left_by_row b r) (Some b)
 unfolding left_by_row
 row_shrinks b r = row_shrinks_cases b r (int_lt (greatest_activity b r.terms) r.least)
 
+-- and of a smaller box it leaves a smaller one or conflict
 pub row_narrows_smaller : (inner outer : Bounds) (r : Row) → IsSmaller inner outer → IsLeftSmaller (left_by_row inner r) (left_by_row outer r)
 unfolding left_by_row
 row_narrows_smaller inner outer r h =
@@ -347,10 +355,12 @@ row_narrows_smaller inner outer r h =
 
 -- ---- what a hint names
 
+-- what a clause or a row leaves of a box is smaller
 pub narrowing_shrinks : (b : Bounds) (c : Constraint) → IsLeftSmaller (left_by b c) (Some b)
 narrowing_shrinks b (of_clause c) = clause_shrinks b c
 narrowing_shrinks b (of_row r) = row_shrinks b r
 
+-- and of a smaller box it leaves a smaller one or conflict
 pub narrowing_smaller : (inner outer : Bounds) (c : Constraint) → IsSmaller inner outer → IsLeftSmaller (left_by inner c) (left_by outer c)
 narrowing_smaller inner outer (of_clause c) h = clause_narrows_smaller inner outer c h
 narrowing_smaller inner outer (of_row r) h = row_narrows_smaller inner outer r h
@@ -364,6 +374,7 @@ next_smaller None outer next h rest = tt
 next_smaller (Some i) None next h rest = absurd h
 next_smaller (Some i) (Some o) next h rest = rest i o h
 
+-- hints in their order leave of a smaller box a smaller one or conflict
 pub hints_smaller : (p : Instance) (s : LogState) (inner outer : Bounds) (hints : List Hint) → IsSmaller inner outer → IsLeftSmaller (all_narrowed p s inner hints) (all_narrowed p s outer hints)
 hints_smaller p s inner outer [] h = h
 hints_smaller p s inner outer (x ∷ hints) h =

@@ -5,13 +5,18 @@ use Rattle.std.proofs.lemmas.Int.{ints}
 use Rattle.std.proofs.Math.Nat.{mul-le-mul_left, div-add-mod, mod-lt, lt_of_mul-lt-mul_left}
 use borrow.Author.Differences.{le_out, true_is_le, false_is_le, true_is_lt, false_is_lt}
 
+-- ---- the order
+
+pub ≤ℤ_refl : (a : ℤ) → a ≤ℤ a
+≤ℤ_refl a = omega (arith, ints)
+
+pub ≤ℤ_trans : (a b c : ℤ) → a ≤ℤ b → b ≤ℤ c → a ≤ℤ c
+≤ℤ_trans a b c h k = omega (arith, ints)
+
 -- ---- tests
 
 pub le_from_true : (a b : ℤ) → int_le a b ≡ true → a ≤ℤ b
 le_from_true a b e = omega (arith, ints)
-
-pub lt_from_false : (a b : ℤ) → int_le a b ≡ false → b <ℤ a
-lt_from_false a b e = omega (arith, ints)
 
 pub le_is_true : (a b : ℤ) → a ≤ℤ b → int_le a b ≡ true
 le_is_true a b h = sym (true_is_le a b (omega (arith, ints)))

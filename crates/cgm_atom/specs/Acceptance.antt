@@ -54,6 +54,10 @@ IsAcceptedAfter p s (e ∷ entries) = (first_fault p s e ≡ None) × IsAccepted
 unfoldable pub IsAccepted : Instance → List Entry → Type 0
 IsAccepted p log = IsAcceptedAfter p empty_state log
 
+-- the state of some accepted log
+abbrev pub IsAcceptedState : Instance → LogState → Type 0
+IsAcceptedState p s = (log : List Entry) × IsAccepted p log × (s ≡ state_of log)
+
 -- a lemma without atoms stands in the log; where the log is accepted, it is the last entry
 abbrev pub IsClosed : List Entry → Type 0
 IsClosed log = IsTrue (state_of log).closed

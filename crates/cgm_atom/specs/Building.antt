@@ -1,6 +1,10 @@
 -- What a builder's calls add to a problem, and when they refuse.
-use Rattle.std.specs.Prelude.{◌≡◌, Bool, ◌&&◌, ◌+◌, ◌*◌, ◌^◌, ◌≤◌, ◌==◌, cond, not, ℕ, ℤ, List, [], ◌∷◌, ◌++◌, length, int_le, unsigned_abs, if◌then◌else◌, Result, Ok, Err}
+use Rattle.std.specs.Prelude.{◌≡◌, Bool, ◌&&◌, ◌||◌, ◌≤◌, ◌==◌, ℕ, ℤ, List, [], ◌∷◌, ◌++◌, length, unsigned_abs, if◌then◌else◌, Result, Ok, Err}
+use Rattle.std.specs.declared.cmp.Ordering.{Ordering}
+use Rattle.std.specs.Bool.{beq}
+use Rattle.std.specs.BTreeSet.{BTreeSet, contains}
 use Rattle.std.specs.List.{list_any}
+use Rattle.std.specs.Ordering.{bool_cmp, int_cmp, int_eq, nat_cmp, ordering_then}
 use Rattle.cgm_atom.specs.declared.builders.BuildStop.{BuildStop}
 use Rattle.cgm_atom.specs.declared.builders.BuildStop.TheVariants as stop
 use Rattle.cgm_atom.specs.declared.constraints.Atom.{Atom}
@@ -9,7 +13,7 @@ use Rattle.cgm_atom.specs.declared.constraints.Row.{Row}
 use Rattle.cgm_atom.specs.declared.constraints.Var.{Var}
 use Rattle.cgm_atom.specs.Bounds.{Bounds}
 use Rattle.cgm_atom.specs.Instance.{Instance, var_count}
-use Rattle.cgm_atom.specs.Limits.{IsBound, measure}
+use Rattle.cgm_atom.specs.Limits.{IsBound, max_least, max_measure, measure}
 
 abbrev pub empty_instance : Instance
 empty_instance = record { bounds = record { lower = []; upper = [] }; clauses = []; rows = []; objectives = [] }
@@ -30,16 +34,25 @@ with_objective p v = record p { objectives = p.objectives ++ v ∷ [] }
 -- ---- a clause without repeated atoms
 
 abbrev pub is_same_atom : Atom → Atom → Bool
-is_same_atom a b = (a.var.0 == b.var.0) && cond a.at_least b.at_least (not b.at_least) && int_le a.k b.k && int_le b.k a.k
+is_same_atom a b = (a.var.0 == b.var.0) && (beq a.at_least b.at_least && int_eq a.k b.k)
 
--- the atoms that equal none of `seen` and none before them
-abbrev pub fresh_atoms : List Atom → List Atom → List Atom
-fresh_atoms seen [] = []
-fresh_atoms seen (a ∷ atoms) =
-    if list_any (is_same_atom a) seen then fresh_atoms seen atoms else a ∷ fresh_atoms (seen ++ a ∷ []) atoms
+-- of the atoms after those before, each that equals none before it
+abbrev pub first_atoms : List Atom → List Atom → List Atom
+first_atoms before [] = []
+first_atoms before (a ∷ atoms) =
+    if list_any (is_same_atom a) before then first_atoms (before ++ a ∷ []) atoms else a ∷ first_atoms (before ++ a ∷ []) atoms
 
+-- each atom that equals none before it
 abbrev pub without_repeats : Clause → Clause
-without_repeats c = record { atoms = fresh_atoms [] c.atoms }
+without_repeats c = record { atoms = first_atoms [] c.atoms }
+
+-- the order of atoms: by variable, at most before at least, and by number
+abbrev pub atom_order : Atom → Atom → Ordering
+atom_order a b = ordering_then (nat_cmp a.var.0 b.var.0) (ordering_then (bool_cmp a.at_least b.at_least) (int_cmp a.k b.k))
+
+-- the set has this atom, and those that it had
+abbrev pub HasOneMore : BTreeSet Atom → BTreeSet Atom → Atom → Type 0
+HasOneMore old new a = (q : Atom) → contains atom_order new q ≡ (is_same_atom q a || contains atom_order old q)
 
 -- ---- answers
 
@@ -52,7 +65,7 @@ IsVarAnswer old new lo hi (Err stop.Memory) = (new ≡ old) × IsBound lo × IsB
 
 -- the row's measure and its least value are within their limits
 abbrev pub IsRowSize : Bounds → Row → Type 0
-IsRowSize b r = (measure b r.terms ≤ 4 * 10 ^ 18) × (unsigned_abs r.least ≤ 4 * 10 ^ 18 + 1)
+IsRowSize b r = (measure b r.terms ≤ max_measure) × (unsigned_abs r.least ≤ max_least)
 
 abbrev pub IsRowAnswer : Instance → Instance → Row → Result ℕ BuildStop → Type 0
 IsRowAnswer old new r (Ok n) = (n ≡ length old.rows) × (new ≡ with_row old r) × IsRowSize old.bounds r

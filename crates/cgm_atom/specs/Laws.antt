@@ -1,6 +1,6 @@
 -- Laws over the definitions: on narrowing, cuts, bounds of lemmas, and closed logs.
-use Rattle.std.specs.Prelude.{◌≡◌, ◌↔◌, ℕ, ◌≤◌, ℤ, List, length, Option, Some, None, IsTrue, IsSomeAnd}
-use Rattle.std.specs.List.{All}
+use Rattle.std.specs.Prelude.{◌++◌, ◌≡◌, ◌↔◌, ℕ, ◌≤◌, ℤ, List, length, Option, Some, None, IsTrue, IsSomeAnd}
+use Rattle.std.specs.List.{All, last_or}
 use Rattle.cgm_atom.specs.declared.constraints.Atom.{Atom}
 use Rattle.cgm_atom.specs.declared.constraints.Clause.{Clause}
 use Rattle.cgm_atom.specs.declared.constraints.Row.{Row}
@@ -8,13 +8,14 @@ use Rattle.cgm_atom.specs.declared.constraints.Var.{Var}
 use Rattle.cgm_atom.specs.declared.entries.Entry.{Entry}
 use Rattle.cgm_atom.specs.declared.entries.Entry.TheVariants.{Best, Lemma}
 use Rattle.cgm_atom.specs.declared.entries.Hint.{Hint}
-use Rattle.cgm_atom.specs.Acceptance.{IsAccepted, IsClosed}
+use Rattle.cgm_atom.specs.Acceptance.{IsAccepted, IsAcceptedState, IsClosed, first_fault}
 use Rattle.cgm_atom.specs.Atoms.{atom_true, clause_true, row_true}
 use Rattle.cgm_atom.specs.Bounds.{Bounds, IsInside, IsProper, IsWithin}
 use Rattle.cgm_atom.specs.Cut.{cut}
 use Rattle.cgm_atom.specs.Entailment.{Follows, best_values}
 use Rattle.cgm_atom.specs.Instance.{Instance, HasNoSolution, IsLeast, IsSolution, values_at}
-use Rattle.cgm_atom.specs.LogState.{Constraint, LogState, all_narrowed, last_best, left_by, state_of}
+use Rattle.cgm_atom.specs.LogState.{LogState, all_narrowed, carried, is_closing, last_best, named, state_of, state_with}
+use Rattle.cgm_atom.specs.Constraints.{Constraint, left_by}
 use Rattle.cgm_atom.specs.Narrowing.{all_assumed, left_by_clause, left_by_row, made_true}
 use Rattle.cgm_atom.specs.Order.{IsLess}
 
@@ -119,6 +120,21 @@ BestsAreSolutions =
     → IsAccepted p log
     → All (IsSolution p) (best_values log)
 
+-- the last entry is a lemma without atoms
+abbrev pub EndsWithClosing : List Entry → Type 0
+EndsWithClosing log = IsSomeAnd (last_or None log) (λ e. IsTrue (is_closing e))
+
+abbrev pub ClosedLogEnds : Type 0
+ClosedLogEnds = (p : Instance) (log : List Entry) → IsAccepted p log → IsClosed log ↔ EndsWithClosing log
+
+-- the state after one more entry that has no fault is that of an accepted log
+abbrev pub AcceptedStatesGrow : Type 0
+AcceptedStatesGrow =
+    (p : Instance) (s : LogState) (e : Entry)
+    → IsAcceptedState p s
+    → first_fault p s e ≡ None
+    → IsAcceptedState p (state_with s e)
+
 -- the best is a least solution, or without one there is no solution
 abbrev pub IsConcluded : Instance → Option (List ℤ) → Type 0
 IsConcluded p None = HasNoSolution p
@@ -131,3 +147,19 @@ ClosedLogIsLeast =
     → IsAccepted p log
     → IsClosed log
     → IsConcluded p (last_best (state_of log))
+
+-- ---- hints in a longer log
+
+-- a hint that names a clause or a row names it still
+abbrev pub NamesStay : Type 0
+NamesStay =
+    (p : Instance) (log more : List Entry) (h : Hint) (c : Constraint)
+    → named p (state_of log) h ≡ Some c
+    → named p (state_of (log ++ more)) h ≡ Some c
+
+-- and carries what it carried
+abbrev pub CarriedStays : Type 0
+CarriedStays =
+    (p : Instance) (log more : List Entry) (h : Hint) (c : Constraint)
+    → named p (state_of log) h ≡ Some c
+    → carried (state_of (log ++ more)) h ≡ carried (state_of log) h

@@ -1,23 +1,21 @@
--- What the next entry of a log is tested against: the live entries by place, the bests by ordinal, and whether it is closed.
+-- What the next entry of a log is tested against: the live entries, the places of the bests, and whether it is closed.
 use Rattle.std.specs.Prelude.{Bool, false, ◌||◌, ℕ, zero, suc, max, ℤ, List, [], ◌∷◌, ◌++◌, slice_get, length, ◌==◌, Option, Some, None}
 use Rattle.std.specs.Option.{option_map, option_and_then, option_flatten, option_map_or}
-use Rattle.std.specs.List.{last_or}
 use Rattle.cgm_atom.specs.declared.constraints.Clause.{Clause}
-use Rattle.cgm_atom.specs.declared.constraints.Row.{Row}
 use Rattle.cgm_atom.specs.declared.entries.Entry.{Entry}
 use Rattle.cgm_atom.specs.declared.entries.Entry.TheVariants.{Best, Lemma}
 use Rattle.cgm_atom.specs.declared.entries.Hint.{Hint}
 use Rattle.cgm_atom.specs.declared.entries.Hint.TheVariants as hint
 use Rattle.cgm_atom.specs.Bounds.{Bounds}
+use Rattle.cgm_atom.specs.Constraints.{Constraint, left_by_named, of_clause, of_row}
 use Rattle.cgm_atom.specs.Cut.{cut}
 use Rattle.cgm_atom.specs.Instance.{Instance, vector}
-use Rattle.cgm_atom.specs.Narrowing.{left_by_clause, left_by_row}
 
 pub record LogState : Type 0 where
   -- the entry at each place, from 1; None where it is no longer live
   pub entries : List (Option Entry)
-  -- the values of each best, by its ordinal from 1; None where it is no longer live
-  pub bests : List (Option (List ℤ))
+  -- the place of each best, live or not, by its ordinal from 1
+  pub bests : List ℕ
   -- whether a lemma without atoms stands in the log
   pub closed : Bool
 
@@ -27,12 +25,24 @@ empty_state = record { entries = []; bests = []; closed = false }
 abbrev pub is_empty_clause : Clause → Bool
 is_empty_clause c = length c.atoms == 0
 
+-- the entry is a lemma without atoms
+abbrev pub is_closing : Entry → Bool
+is_closing (Best by values) = false
+is_closing (Lemma by clause hints bound) = is_empty_clause clause
+
+-- the places of the bests after one more entry, where so many stand before it
+abbrev pub places_with : ℕ → List ℕ → Entry → List ℕ
+places_with count places (Best by values) = places ++ suc count ∷ []
+places_with count places (Lemma by clause hints bound) = places
+
 -- the state after one more entry
 abbrev pub state_with : LogState → Entry → LogState
-state_with s (Best by values) =
-    record { entries = s.entries ++ Some (Best by values) ∷ []; bests = s.bests ++ Some values ∷ []; closed = s.closed }
-state_with s (Lemma by clause hints bound) =
-    record { entries = s.entries ++ Some (Lemma by clause hints bound) ∷ []; bests = s.bests; closed = s.closed || is_empty_clause clause }
+state_with s e =
+    record {
+      entries = s.entries ++ Some e ∷ [];
+      bests = places_with (length s.entries) s.bests e;
+      closed = s.closed || is_closing e;
+    }
 
 -- the state after more entries
 abbrev pub state_after : LogState → List Entry → LogState
@@ -46,17 +56,30 @@ state_of log = state_after empty_state log
 -- ---- what a hint names, and what it carries
 
 -- the item at a place that counts from 1
-abbrev pub live_at : {X : Type 0} → List (Option X) → ℕ → Option X
-live_at items zero = None
-live_at items (suc i) = option_flatten (slice_get items i)
+abbrev pub item_at : {X : Type 0} → List X → ℕ → Option X
+item_at items zero = None
+item_at items (suc i) = slice_get items i
+
+-- the live entry at a place
+abbrev pub live_at : LogState → ℕ → Option Entry
+live_at s place = option_flatten (item_at s.entries place)
+
+-- the values of an entry that is a best
+abbrev pub entry_values : Entry → Option (List ℤ)
+entry_values (Best by values) = Some values
+entry_values (Lemma by clause hints bound) = None
+
+-- the values of the live best at a place
+abbrev pub values_at_place : LogState → ℕ → Option (List ℤ)
+values_at_place s place = option_and_then entry_values (live_at s place)
+
+-- the values of the live best with an ordinal
+abbrev pub best_at : LogState → ℕ → Option (List ℤ)
+best_at s ordinal = option_and_then (values_at_place s) (item_at s.bests ordinal)
 
 -- the values of the last best, if any
 abbrev pub last_best : LogState → Option (List ℤ)
-last_best s = option_flatten (last_or None s.bests)
-
-pub data Constraint : Type 0 where
-  of_clause : Clause → Constraint
-  of_row : Row → Constraint
+last_best s = best_at s (length s.bests)
 
 -- the clause of an entry that is a lemma, and its bound
 abbrev pub lemma_clause : Entry → Option Clause
@@ -71,10 +94,10 @@ lemma_bound (Lemma by clause hints bound) = bound
 unfoldable pub named : Instance → LogState → Hint → Option Constraint
 named p s (hint.Clause n) = option_map of_clause (slice_get p.clauses n)
 named p s (hint.Row n) = option_map of_row (slice_get p.rows n)
-named p s (hint.Entry place) = option_map of_clause (option_and_then lemma_clause (live_at s.entries place))
+named p s (hint.Entry place) = option_map of_clause (option_and_then lemma_clause (live_at s place))
 named p s (hint.Own place) = None
 named p s (hint.Cut ordinal part) =
-    option_map of_clause (option_and_then (λ values. slice_get (cut p.objectives (vector p values)) part) (live_at s.bests ordinal))
+    option_map of_clause (option_and_then (λ values. slice_get (cut p.objectives (vector p values)) part) (best_at s ordinal))
 
 -- ---- what a hint carries
 
@@ -82,7 +105,7 @@ named p s (hint.Cut ordinal part) =
 unfoldable pub carried : LogState → Hint → ℕ
 carried s (hint.Clause n) = 0
 carried s (hint.Row n) = 0
-carried s (hint.Entry place) = option_map_or lemma_bound (live_at s.entries place) 0
+carried s (hint.Entry place) = option_map_or lemma_bound (live_at s place) 0
 carried s (hint.Own place) = 0
 carried s (hint.Cut ordinal part) = ordinal
 
@@ -91,15 +114,6 @@ greatest_carried s [] = 0
 greatest_carried s (h ∷ hints) = max (carried s h) (greatest_carried s hints)
 
 -- ---- narrowing by hints
-
-abbrev pub left_by : Bounds → Constraint → Option Bounds
-left_by b (of_clause c) = left_by_clause b c
-left_by b (of_row r) = left_by_row b r
-
--- what the named clause or row leaves; a hint that names nothing leaves the box
-abbrev pub left_by_named : Bounds → Option Constraint → Option Bounds
-left_by_named b None = Some b
-left_by_named b (Some c) = left_by b c
 
 abbrev pub narrowed : Instance → LogState → Bounds → Hint → Option Bounds
 narrowed p s b h = left_by_named b (named p s h)

@@ -17,11 +17,17 @@ is_true_in b a = cond a.at_least (int_le a.k (lower_of b a.var.0)) (int_le (uppe
 abbrev pub is_false_in : Bounds → Atom → Bool
 is_false_in b a = cond a.at_least (int_lt (upper_of b a.var.0) a.k) (int_lt a.k (lower_of b a.var.0))
 
+-- the least value of variable x is at least k
+abbrev pub raised : Bounds → ℕ → ℤ → Bounds
+raised b x k = record b { lower = slice_set b.lower x (int_max (lower_of b x) k) }
+
+-- the greatest value of variable x is at most k
+abbrev pub reduced : Bounds → ℕ → ℤ → Bounds
+reduced b x k = record b { upper = slice_set b.upper x (int_min (upper_of b x) k) }
+
 -- the values of the box that make the atom true
 abbrev pub made_true : Bounds → Atom → Bounds
-made_true b a =
-    cond a.at_least (record b { lower = slice_set b.lower a.var.0 (int_max (lower_of b a.var.0) a.k) })
-    (record b { upper = slice_set b.upper a.var.0 (int_min (upper_of b a.var.0) a.k) })
+made_true b a = cond a.at_least (raised b a.var.0 a.k) (reduced b a.var.0 a.k)
 
 -- the atom is made true, unless it is false
 abbrev pub assumed : Bounds → Atom → Option Bounds
@@ -53,14 +59,17 @@ abbrev pub greatest_activity : Bounds → List (ℤ × Var) → ℤ
 greatest_activity b [] = pos 0
 greatest_activity b (t ∷ terms) = greatest_term b t.0 t.1.0 +ℤ greatest_activity b terms
 
--- the values of variable x at which its term is at most `room` below its greatest value in the old box:
--- for a positive c at least `upper - floor (room / c)`, for a negative c at most `lower + floor (room / -c)`
+-- what variable x keeps, where its term is at most `room` below its greatest value in the old box:
+-- for a positive c it is at least `upper - floor (room / c)`, for a negative c at most `lower + floor (room / -c)`
+abbrev pub kept_atom : Bounds → ℕ → ℤ → Var → Atom
+kept_atom old room (pos n) x = record { var = x; at_least = true; k = upper_of old x.0 -ℤ pos (room / n) }
+kept_atom old room (negsuc n) x = record { var = x; at_least = false; k = lower_of old x.0 +ℤ pos (room / suc n) }
+
+-- a term without a coefficient leaves the box
 abbrev pub tightened_by_term : Bounds → ℕ → ℤ → Var → Bounds → Bounds
 tightened_by_term old room (pos zero) x b = b
-tightened_by_term old room (pos (suc n)) x b =
-    made_true b (record { var = x; at_least = true; k = upper_of old x.0 -ℤ pos (room / suc n) })
-tightened_by_term old room (negsuc n) x b =
-    made_true b (record { var = x; at_least = false; k = lower_of old x.0 +ℤ pos (room / suc n) })
+tightened_by_term old room (pos (suc n)) x b = made_true b (kept_atom old room (pos (suc n)) x)
+tightened_by_term old room (negsuc n) x b = made_true b (kept_atom old room (negsuc n) x)
 
 abbrev pub tightened_by_terms : Bounds → ℕ → List (ℤ × Var) → Bounds → Bounds
 tightened_by_terms old room [] b = b

@@ -1,7 +1,8 @@
 //! Boxes.
-ghost use Rattle.std.specs.Prelude.{◌≡◌, ℕ, ◌<◌, ◌≤ℤ◌, cond, length, not, if◌then◌else◌, int_lt, IfOk};
+ghost use Rattle.std.specs.Prelude.{◌≡◌, ℕ, ◌<◌, ◌≤ℤ◌, cond, length, not, if◌then◌else◌, int_lt, IsTrue, IfOk};
 ghost use Rattle.cgm_atom.specs.Bounds.{Bounds, IsBoxOf, IsProper, lower_of, upper_of};
-ghost use Rattle.cgm_atom.specs.Narrowing.{is_false_in, made_true};
+ghost use Rattle.cgm_atom.specs.Narrowing.{is_false_in, is_true_in, made_true};
+ghost use Rattle.cgm_atom.specs.Relaxing.{IsNumberWithin, relaxed};
 
 use crate::constraints::{Atom, Var};
 use crate::problems::Problem;
@@ -20,7 +21,7 @@ impl Model for BoxState {
 
     ghost Value = { Bounds };
 
-    ghost use Rattle.cgm_atom.specs.Parts.{box_bounds};
+    ghost use Rattle.cgm_atom.specs.Fields.{box_bounds};
     ghost use Rattle.cgm_atom.specs.Bounds.{IsProper};
 
     ghost view = { box_bounds };
@@ -34,7 +35,7 @@ impl BoxState {
         ensures bounds { IfOk result (λ b. b ≡ p.now.bounds) }
         ensures box_of { IfOk result (λ b. IsBoxOf p.now.bounds b) }
     {
-        let _valid = p.objectives();
+        p.recall_well_formed();
         let lower = Vec::from_slice(alloc, p.lower())?;
         let upper = Vec::from_slice(alloc, p.upper())?;
         Ok(BoxState { lower, upper })
@@ -46,9 +47,18 @@ impl BoxState {
         ensures bounds { self.new ≡ p.now.bounds }
         ensures box_of { IsBoxOf p.now.bounds self.new }
     {
-        let _valid = p.objectives();
+        p.recall_well_formed();
         self.lower.copy_from_slice(p.lower());
         self.upper.copy_from_slice(p.upper());
+    }
+
+    /// An equal box.
+    pub fn copy(&self, alloc: Global) -> Result<BoxState, OutOfMemory>
+        ensures { IfOk result (λ b. b ≡ self.now) }
+    {
+        let lower = Vec::from_slice(alloc, self.lower.as_slice())?;
+        let upper = Vec::from_slice(alloc, self.upper.as_slice())?;
+        Ok(BoxState { lower, upper })
     }
 
     /// The least value of a variable.
@@ -88,9 +98,25 @@ impl BoxState {
         }
         true
     }
+
+    /// Sets the bound that an atom speaks of back to the atom's number. The atom's variable exists,
+    /// and the atom is true in the box. Takes no memory.
+    pub fn relax(&mut self, a: Atom)
+        requires known { a.var.0 < length self.old.lower }
+        requires met { IsTrue (is_true_in self.old a) }
+        ensures after { self.new ≡ relaxed self.old a }
+        ensures within { (limits : Bounds) → IsBoxOf limits self.old → IsNumberWithin limits a → IsBoxOf limits self.new }
+    {
+        if a.at_least {
+            self.lower[a.var.0 as usize] = a.k;
+        } else {
+            self.upper[a.var.0 as usize] = a.k;
+        }
+    }
 }
 
-fn is_false_between(a: Atom, lo: i64, hi: i64) -> bool
+/// Whether no value from `lo` to `hi` makes the atom true.
+pub(crate) fn is_false_between(a: Atom, lo: i64, hi: i64) -> bool
     ensures { result ≡ cond a.at_least (int_lt hi a.k) (int_lt a.k lo) }
 {
     if a.at_least { hi < a.k } else { a.k < lo }

@@ -1,19 +1,18 @@
 //! Building a problem.
-ghost use Rattle.std.specs.Prelude.{◌≡◌, ℕ, ◌+◌, ◌-◌, ◌*◌, ◌^◌, ◌<◌, ◌≤◌, ◌≤ℤ◌, ◌↔◌, [], length, unsigned_abs, IsTrue, IfOk, IfSome, OnOk, OnErr};
-ghost use Rattle.std.specs.List.{list_any};
-ghost use Rattle.cgm_atom.specs.Building.{IsRowAnswer, IsRowSize, IsVarAnswer, empty_instance, fresh_atoms, is_same_atom, with_clause, with_objective, without_repeats};
+ghost use Rattle.std.specs.Prelude.{◌≡◌, not, ℕ, ◌+◌, ◌-◌, ◌*◌, ◌^◌, ◌<◌, ◌≤◌, ◌≤ℤ◌, ◌↔◌, [], length, unsigned_abs, IsTrue, IfOk, IfSome, OnOk, OnErr};
+ghost use Rattle.std.specs.BTreeSet.{contains};
+ghost use Rattle.cgm_atom.specs.Bounds.{lower_of, upper_of};
+ghost use Rattle.cgm_atom.specs.Building.{HasOneMore, IsRowAnswer, IsRowSize, IsVarAnswer, empty_instance, atom_order, first_atoms as first_atoms_after, with_clause, with_objective, without_repeats};
 ghost use Rattle.cgm_atom.specs.Instance.{var_count};
-ghost use Rattle.cgm_atom.specs.Limits.{AreTermsOf, IsBound, IsClauseOf, greatest_size, measure};
+ghost use Rattle.cgm_atom.specs.Limits.{AreTermsOf, IsBound, IsClauseOf, greatest_size, max_bound, max_measure, max_objectives, measure};
 
 use crate::constraints::{Atom, Clause, Row, Var};
+use crate::limits::{MAX_BOUND, MAX_LEAST, MAX_MEASURE};
 use crate::lists::Seq;
 use crate::problems::Problem;
 use std::alloc::{AllocError as OutOfMemory, Global};
+use std::collections::BTreeSet;
 use std::marker::Model;
-
-const BOUND_LIMIT: u64 = 1_000_000_000_000_000;
-
-const MEASURE_LIMIT: u64 = 4_000_000_000_000_000_000;
 
 /// Why a builder refuses a variable or a row.
 #[derive(Clone, Copy, Debug, PartialEq, Eq)]
@@ -59,10 +58,10 @@ impl ProblemBuilder {
         requires room { var_count self.old < 2 ^ 32 - 1 }
         ensures { IsVarAnswer self.old self.new lo hi result }
     {
-        if lo.unsigned_abs() > BOUND_LIMIT {
+        if lo.unsigned_abs() > MAX_BOUND {
             return Err(BuildStop::Bound);
         }
-        if hi.unsigned_abs() > BOUND_LIMIT {
+        if hi.unsigned_abs() > MAX_BOUND {
             return Err(BuildStop::Bound);
         }
         let number = self.problem.vars();
@@ -70,6 +69,22 @@ impl ProblemBuilder {
             Ok(()) => Ok(Var(number)),
             Err(_) => Err(BuildStop::Memory),
         }
+    }
+
+    /// The least and the greatest value of a variable.
+    pub fn bounds(&self, v: Var) -> (i64, i64)
+        requires { v.0 < var_count self.now }
+        ensures { result ≡ (lower_of self.now.bounds v.0, upper_of self.now.bounds v.0) }
+    {
+        self.problem.bounds(v)
+    }
+
+    /// Whether the measure of the terms, the sum of coefficient size times greatest bound size, is at most `most`.
+    pub fn is_within(&self, terms: &[(i64, Var)], most: u64) -> bool
+        requires { AreTermsOf (var_count self.now) terms.now }
+        ensures { IsTrue result ↔ (measure self.now.bounds terms.now ≤ most) }
+    {
+        is_measure_within(&self.problem, terms, most)
     }
 
     /// Adds a clause without its later equal atoms, and answers its number.
@@ -108,7 +123,7 @@ impl ProblemBuilder {
     /// Adds a variable to the objectives, at their end.
     pub fn objective(&mut self, v: Var) -> Result<(), OutOfMemory>
         requires known { v.0 < var_count self.old }
-        requires room { length self.old.objectives < 8 }
+        requires room { length self.old.objectives < max_objectives }
         ensures added { OnOk result (self.new ≡ with_objective self.old v) }
         ensures unchanged { OnErr result (self.new ≡ self.old) }
     {
@@ -124,41 +139,46 @@ impl ProblemBuilder {
     }
 }
 
-// The atoms that equal none before them.
+// The atoms that equal none before them, in n log n comparisons.
 fn first_atoms(alloc: Global, atoms: &[Atom]) -> Result<Vec<Atom>, OutOfMemory>
-    ensures { IfOk result (λ kept. kept.items ≡ fresh_atoms [] atoms.now) }
+    ensures { IfOk result (λ kept. kept.items ≡ first_atoms_after [] atoms.now) }
 {
+    let mut seen = BTreeSet::new(alloc);
     let mut kept = Vec::new(alloc);
     for atom in atoms {
-        if !is_among(*atom, kept.as_slice()) {
-            kept.push(*atom)?;
+        if !insert_new(&mut seen, *atom)? {
+            continue;
         }
+        kept.push(*atom)?;
     }
     Ok(kept)
 }
 
-fn is_among(atom: Atom, seen: &[Atom]) -> bool
-    ensures { result ≡ list_any (is_same_atom atom) seen.now }
+// Adds an atom to those that were seen, and tells whether it equals none of them.
+fn insert_new(seen: &mut BTreeSet<Atom>, atom: Atom) -> Result<bool, OutOfMemory>
+    ensures is_new { IfOk result (λ is_new. is_new ≡ not (contains atom_order seen.old atom)) }
+    ensures seen { OnOk result (HasOneMore seen.old seen.new atom) }
 {
-    seen.iter().any(|a| atom.is_same(*a))
+    let is_new = seen.insert(atom)?;
+    Ok(is_new)
 }
 
 fn is_row_size(p: &Problem, r: &Row) -> bool
     requires { AreTermsOf (var_count p.now) r.now.terms }
     ensures { IsTrue result ↔ IsRowSize p.now.bounds r.now }
 {
-    if r.least.unsigned_abs() > MEASURE_LIMIT + 1 {
+    if r.least.unsigned_abs() > MAX_LEAST {
         return false;
     }
-    is_measure_within(p, r.terms.as_slice())
+    is_measure_within(p, r.terms.as_slice(), MAX_MEASURE)
 }
 
 // Stops at the first term that passes the limit, since the whole measure may not fit.
-fn is_measure_within(p: &Problem, terms: &[(i64, Var)]) -> bool
+fn is_measure_within(p: &Problem, terms: &[(i64, Var)], most: u64) -> bool
     requires { AreTermsOf (var_count p.now) terms.now }
-    ensures { IsTrue result ↔ (measure p.now.bounds terms.now ≤ 4 * 10 ^ 18) }
+    ensures { IsTrue result ↔ (measure p.now.bounds terms.now ≤ most) }
 {
-    let mut room = MEASURE_LIMIT;
+    let mut room = most;
     for (coefficient, v) in terms {
         let share = term_measure(*coefficient, bound_size(p, *v));
         if share > u128::from(room) {
@@ -172,14 +192,14 @@ fn is_measure_within(p: &Problem, terms: &[(i64, Var)]) -> bool
 fn bound_size(p: &Problem, v: Var) -> u64
     requires { v.0 < var_count p.now }
     ensures size { result ≡ greatest_size p.now.bounds v.0 }
-    ensures limit { result ≤ 10 ^ 15 }
+    ensures limit { result ≤ max_bound }
 {
     let (lo, hi) = p.bounds(v);
     lo.unsigned_abs().max(hi.unsigned_abs())
 }
 
 fn term_measure(coefficient: i64, size: u64) -> u128
-    requires { size ≤ 10 ^ 15 }
+    requires { size ≤ max_bound }
     ensures { result ≡ unsigned_abs coefficient * size }
 {
     u128::from(coefficient.unsigned_abs()) * u128::from(size)

@@ -4,8 +4,9 @@ ghost use Rattle.std.specs.List.{position_from};
 ghost use Rattle.cgm_atom.specs.Atoms.{activity, atom_true, clause_true, guard_true, row_true};
 ghost use Rattle.cgm_atom.specs.Bounds.{IsWithin, value_of};
 ghost use Rattle.cgm_atom.specs.Instance.{IsSolution, first_violation, outside_from, var_count};
-ghost use Rattle.cgm_atom.specs.Limits.{AreTermsOf, IsClauseOf, IsRowOf, greatest_size, measure};
+ghost use Rattle.cgm_atom.specs.Limits.{AreTermsOf, IsClauseOf, IsRowOf, greatest_size, max_measure, measure};
 
+use crate::arithmetic::{product, sum_of};
 use crate::constraints::{Atom, Clause, Row, Var};
 use crate::problems::Problem;
 
@@ -51,7 +52,7 @@ fn first_outside(p: &Problem, values: &[i64]) -> Option<u32>
     ensures first { result ≡ outside_from p.now.bounds 0 values.now }
     ensures none { IsNone result ↔ IsWithin p.now.bounds values.now }
 {
-    let _valid = p.objectives();
+    p.recall_well_formed();
     for (x, value) in values.iter().enumerate() {
         let (lo, hi) = p.bounds(Var(x as u32));
         if !is_between(lo, *value, hi) {
@@ -71,7 +72,7 @@ fn first_false_clause(p: &Problem, values: &[i64]) -> Option<u32>
     requires { length values.now ≡ var_count p.now }
     ensures { result ≡ position_from (λ c. not (clause_true values.now c)) 0 p.now.clauses }
 {
-    let _valid = p.objectives();
+    p.recall_well_formed();
     for (n, clause) in p.clause_list().iter().enumerate() {
         if !is_clause_true(clause, values) {
             return Some(n as u32);
@@ -85,7 +86,7 @@ fn first_unmet_row(p: &Problem, values: &[i64]) -> Option<u32>
     requires within { IsWithin p.now.bounds values.now }
     ensures { result ≡ position_from (λ r. not (row_true values.now r)) 0 p.now.rows }
 {
-    let _valid = p.objectives();
+    p.recall_well_formed();
     for (n, row) in p.row_list().iter().enumerate() {
         if !is_row_true(p, row, values) {
             return Some(n as u32);
@@ -143,21 +144,21 @@ fn is_guard_true(guard: Option<Atom>, values: &[i64]) -> bool
 // By the row's measure each sum on the way fits.
 fn activity_of(p: &Problem, terms: &[(i64, Var)], values: &[i64]) -> i64
     requires known { AreTermsOf (var_count p.now) terms.now }
-    requires limit { measure p.now.bounds terms.now ≤ 4 * 10 ^ 18 }
+    requires limit { measure p.now.bounds terms.now ≤ max_measure }
     requires count { length values.now ≡ var_count p.now }
     requires within { IsWithin p.now.bounds values.now }
     ensures { result ≡ activity values.now terms.now }
 {
     let mut sum = 0;
     for (coefficient, v) in terms {
-        sum = total(sum, term_value(p, *coefficient, *v, values));
+        sum = sum_of(sum, term_value(p, *coefficient, *v, values));
     }
     sum
 }
 
 fn term_value(p: &Problem, coefficient: i64, v: Var, values: &[i64]) -> i64
     requires known { v.0 < var_count p.now }
-    requires limit { unsigned_abs coefficient * greatest_size p.now.bounds v.0 ≤ 4 * 10 ^ 18 }
+    requires limit { unsigned_abs coefficient * greatest_size p.now.bounds v.0 ≤ max_measure }
     requires count { length values.now ≡ var_count p.now }
     requires within { IsWithin p.now.bounds values.now }
     ensures value { result ≡ coefficient *ℤ value_of values.now v.0 }
@@ -171,19 +172,4 @@ fn value_at(values: &[i64], v: Var) -> i64
     ensures { result ≡ value_of values.now v.0 }
 {
     values[v.0 as usize]
-}
-
-fn product(x: i64, y: i64) -> i64
-    requires { unsigned_abs x * unsigned_abs y ≤ 4 * 10 ^ 18 }
-    ensures value { result ≡ x *ℤ y }
-    ensures size { unsigned_abs result ≡ unsigned_abs x * unsigned_abs y }
-{
-    x * y
-}
-
-fn total(x: i64, y: i64) -> i64
-    requires { unsigned_abs x + unsigned_abs y ≤ 4 * 10 ^ 18 }
-    ensures { result ≡ x +ℤ y }
-{
-    x + y
 }

@@ -1,28 +1,19 @@
 //! Variables, atoms, clauses and rows.
-ghost use Rattle.std.specs.Prelude.{◌≡◌, ◌+◌, ◌<◌, ◌↔◌, IsTrue, IfOk, cond};
-ghost use Rattle.cgm_atom.specs.Building.{is_same_atom};
+ghost use Rattle.std.specs.Prelude.{◌≡◌, IfOk};
 
 use crate::lists::Seq;
 use std::alloc::{AllocError as OutOfMemory, Global};
 
 /// A variable, by its number from 0.
-#[derive(Clone, Copy, Debug, PartialEq, Eq)]
+#[derive(Clone, Copy, Debug, PartialEq, Eq, PartialOrd, Ord)]
 pub struct Var(pub u32);
 
 /// A bound on one variable: `var >= k` where `at_least` is set, else `var <= k`.
-#[derive(Clone, Copy, Debug, PartialEq, Eq)]
+#[derive(Clone, Copy, Debug, PartialEq, Eq, PartialOrd, Ord)]
 pub struct Atom {
     pub var: Var,
     pub at_least: bool,
     pub k: i64,
-}
-
-impl Atom {
-    pub(crate) fn is_same(self, other: Atom) -> bool
-        ensures { result ≡ is_same_atom self other }
-    {
-        self.var.0 == other.var.0 && self.at_least == other.at_least && self.k == other.k
-    }
 }
 
 /// The claim that one of its atoms is true. Without atoms it is false.

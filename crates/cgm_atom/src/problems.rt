@@ -3,7 +3,7 @@ ghost use Rattle.std.specs.Prelude.{◌≡◌, ℕ, ◌+◌, ◌-◌, ◌^◌, �
 ghost use Rattle.cgm_atom.specs.Bounds.{lower_of, upper_of};
 ghost use Rattle.cgm_atom.specs.Building.{IsRowSize, empty_instance, with_clause, with_objective, with_row, with_var};
 ghost use Rattle.cgm_atom.specs.Instance.{var_count};
-ghost use Rattle.cgm_atom.specs.Limits.{AreTermsOf, IsBound, IsClauseOf, IsRowOf, IsWellFormed};
+ghost use Rattle.cgm_atom.specs.Limits.{AreTermsOf, IsBound, IsClauseOf, IsRowOf, IsWellFormed, max_objectives};
 
 use crate::constraints::{Clause, Row, Var};
 use std::alloc::{AllocError as OutOfMemory, Global};
@@ -26,7 +26,7 @@ impl Model for Problem {
 
     ghost Value = { Instance };
 
-    ghost use Rattle.cgm_atom.specs.Parts.{instance};
+    ghost use Rattle.cgm_atom.specs.Fields.{instance};
 
     ghost view = { instance };
 
@@ -92,6 +92,13 @@ impl Problem {
         ensures valid { IsWellFormed self.now }
     {
         self.objectives.as_slice()
+    }
+
+    /// Does nothing: a proof learns here that the problem is well formed.
+    pub fn recall_well_formed(&self)
+        ensures { IsWellFormed self.now }
+    {
+        let _ = &self.lower;
     }
 
     /// An equal problem.
@@ -187,7 +194,7 @@ impl Problem {
 
     pub(crate) fn push_objective(&mut self, v: Var) -> Result<(), OutOfMemory>
         requires known { v.0 < var_count self.old }
-        requires room { length self.old.objectives < 8 }
+        requires room { length self.old.objectives < max_objectives }
         ensures ok { OnOk result (self.new ≡ with_objective self.old v) }
         ensures err { OnErr result (self.new ≡ self.old) }
     {

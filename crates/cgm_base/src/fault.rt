@@ -1,4 +1,5 @@
-use std::fmt;
+ghost use Rattle.std.specs.Prelude.{◌≡◌};
+ghost use Rattle.cgm_base.specs.Words.{kind_word};
 
 /// What is wrong with a line of a text.
 #[derive(Clone, Copy, Debug, PartialEq, Eq)]
@@ -39,14 +40,12 @@ pub enum BadKind {
     NotYet,
 }
 
-impl fmt::Display for BadKind {
-    ghost use Rattle.std.specs.Prelude.{Some};
-    ghost use Rattle.cgm_base.specs.Words.{kind_word};
-
-    ghost output = { λ k. Some (kind_word k) };
-
-    fn fmt<W: fmt::Write>(&self, f: &mut fmt::Formatter<W>) -> fmt::Result {
-        f.write_str(match self {
+impl BadKind {
+    /// The kind's word in a fault line.
+    pub fn word(self) -> &'static str
+        ensures { result.now ≡ kind_word self }
+    {
+        match self {
             BadKind::BadByte => "bad-byte",
             BadKind::BadNumber => "bad-number",
             BadKind::Header => "header",
@@ -64,6 +63,6 @@ impl fmt::Display for BadKind {
             BadKind::AssumptionRefined => "assumption-refined",
             BadKind::Cycle => "cycle",
             BadKind::NotYet => "not-yet",
-        })
+        }
     }
 }

@@ -3,6 +3,7 @@
 
 mod fault;
 mod limit;
+pub mod limits;
 mod status;
 
 pub use fault::BadKind;

@@ -1,4 +1,7 @@
-use std::fmt;
+ghost use Rattle.std.specs.Prelude.{◌≡◌};
+ghost use Rattle.cgm_base.specs.Words.{limit_word, limit_number};
+
+use crate::limits;
 
 /// A quantity that is counted and limited.
 #[derive(Clone, Copy, Debug, PartialEq, Eq)]
@@ -31,14 +34,12 @@ pub enum Which {
     Trial,
 }
 
-impl fmt::Display for Which {
-    ghost use Rattle.std.specs.Prelude.{Some};
-    ghost use Rattle.cgm_base.specs.Words.{limit_word};
-
-    ghost output = { λ w. Some (limit_word w) };
-
-    fn fmt<W: fmt::Write>(&self, f: &mut fmt::Formatter<W>) -> fmt::Result {
-        f.write_str(match self {
+impl Which {
+    /// The quantity's word in a fault line.
+    pub fn word(self) -> &'static str
+        ensures { result.now ≡ limit_word self }
+    {
+        match self {
             Which::TextBytes => "text-bytes",
             Which::NameBytes => "name-bytes",
             Which::Statements => "statements",
@@ -52,7 +53,28 @@ impl fmt::Display for Which {
             Which::VariableBound => "variable-bound",
             Which::Row => "row",
             Which::Trial => "trial",
-        })
+        }
+    }
+
+    /// The limit itself.
+    pub fn number(self) -> u64
+        ensures { result ≡ limit_number self }
+    {
+        match self {
+            Which::TextBytes => limits::TEXT_BYTES,
+            Which::NameBytes => limits::NAME_BYTES,
+            Which::Statements => limits::STATEMENTS,
+            Which::Elements => limits::ELEMENTS,
+            Which::Refinements => limits::REFINEMENTS,
+            Which::Sources => limits::SOURCES,
+            Which::FormulaNodes => limits::FORMULA_NODES,
+            Which::FormulaDepth => limits::FORMULA_DEPTH,
+            Which::Objectives => limits::OBJECTIVES,
+            Which::Coefficient => limits::COEFFICIENT,
+            Which::VariableBound => limits::VARIABLE_BOUND,
+            Which::Row => limits::ROW,
+            Which::Trial => limits::TRIAL,
+        }
     }
 }
 

@@ -1,11 +1,10 @@
 -- What a list of entries tells of a problem: its least solution, that there is none, nothing yet, or its first fault.
-use Rattle.std.specs.Prelude.{◌≡◌, Bool, false, ℕ, zero, suc, List, take, slice_get, Some, None, IsSomeAnd}
+use Rattle.std.specs.Prelude.{◌≡◌, ℕ, zero, suc, List, take, slice_get, Some, None, IsSomeAnd, IsTrue}
 use Rattle.cgm_atom.specs.declared.entries.BadStep.{BadStep}
 use Rattle.cgm_atom.specs.declared.entries.Entry.{Entry}
-use Rattle.cgm_atom.specs.declared.entries.Entry.TheVariants.{Best, Lemma}
 use Rattle.cgm_atom.specs.Acceptance.{IsAccepted, IsClosed, first_fault}
 use Rattle.cgm_atom.specs.Instance.{HasNoSolution, Instance, IsLeast, IsSolution}
-use Rattle.cgm_atom.specs.LogState.{is_empty_clause, last_best, state_of}
+use Rattle.cgm_atom.specs.LogState.{LogState, last_best, state_of}
 use Rattle.cgm_check.specs.declared.Verdict.{Verdict}
 use Rattle.cgm_check.specs.declared.Verdict.TheVariants.{Least, NoSolution, Open, Refused}
 
@@ -29,14 +28,9 @@ IsVerdictOf p entries (Open best) =
     IsAccepted p entries × ¬ IsClosed entries × (last_best (state_of entries) ≡ best)
 IsVerdictOf p entries (Refused step why) = IsRefusedAt p entries step why
 
--- what the end of accepted entries tells
-abbrev pub IsEndOf : List Entry → Verdict → Type 0
-IsEndOf entries (Least values) = IsClosed entries × (last_best (state_of entries) ≡ Some values)
-IsEndOf entries NoSolution = IsClosed entries × (last_best (state_of entries) ≡ None)
-IsEndOf entries (Open best) = ¬ IsClosed entries × (last_best (state_of entries) ≡ best)
-IsEndOf entries (Refused step why) = ⊥
-
--- a lemma without atoms
-abbrev pub is_closing : Entry → Bool
-is_closing (Best by values) = false
-is_closing (Lemma by clause hints bound) = is_empty_clause clause
+-- what the state of accepted entries tells
+abbrev pub IsEndOf : LogState → Verdict → Type 0
+IsEndOf s (Least values) = IsTrue s.closed × (last_best s ≡ Some values)
+IsEndOf s NoSolution = IsTrue s.closed × (last_best s ≡ None)
+IsEndOf s (Open best) = ¬ IsTrue s.closed × (last_best s ≡ best)
+IsEndOf s (Refused step why) = ⊥

@@ -7,7 +7,7 @@ ghost use Rattle.cgm_check.specs.Verdicts.{IsVerdictOf};
 mod ending;
 
 use cgm_atom::{BadStep, BoxState, Entry, OutOfMemory, Problem, Seq};
-use cgm_step::{LogIndex, accepts_next};
+use cgm_step::{IndexedLog, LogIndex, accepts_next};
 use ending::conclude;
 use std::alloc::Global;
 
@@ -28,11 +28,12 @@ pub enum Verdict {
 pub fn check(alloc: Global, p: &Problem, entries: &[Entry]) -> Result<Verdict, OutOfMemory>
     ensures { IfOk result (λ verdict. IsVerdictOf p.now entries.now verdict) }
 {
-    let _valid = p.objectives();
+    p.recall_well_formed();
     let mut index = LogIndex::new(alloc);
     let mut work = BoxState::of(alloc, p)?;
     for (i, entry) in entries.iter().enumerate() {
-        match accepts_next(p, &entries[..i], &index, entry, &mut work) {
+        let so_far = IndexedLog::of(&entries[..i], &index);
+        match accepts_next(p, &so_far, entry, &mut work) {
             Ok(()) => index.add(entry)?,
             Err(why) => {
                 return Ok(Verdict::Refused {
@@ -42,5 +43,5 @@ pub fn check(alloc: Global, p: &Problem, entries: &[Entry]) -> Result<Verdict, O
             }
         }
     }
-    conclude(alloc, entries)
+    conclude(alloc, &IndexedLog::of(entries, &index))
 }

@@ -1,4 +1,6 @@
 pub mod CommandLine
+pub mod Commands
+pub mod Outcome
+pub mod Placed
 pub mod Report
 pub mod Search
-pub mod Outcome

@@ -1,20 +1,22 @@
 -- The outcome of the program for its words: what each status says of the files and of what was printed.
-use Rattle.std.specs.Prelude.{◌≡◌, ℕ, ◌<◌, ◌≤◌, ◌⊎◌, List, length, Option, None, Some}
+use Rattle.std.specs.Prelude.{◌≡◌, ℕ, ◌<◌, ◌≤◌, ◌⊎◌, List, [], length, Option, None, Some}
 use Rattle.cgm_base.specs.declared.fault.BadKind.{BadKind}
 use Rattle.cgm_base.specs.declared.limit.Which.TheVariants as limits
 use Rattle.cgm_base.specs.declared.limit.Limit.{Limit}
 use Rattle.cgm_base.specs.declared.status.Status.{Status}
-use Rattle.cgm_base.specs.declared.status.Status.TheVariants.{Done, Unrealizable, Usage, Text, Earlier, Limit as LimitPassed, Certificate, Open, Read, Write, Memory}
+use Rattle.cgm_base.specs.declared.status.Status.TheVariants.{Done, Unrealizable, Usage, Text, Limit as LimitPassed, Read, Write, Memory}
 use Rattle.cgm_base.specs.Words.{limit_number}
 use Rattle.cgm_shelf.specs.Faults.{Rose}
 use Rattle.cgm_shelf.specs.Shelf.{Files, WhereTold, MissingOrRose}
 use Rattle.cgm_shelf.specs.Sink.{Adds, AddsPart}
-use Rattle.cgm_model.specs.declared.assignment.Assignment.{Assignment}
+use Rattle.cgm_formula.specs.declared.assignment.Assignment.{Assignment}
 use Rattle.cgm_model.specs.Assignment.{Fits}
-use Rattle.cgm_model.specs.Lists.{Lists}
+use Rattle.cgm_model.specs.declared.lists.Lists.{Lists}
 use Rattle.cgm_model.specs.Realization.{IsRealization}
+use Rattle.cgm_text.specs.declared.fault.LineFault.TheVariants as line_faults
+use Rattle.cgm_text.specs.Canonical.{canonical_text}
 use Rattle.cgm_text.specs.Text.{IsTextOf, HasFault}
-use Rattle.cgm_cli.specs.CommandLine.{Command, solve, command_line}
+use Rattle.cgm_cli.specs.CommandLine.{Command, solve, show, command_line}
 use Rattle.cgm_cli.specs.Report.{realized, unrealizable, usage_fault, text_fault, limit_fault, read_fault, memory_fault}
 
 -- what a call does to the sink: its bytes, where it tells them, and its count of faults, before and after
@@ -60,49 +62,56 @@ abbrev pub TellsOrLacksMemory : Printing → List ℕ → Status → Status → 
 TellsOrLacksMemory sink fault_line status answer =
     ((answer ≡ status) × IsTold sink fault_line) ⊎ ((answer ≡ Memory) × IsTold sink memory_fault)
 
--- a realization such that no other is better; without objectives every realization is
-pub record IsLeast (m : Lists) (a : Assignment) : Type 0 where
+-- the assignment fits the model and is a realization of it; there are no sums
+pub record Realizes (m : Lists) (a : Assignment) : Type 0 where
   pub fits : Fits m a
-  pub realization : IsRealization m a
+  pub realization : IsRealization m a []
 
 abbrev pub HasNoRealization : Lists → Type 0
-HasNoRealization m = (a : Assignment) → Fits m a → ¬ IsRealization m a
+HasNoRealization m = (a : Assignment) → Fits m a → ¬ IsRealization m a []
 
--- the report of an answer for the model: a least realization, or that there is none
+-- the report of an answer for the model: a realization, or that there is none
 abbrev pub IsReport : Lists → List ℕ → Type 0
 IsReport m report =
-    ((a : Assignment) × (IsLeast m a × (report ≡ realized m a))) ⊎ (HasNoRealization m × (report ≡ unrealizable))
+    ((a : Assignment) × (Realizes m a × (report ≡ realized m a))) ⊎ (HasNoRealization m × (report ≡ unrealizable))
 
--- ---- the outcome for a model
+-- ---- the outcome of a command for a model
 
-abbrev pub HasModelOutcome : Lists → Printing → Status → Type 0
-HasModelOutcome m sink Done = (a : Assignment) × (IsLeast m a × IsPrinted sink (realized m a))
-HasModelOutcome m sink Unrealizable = HasNoRealization m × IsPrinted sink unrealizable
-HasModelOutcome m sink Write = (report : List ℕ) × (IsReport m report × IsCutOff sink report)
-HasModelOutcome m sink Memory = IsTold sink memory_fault
-HasModelOutcome m sink Usage = ⊥
-HasModelOutcome m sink Text = ⊥
-HasModelOutcome m sink Earlier = ⊥
-HasModelOutcome m sink LimitPassed = ⊥
-HasModelOutcome m sink Certificate = ⊥
-HasModelOutcome m sink Open = ⊥
-HasModelOutcome m sink Read = ⊥
+-- `solve`: a realization of the model, or that there is none
+abbrev pub HasSolveOutcome : Lists → Printing → Status → Type 0
+HasSolveOutcome m sink Done = (a : Assignment) × (Realizes m a × IsPrinted sink (realized m a))
+HasSolveOutcome m sink Unrealizable = HasNoRealization m × IsPrinted sink unrealizable
+HasSolveOutcome m sink Write = (report : List ℕ) × (IsReport m report × IsCutOff sink report)
+HasSolveOutcome m sink Memory = IsTold sink memory_fault
+HasSolveOutcome m sink status = ⊥
 
--- ---- the outcome for the bytes of a file
+-- `show`: the canonical text of the model
+abbrev pub HasShowOutcome : Lists → Printing → Status → Type 0
+HasShowOutcome m sink Done = IsPrinted sink (canonical_text m)
+HasShowOutcome m sink Write = IsCutOff sink (canonical_text m)
+HasShowOutcome m sink Memory = IsTold sink memory_fault
+HasShowOutcome m sink status = ⊥
 
-abbrev pub HasTextOutcome : List ℕ → Printing → Status → Type 0
-HasTextOutcome text sink Done = (m : Lists) × (IsTextOf text m × HasModelOutcome m sink Done)
-HasTextOutcome text sink Unrealizable = (m : Lists) × (IsTextOf text m × HasModelOutcome m sink Unrealizable)
-HasTextOutcome text sink Write = (m : Lists) × (IsTextOf text m × HasModelOutcome m sink Write)
-HasTextOutcome text sink Text =
-    (number : ℕ) × ((kind : BadKind) × (HasFault text number kind × IsTold sink (text_fault number kind)))
-HasTextOutcome text sink Memory = IsTold sink memory_fault
-HasTextOutcome text sink Usage = ⊥
-HasTextOutcome text sink Earlier = ⊥
-HasTextOutcome text sink LimitPassed = ⊥
-HasTextOutcome text sink Certificate = ⊥
-HasTextOutcome text sink Open = ⊥
-HasTextOutcome text sink Read = ⊥
+-- ---- the outcome for bytes that give no model; a text has a model or one first fault, never both, as laws of cgm_text say
+
+-- the text's first fault is of this kind, on this line, which is told
+pub record IsTextFault (text : List ℕ) (sink : Printing) : Type 0 where
+  pub line : ℕ
+  pub kind : BadKind
+  pub fault : HasFault text line (line_faults.Bad kind)
+  pub told : IsTold sink (text_fault line kind)
+
+-- the text's first fault is this limit, on its line, which is told
+pub record IsLimitFault (text : List ℕ) (sink : Printing) : Type 0 where
+  pub limit : Limit
+  pub fault : HasFault text limit.line (line_faults.Limit limit.which)
+  pub told : IsTold sink (limit_fault limit)
+
+abbrev pub HasFaultOutcome : List ℕ → Printing → Status → Type 0
+HasFaultOutcome text sink Text = IsTextFault text sink
+HasFaultOutcome text sink LimitPassed = IsLimitFault text sink
+HasFaultOutcome text sink Memory = IsTold sink memory_fault
+HasFaultOutcome text sink status = ⊥
 
 -- ---- the outcome for a file name
 
@@ -118,30 +127,39 @@ pub record IsModelFile (shelf : Shelving) (name text : List ℕ) : Type 0 where
   pub told : WhereTold shelf.files name (λ file. text ≡ file)
   pub short : length text ≤ most_bytes
 
--- the bytes of the named file have this outcome
-abbrev pub HasReadOutcome : List ℕ → Shelving → Printing → Status → Type 0
-HasReadOutcome name shelf sink status = (text : List ℕ) × (IsModelFile shelf name text × HasTextOutcome text sink status)
+-- the bytes of the named file are within the limit, and are a text of this model
+abbrev pub IsModelOf : Shelving → List ℕ → Lists → Type 0
+IsModelOf shelf name m = (text : List ℕ) × (IsModelFile shelf name text × IsTextOf text m)
 
-abbrev pub HasSolveOutcome : List ℕ → Shelving → Printing → Status → Type 0
-HasSolveOutcome name shelf sink Read =
-    MissingOrRose shelf.files name shelf.reads_before shelf.reads_after × IsTold sink read_fault
-HasSolveOutcome name shelf sink LimitPassed =
+-- the bytes of the named file are within the limit, and give no model
+abbrev pub HasFaultyFile : List ℕ → Shelving → Printing → Status → Type 0
+HasFaultyFile name shelf sink status = (text : List ℕ) × (IsModelFile shelf name text × HasFaultOutcome text sink status)
+
+-- the bytes of the named file pass the limit, which is told
+abbrev pub HasLongFile : List ℕ → Shelving → Printing → Type 0
+HasLongFile name shelf sink =
     WhereTold shelf.files name (λ file. most_bytes < length file) × IsTold sink (limit_fault text_limit)
-HasSolveOutcome name shelf sink Memory = IsTold sink memory_fault
-HasSolveOutcome name shelf sink Done = HasReadOutcome name shelf sink Done
-HasSolveOutcome name shelf sink Unrealizable = HasReadOutcome name shelf sink Unrealizable
-HasSolveOutcome name shelf sink Text = HasReadOutcome name shelf sink Text
-HasSolveOutcome name shelf sink Write = HasReadOutcome name shelf sink Write
-HasSolveOutcome name shelf sink Usage = ⊥
-HasSolveOutcome name shelf sink Earlier = ⊥
-HasSolveOutcome name shelf sink Certificate = ⊥
-HasSolveOutcome name shelf sink Open = ⊥
+
+-- why there is no model in the named file
+abbrev pub HasNoModel : List ℕ → Shelving → Printing → Status → Type 0
+HasNoModel name shelf sink Text = HasFaultyFile name shelf sink Text
+HasNoModel name shelf sink LimitPassed = HasLongFile name shelf sink ⊎ HasFaultyFile name shelf sink LimitPassed
+HasNoModel name shelf sink Read =
+    MissingOrRose shelf.files name shelf.reads_before shelf.reads_after × IsTold sink read_fault
+HasNoModel name shelf sink Memory = IsTold sink memory_fault
+HasNoModel name shelf sink status = ⊥
+
+-- the outcome of a command on the named file, where `HasModelOutcome` is its outcome for a model
+abbrev pub HasFileOutcome : (Lists → Printing → Status → Type 0) → List ℕ → Shelving → Printing → Status → Type 0
+HasFileOutcome HasModelOutcome name shelf sink status =
+    HasNoModel name shelf sink status ⊎ ((m : Lists) × (IsModelOf shelf name m × HasModelOutcome m sink status))
 
 -- ---- the outcome for the words
 
 abbrev pub HasCommandOutcome : Option Command → Shelving → Printing → Status → Type 0
 HasCommandOutcome None shelf sink status = (status ≡ Usage) × IsTold sink usage_fault
-HasCommandOutcome (Some (solve name)) shelf sink status = HasSolveOutcome name shelf sink status
+HasCommandOutcome (Some (solve name)) shelf sink status = HasFileOutcome HasSolveOutcome name shelf sink status
+HasCommandOutcome (Some (show name)) shelf sink status = HasFileOutcome HasShowOutcome name shelf sink status
 
 abbrev pub HasOutcome : List (List ℕ) → Shelving → Printing → Status → Type 0
 HasOutcome words shelf sink status = HasCommandOutcome (command_line words) shelf sink status

@@ -1,15 +1,16 @@
 -- The lines that the program prints: reports of answers, and one line for each fault.
-use Rattle.std.specs.Prelude.{ℕ, Bool, true, false, List, [], ◌∷◌, ◌++◌, codes}
-use Rattle.std.specs.Fmt.{decimal}
+use Rattle.std.specs.Prelude.{ℕ, Bool, true, false, List, [], ◌∷◌, ◌++◌, codes, ℤ}
+use Rattle.std.specs.Fmt.{decimal, signed_decimal}
 use Rattle.cgm_base.specs.declared.fault.BadKind.{BadKind}
 use Rattle.cgm_base.specs.declared.limit.Limit.{Limit}
-use Rattle.cgm_base.specs.Words.{kind_word, limit_word}
+use Rattle.cgm_base.specs.Words.{kind_word, limit_word, limit_number}
 use Rattle.cgm_model.specs.declared.lists.Element.{Element}
 use Rattle.cgm_model.specs.declared.lists.ElementKind.{ElementKind}
 use Rattle.cgm_model.specs.declared.lists.ElementKind.TheVariants as kinds
 use Rattle.cgm_model.specs.declared.lists.Refinement.{Refinement}
-use Rattle.cgm_model.specs.declared.assignment.Assignment.{Assignment}
-use Rattle.cgm_model.specs.Lists.{Lists}
+use Rattle.cgm_formula.specs.declared.assignment.Assignment.{Assignment}
+use Rattle.cgm_model.specs.declared.lists.Lists.{Lists}
+use Rattle.cgm_model.specs.declared.lists.Variable.{Variable}
 
 -- a line of text with its line feed
 abbrev pub line : List ℕ → List ℕ
@@ -40,9 +41,20 @@ refinement_lines [] truths = []
 refinement_lines (r ∷ refinements) [] = []
 refinement_lines (r ∷ refinements) (truth ∷ truths) = found_line (codes "refine") r.name truth ++ refinement_lines refinements truths
 
+-- the line of a variable with its number
+abbrev pub variable_line : List ℕ → ℤ → List ℕ
+variable_line name number = line (codes "var " ++ name ++ codes " " ++ signed_decimal number)
+
+-- one line for each variable, with its number
+abbrev pub variable_lines : List Variable → List ℤ → List ℕ
+variable_lines [] numbers = []
+variable_lines (v ∷ vars) [] = []
+variable_lines (v ∷ vars) (number ∷ numbers) = variable_line v.name number ++ variable_lines vars numbers
+
 -- the found lines of an assignment
 abbrev pub found_lines : Lists → Assignment → List ℕ
-found_lines m a = element_lines m.elements a.elements ++ refinement_lines m.refinements a.refinements
+found_lines m a =
+    element_lines m.elements a.elements ++ refinement_lines m.refinements a.refinements ++ variable_lines m.vars a.vars
 
 abbrev pub realized : Lists → Assignment → List ℕ
 realized m a = line (codes "realized") ++ found_lines m a
@@ -56,9 +68,10 @@ usage_fault = line (codes "fault usage")
 abbrev pub text_fault : ℕ → BadKind → List ℕ
 text_fault number kind = line (codes "fault text " ++ decimal number ++ codes " " ++ kind_word kind)
 
+-- the quantity, its limit, and the line at which it is passed
 abbrev pub limit_fault : Limit → List ℕ
 limit_fault limit =
-    line (codes "fault limit " ++ limit_word limit.which ++ codes " " ++ decimal limit.number ++ codes " " ++ decimal limit.line)
+    line (codes "fault limit " ++ limit_word limit.which ++ codes " " ++ decimal (limit_number limit.which) ++ codes " " ++ decimal limit.line)
 
 abbrev pub read_fault : List ℕ
 read_fault = line (codes "fault read")

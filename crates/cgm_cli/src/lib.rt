@@ -2,9 +2,16 @@
 #![tactic(auto)]
 
 mod command;
+mod file;
+mod numbers;
 mod print;
+mod program;
 mod report;
+mod run;
 mod search;
+mod show;
 mod solve;
 
-pub use solve::run_quiet;
+pub use print::tell_memory;
+pub use program::{exit_code, words_after_name};
+pub use run::run_quiet;

@@ -2,6 +2,7 @@ ghost use Rattle.std.specs.Prelude.{◌≡◌, IfOk};
 ghost use Rattle.std.specs.String.{string_bytes};
 ghost use Rattle.cgm_base.specs.declared.status.Status.TheVariants as statuses;
 ghost use Rattle.cgm_cli.specs.Outcome.{printing, IsTold, PrintsReport, TellsOrLacksMemory};
+ghost use Rattle.cgm_cli.specs.Placed.{placed_line, placed_status};
 ghost use Rattle.cgm_cli.specs.Report.{text_fault, limit_fault, memory_fault};
 
 use cgm_base::{BadKind, Limit, Status};
@@ -29,8 +30,8 @@ pub(crate) fn print_report<O: Sink>(out: &mut O, report: &[u8], status: Status) 
     }
 }
 
-/// Tells that there is no memory.
-pub(crate) fn tell_memory<O: Sink>(out: &mut O) -> Status
+/// Prints the fault line of want of memory; where the sink fails, a front of it. Answers `Memory`.
+pub fn tell_memory<O: Sink>(out: &mut O) -> Status
     ensures status { result ≡ statuses.Memory }
     ensures told { IsTold
         (printing (O.written out.old) (O.written out.new) (O.faults out.old) (O.faults out.new))
@@ -40,53 +41,61 @@ pub(crate) fn tell_memory<O: Sink>(out: &mut O) -> Status
     Status::Memory
 }
 
+/// A fault whose line tells what is faulty and where.
+#[derive(Clone, Copy)]
+pub(crate) enum PlacedFault {
+    /// The first faulty line of a model text, from 1, and what is wrong with it.
+    Text { line: u32, kind: BadKind },
+    /// A limit that was passed.
+    Limit(Limit),
+}
+
+impl PlacedFault {
+    fn status(self) -> Status
+        ensures { result ≡ placed_status self }
+    {
+        match self {
+            PlacedFault::Text { .. } => Status::Text,
+            PlacedFault::Limit(_) => Status::Limit,
+        }
+    }
+
+    fn line(self, alloc: Global) -> Result<String, AllocError>
+        ensures { IfOk result (λ line. string_bytes line ≡ placed_line self) }
+    {
+        match self {
+            PlacedFault::Text { line, kind } => text_line(alloc, line, kind),
+            PlacedFault::Limit(limit) => limit_line(alloc, limit),
+        }
+    }
+}
+
 fn text_line(alloc: Global, line: u32, kind: BadKind) -> Result<String, AllocError>
     ensures { IfOk result (λ told. string_bytes told ≡ text_fault line kind) }
 {
-    format!(in alloc; "fault text {line} {kind}\n")
+    let word = kind.word();
+    format!(in alloc; "fault text {line} {word}\n")
 }
 
 fn limit_line(alloc: Global, limit: Limit) -> Result<String, AllocError>
     ensures { IfOk result (λ told. string_bytes told ≡ limit_fault limit) }
 {
-    let Limit {
-        which,
-        number,
-        line,
-    } = limit;
-    format!(in alloc; "fault limit {which} {number} {line}\n")
+    let Limit { which, line, .. } = limit;
+    let word = which.word();
+    let number = which.number();
+    format!(in alloc; "fault limit {word} {number} {line}\n")
 }
 
-/// Tells the first faulty line of a model text.
-pub(crate) fn tell_text_fault<O: Sink>(
-    alloc: Global,
-    out: &mut O,
-    line: u32,
-    kind: BadKind,
-) -> Status
+/// Tells a fault and answers its status, or tells that there is no memory for its line.
+pub(crate) fn tell_fault<O: Sink>(alloc: Global, out: &mut O, fault: PlacedFault) -> Status
     ensures { TellsOrLacksMemory
         (printing (O.written out.old) (O.written out.new) (O.faults out.old) (O.faults out.new))
-        (text_fault line kind) statuses.Text result }
+        (placed_line fault) (placed_status fault) result }
 {
-    match text_line(alloc, line, kind) {
-        Ok(told) => {
-            tell(out, told.as_bytes());
-            Status::Text
-        }
-        Err(_) => tell_memory(out),
-    }
-}
-
-/// Tells a limit that was passed.
-pub(crate) fn tell_limit<O: Sink>(alloc: Global, out: &mut O, limit: Limit) -> Status
-    ensures { TellsOrLacksMemory
-        (printing (O.written out.old) (O.written out.new) (O.faults out.old) (O.faults out.new))
-        (limit_fault limit) statuses.Limit result }
-{
-    match limit_line(alloc, limit) {
-        Ok(told) => {
-            tell(out, told.as_bytes());
-            Status::Limit
+    match fault.line(alloc) {
+        Ok(line) => {
+            tell(out, line.as_bytes());
+            fault.status()
         }
         Err(_) => tell_memory(out),
     }

@@ -1,9 +1,9 @@
 ghost use Rattle.std.specs.Prelude.{◌≡◌, ◌++◌, length, OnOk, IfOk};
 ghost use Rattle.cgm_model.specs.Assignment.{Fits};
 ghost use Rattle.cgm_model.specs.Model.{lists_of};
-ghost use Rattle.cgm_cli.specs.Report.{element_word, truth_word, found_line, element_lines, refinement_lines, realized};
+ghost use Rattle.cgm_cli.specs.Report.{element_word, truth_word, found_line, element_lines, refinement_lines, variable_line, variable_lines, realized};
 
-use cgm_model::{Assignment, Element, ElementKind, Model, Refinement};
+use cgm_model::{Assignment, Element, ElementKind, Model, Refinement, Variable};
 use std::alloc::{AllocError, Global};
 
 fn element_word(kind: ElementKind) -> &'static str
@@ -66,6 +66,39 @@ fn push_refinements(
     Ok(())
 }
 
+/// Adds the line of one variable's number.
+fn push_number(
+    alloc: Global,
+    report: &mut Vec<u8>,
+    name: &[u8],
+    number: i64,
+) -> Result<(), AllocError>
+    ensures { OnOk result (report.new.items ≡ report.old.items ++ variable_line name.now number) }
+{
+    let digits = format!(in alloc; "{number}")?;
+    report.extend_from_slice(b"var ")?;
+    report.extend_from_slice(name)?;
+    report.extend_from_slice(b" ")?;
+    report.extend_from_slice(digits.as_bytes())?;
+    report.extend_from_slice(b"\n")
+}
+
+fn push_variables(
+    alloc: Global,
+    report: &mut Vec<u8>,
+    vars: &[Variable],
+    numbers: &[i64],
+) -> Result<(), AllocError>
+    requires { length numbers.now ≡ length vars.now }
+    ensures { OnOk result (report.new.items ≡ report.old.items ++ variable_lines vars.now
+        numbers.now) }
+{
+    for (at, variable) in vars.iter().enumerate() {
+        push_number(alloc, report, variable.name.as_slice(), numbers[at])?;
+    }
+    Ok(())
+}
+
 /// The report of a realization.
 pub(crate) fn realized(alloc: Global, m: &Model, a: &Assignment) -> Result<Vec<u8>, AllocError>
     requires { Fits (lists_of m.now) a.now }
@@ -78,5 +111,6 @@ pub(crate) fn realized(alloc: Global, m: &Model, a: &Assignment) -> Result<Vec<u
         m.refinements.as_slice(),
         a.refinements.as_slice(),
     )?;
+    push_variables(alloc, &mut report, m.vars.as_slice(), a.vars.as_slice())?;
     Ok(report)
 }

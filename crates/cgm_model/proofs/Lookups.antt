@@ -1,40 +1,216 @@
--- What finding a name at a place, or at none, says of the list of names.
-use Rattle.std.proofs.Common.{◌≡◌, ℕ, ◌<◌, ◌++◌, ◌||◌, true, false, List, Option, Some, None, MatchOption, length, map, get_or, refl, sym, ◌∙◌, ap}
-use Rattle.std.specs.List.{list_any}
+-- A name stands for one thing, and the function from names to things finds it.
+use Rattle.std.proofs.Common.{◌≡◌, ◌≢◌, ℕ, zero, suc, ◌+◌, ◌<◌, ◌++◌, ◌||◌, not, Bool, true, false, cond, List, [], ◌∷◌, Option, None, Some, length, get_or, slice_get, refl, sym, ◌∙◌, ap, subst, arith, ⊎_elim}
+use Rattle.std.specs.List.{AllPairs, list_any, position_from}
+use Rattle.std.specs.Option.{option_or, option_map, is_some}
+use Rattle.std.proofs.lemmas.List.Folds.{list_any-append}
 use Rattle.std.specs.Str.{bytes_eq}
-use Rattle.std.proofs.lemmas.Bool.{false_from_ne_true}
-use Rattle.std.proofs.lemmas.List.Folds.{list_any_none, list_any-append}
-use Rattle.std.proofs.lemmas.Map.Keys.{any_passes_from_place}
-use Rattle.std.specs.Option.{is_some, option_map}
-use Rattle.std.proofs.lemmas.Option.{slice_get-get_or, slice_get-map, same_Some}
+use Rattle.std.proofs.lemmas.Bool.{cases_order}
+use Rattle.std.proofs.lemmas.List.{get_or_append_left, get_or-append-add, length-append}
+use Rattle.std.proofs.lemmas.Option.{none-some, same_Some, slice_get_within, get_or_from_slice_get}
 use Rattle.std.proofs.lemmas.Slice.Eq.{bytes_eq-Decides}
-use Rattle.cgm_model.specs.Named.{Lacks, StandsAt}
+use Rattle.cgm_model.specs.declared.lists.Lists.{Lists}
+use Rattle.cgm_model.specs.declared.lists.Thing.{Thing}
+use Rattle.cgm_model.specs.declared.lists.Thing.TheVariants as things
+use Rattle.cgm_model.specs.Named.{names, element_names, refinement_names, variable_names, IsNamed, place_of, thing_named}
+use Rattle.cgm_model.specs.Statement.{is_new}
+use Rattle.cgm_model.specs.WellFormed.{IsWellFormed}
 
-any-from_place : (names : List (List ℕ)) (name : List ℕ) (k : ℕ) → StandsAt names name k → list_any (bytes_eq name) names ≡ true
-any-from_place names name k at =
-    any_passes_from_place (bytes_eq name) names k name at ((bytes_eq-Decides name name).1 refl)
+-- ---- one place
 
-any-from_lacks : (names : List (List ℕ)) (name : List ℕ) → Lacks names name → list_any (bytes_eq name) names ≡ false
-any-from_lacks names name lacks =
-    list_any_none (bytes_eq name) names
-    (λ k d l. false_from_ne_true (bytes_eq name (get_or names k d))
-    (λ e. lacks k (slice_get-get_or names k d l ∙ ap (λ n. Some n) (sym ((bytes_eq-Decides name (get_or names k d)).0 e)))))
+-- two places with one name are one
+same_place : (xs : List (List ℕ)) (i j : ℕ) (name : List ℕ) → AllPairs (λ one other. one ≢ other) xs → i < length xs → j < length xs → get_or xs i [] ≡ name → get_or xs j [] ≡ name → i ≡ j
+same_place xs i j name apart l k a b =
+    ⊎_elim
+    (λ same. same)
+    (⊎_elim
+    (λ less. absurd (apart i j [] less k (a ∙ sym b)))
+    (λ more. absurd (apart j i [] more l (b ∙ sym a))))
+    (cases_order i j)
 
-pub is_some-found : (found : Option ℕ) (names : List (List ℕ)) (name : List ℕ) → MatchOption found (Lacks names name) (StandsAt names name) → is_some found ≡ list_any (bytes_eq name) names
-is_some-found (Some k) names name at = sym (any-from_place names name k at)
-is_some-found None names name lacks = sym (any-from_lacks names name lacks)
+pub record Placed (xs : List (List ℕ)) (place : ℕ) (name : List ℕ) : Type 0 where
+  pub within : place < length xs
+  pub named : get_or xs place [] ≡ name
 
--- the name stands in the first of two lists, or else it is the second that tells
-pub any-in_first : (xs ys : List (List ℕ)) (name : List ℕ) → list_any (bytes_eq name) xs ≡ true → true ≡ list_any (bytes_eq name) (xs ++ ys)
-any-in_first xs ys name e =
-    sym (list_any-append (bytes_eq name) xs ys ∙ ap (λ b. b || list_any (bytes_eq name) ys) e)
+placed_here : (xs : List (List ℕ)) (k : ℕ) (name : List ℕ) → slice_get xs k ≡ Some name → Placed xs k name
+placed_here xs k name at = record {
+  within = slice_get_within xs k name at;
+  named = get_or_from_slice_get xs k name [] at;
+}
 
-pub any-in_second : (xs ys : List (List ℕ)) (name : List ℕ) → list_any (bytes_eq name) xs ≡ false → list_any (bytes_eq name) ys ≡ list_any (bytes_eq name) (xs ++ ys)
-any-in_second xs ys name e =
-    sym (list_any-append (bytes_eq name) xs ys ∙ ap (λ b. b || list_any (bytes_eq name) ys) e)
+placed_first : (xs ys : List (List ℕ)) (k : ℕ) (name : List ℕ) → Placed xs k name → Placed (xs ++ ys) k name
+placed_first xs ys k name p = record {
+  within = omega (arith, p.within, length-append xs ys);
+  named = get_or_append_left xs ys [] k p.within ∙ p.named;
+}
 
--- the item at a place where a name stands has that name
-pub name-at : {X : Type 0} (f : X → List ℕ) (xs : List X) (k : ℕ) (x : X) (name : List ℕ) → k < length xs → x ≡ get_or xs k x → StandsAt (map f xs) name k → f x ≡ name
-name-at f xs k x name l e at =
-    ap f e
-    ∙ same_Some (f (get_or xs k x)) name (sym (ap (option_map f) (slice_get-get_or xs k x l)) ∙ (sym (slice_get-map f xs k) ∙ at))
+placed_second : (xs ys : List (List ℕ)) (k : ℕ) (name : List ℕ) → Placed ys k name → Placed (xs ++ ys) (length xs + k) name
+placed_second xs ys k name p = record {
+  within = omega (arith, p.within, length-append xs ys);
+  named = get_or-append-add xs ys k [] ∙ p.named;
+}
+
+-- the place of a thing's name among all names
+abbrev pub place : Lists → Thing → ℕ
+place m (things.Element k) = k
+place m (things.Refinement k) = length (element_names m) + k
+place m (things.Var k) = length (element_names m) + (length (refinement_names m) + k)
+
+pub placed : (m : Lists) (name : List ℕ) (t : Thing) → IsNamed m name t → Placed (names m) (place m t) name
+placed m name (things.Element k) at =
+    placed_first (element_names m) (refinement_names m ++ variable_names m) k name (placed_here (element_names m) k name at)
+placed m name (things.Refinement k) at =
+    placed_second (element_names m) (refinement_names m ++ variable_names m) k name
+    (placed_first (refinement_names m) (variable_names m) k name (placed_here (refinement_names m) k name at))
+placed m name (things.Var k) at =
+    placed_second (element_names m) (refinement_names m ++ variable_names m) (length (refinement_names m) + k) name
+    (placed_second (refinement_names m) (variable_names m) k name (placed_here (variable_names m) k name at))
+
+same_thing : (m : Lists) (name : List ℕ) (one other : Thing) → IsNamed m name one → IsNamed m name other → place m one ≡ place m other → one ≡ other
+same_thing m name (things.Element i) (things.Element j) a b e = ap (λ k. things.Element k) e
+same_thing m name (things.Element i) (things.Refinement j) a b e =
+    let l = slice_get_within (element_names m) i name a in absurd (omega arith)
+same_thing m name (things.Element i) (things.Var j) a b e =
+    let l = slice_get_within (element_names m) i name a in absurd (omega arith)
+same_thing m name (things.Refinement i) (things.Element j) a b e =
+    let l = slice_get_within (element_names m) j name b in absurd (omega arith)
+same_thing m name (things.Refinement i) (things.Refinement j) a b e =
+    let same : i ≡ j = omega arith in ap (λ k. things.Refinement k) same
+same_thing m name (things.Refinement i) (things.Var j) a b e =
+    let l = slice_get_within (refinement_names m) i name a in absurd (omega arith)
+same_thing m name (things.Var i) (things.Element j) a b e =
+    let l = slice_get_within (element_names m) j name b in absurd (omega arith)
+same_thing m name (things.Var i) (things.Refinement j) a b e =
+    let l = slice_get_within (refinement_names m) j name b in absurd (omega arith)
+same_thing m name (things.Var i) (things.Var j) a b e =
+    let same : i ≡ j = omega arith in ap (λ k. things.Var k) same
+
+pub named_once : (m : Lists) → IsWellFormed m → (name : List ℕ) (one other : Thing) → IsNamed m name one → IsNamed m name other → one ≡ other
+named_once m w name one other a b =
+    let p = placed m name one a in
+    let q = placed m name other b in
+    same_thing m name one other a b (same_place (names m) (place m one) (place m other) name w.names.distinct p.within q.within p.named q.named)
+
+-- ---- the function
+
+record FoundFrom (ns : List (List ℕ)) (name : List ℕ) (from k : ℕ) : Type 0 where
+  place : ℕ
+  is : k ≡ from + place
+  named : slice_get ns place ≡ Some name
+
+abbrev step : ℕ → List (List ℕ) → List ℕ → Bool → Option ℕ
+step from ns name b = cond b (Some from) (position_from (bytes_eq name) (from + 1) ns)
+
+found_step : (n : List ℕ) (ns : List (List ℕ)) (name : List ℕ) (from k : ℕ) → (position_from (bytes_eq name) (from + 1) ns ≡ Some k → FoundFrom ns name (from + 1) k) → (b : Bool) → bytes_eq name n ≡ b → step from ns name b ≡ Some k → FoundFrom (n ∷ ns) name from k
+found_step n ns name from k later true t e = record {
+  place = 0;
+  is = let same = same_Some from k e in omega arith;
+  named = ap (λ x. Some x) (sym ((bytes_eq-Decides name n).0 t));
+}
+found_step n ns name from k later false t e =
+    let there = later e in
+    record {
+      place = suc there.place;
+      is = let i = there.is in omega arith;
+      named = there.named;
+    }
+
+found_from : (ns : List (List ℕ)) (name : List ℕ) (from k : ℕ) → position_from (bytes_eq name) from ns ≡ Some k → FoundFrom ns name from k
+found_from [] name from k e = absurd (none-some k e)
+found_from (n ∷ ns) name from k e =
+    found_step n ns name from k (λ later. found_from ns name (from + 1) k later) (bytes_eq name n) refl e
+
+there_step : (ns : List (List ℕ)) (name : List ℕ) (from : ℕ) → position_from (bytes_eq name) (from + 1) ns ≢ None → (b : Bool) → step from ns name b ≢ None
+there_step ns name from later true none = none-some from (sym none)
+there_step ns name from later false none = later none
+
+found_there : (ns : List (List ℕ)) (name : List ℕ) (from j : ℕ) → slice_get ns j ≡ Some name → position_from (bytes_eq name) from ns ≢ None
+found_there [] name from j at = absurd (none-some name at)
+found_there (n ∷ ns) name from zero at = λ none.
+    let same : bytes_eq name n ≡ true = (bytes_eq-Decides name n).1 (sym (same_Some n name at)) in
+    none-some from (sym none ∙ ap (step from ns name) same)
+found_there (n ∷ ns) name from (suc j) at = there_step ns name from (found_there ns name (from + 1) j at) (bytes_eq name n)
+
+place_named : (ns : List (List ℕ)) (name : List ℕ) (k : ℕ) → place_of name ns ≡ Some k → slice_get ns k ≡ Some name
+place_named ns name k e =
+    let f = found_from ns name 0 k e in
+    let same : k ≡ f.place = let i = f.is in omega arith in
+    ap (slice_get ns) same ∙ f.named
+
+-- the first of three places that is there
+abbrev first_thing : Option ℕ → Option ℕ → Option ℕ → Option Thing
+first_thing a b c =
+    option_or (option_map (λ k. things.Element k) a)
+    (option_or (option_map (λ k. things.Refinement k) b) (option_map (λ k. things.Var k) c))
+
+first_named : (m : Lists) (name : List ℕ) (a b c : Option ℕ) → place_of name (element_names m) ≡ a → place_of name (refinement_names m) ≡ b → place_of name (variable_names m) ≡ c → (t : Thing) → first_thing a b c ≡ Some t → IsNamed m name t
+first_named m name (Some k) b c p q r t e = subst (IsNamed m name) (same_Some (things.Element k) t e) (place_named (element_names m) name k p)
+first_named m name None (Some k) c p q r t e = subst (IsNamed m name) (same_Some (things.Refinement k) t e) (place_named (refinement_names m) name k q)
+first_named m name None None (Some k) p q r t e = subst (IsNamed m name) (same_Some (things.Var k) t e) (place_named (variable_names m) name k r)
+first_named m name None None None p q r t e = absurd (none-some t e)
+
+pub named-from_thing_named : (m : Lists) (name : List ℕ) (t : Thing) → thing_named m name ≡ Some t → IsNamed m name t
+unfolding thing_named
+named-from_thing_named m name t e =
+    first_named m name (place_of name (element_names m)) (place_of name (refinement_names m)) (place_of name (variable_names m)) refl refl refl t e
+
+first_is_some : (m : Lists) (name : List ℕ) (a b c : Option ℕ) → place_of name (element_names m) ≡ a → place_of name (refinement_names m) ≡ b → place_of name (variable_names m) ≡ c → (t : Thing) → IsNamed m name t → first_thing a b c ≢ None
+first_is_some m name (Some k) b c p q r t h none = none-some (things.Element k) (sym none)
+first_is_some m name None (Some k) c p q r t h none = none-some (things.Refinement k) (sym none)
+first_is_some m name None None (Some k) p q r t h none = none-some (things.Var k) (sym none)
+first_is_some m name None None None p q r (things.Element k) h none = found_there (element_names m) name 0 k h p
+first_is_some m name None None None p q r (things.Refinement k) h none = found_there (refinement_names m) name 0 k h q
+first_is_some m name None None None p q r (things.Var k) h none = found_there (variable_names m) name 0 k h r
+
+pub thing_named-is_some : (m : Lists) (name : List ℕ) (t : Thing) → IsNamed m name t → thing_named m name ≢ None
+unfolding thing_named
+thing_named-is_some m name t h =
+    first_is_some m name (place_of name (element_names m)) (place_of name (refinement_names m)) (place_of name (variable_names m)) refl refl refl t h
+
+by_answer : (m : Lists) → IsWellFormed m → (name : List ℕ) (t : Thing) → IsNamed m name t → (answer : Option Thing) → thing_named m name ≡ answer → thing_named m name ≡ Some t
+by_answer m w name t h None e = absurd (thing_named-is_some m name t h e)
+by_answer m w name t h (Some u) e =
+    e ∙ ap (λ x. Some x) (named_once m w name u t (named-from_thing_named m name u e) h)
+
+pub thing_named-from_named : (m : Lists) → IsWellFormed m → (name : List ℕ) (t : Thing) → IsNamed m name t → thing_named m name ≡ Some t
+thing_named-from_named m w name t h = by_answer m w name t h (thing_named m name) refl
+
+none_by_answer : (m : Lists) (name : List ℕ) → ((t : Thing) → ¬ IsNamed m name t) → (answer : Option Thing) → thing_named m name ≡ answer → thing_named m name ≡ None
+none_by_answer m name h None e = e
+none_by_answer m name h (Some t) e = absurd (h t (named-from_thing_named m name t e))
+
+pub thing_named-none : (m : Lists) (name : List ℕ) → ((t : Thing) → ¬ IsNamed m name t) → thing_named m name ≡ None
+thing_named-none m name h = none_by_answer m name h (thing_named m name) refl
+
+-- ---- the test for a new name
+
+any_step : (test : List ℕ → Bool) (from : ℕ) (n : List ℕ) (ns : List (List ℕ)) → is_some (position_from test (from + 1) ns) ≡ list_any test ns → (b : Bool) → test n ≡ b → is_some (cond b (Some from) (position_from test (from + 1) ns)) ≡ (b || list_any test ns)
+any_step test from n ns later true e = refl
+any_step test from n ns later false e = later
+
+any_from : (test : List ℕ → Bool) (from : ℕ) (ns : List (List ℕ)) → is_some (position_from test from ns) ≡ list_any test ns
+any_from test from [] = refl
+any_from test from (n ∷ ns) = any_step test from n ns (any_from test (from + 1) ns) (test n) refl
+
+some_first : (a b c : Option ℕ) → is_some (first_thing a b c) ≡ (is_some a || (is_some b || is_some c))
+some_first (Some k) b c = refl
+some_first None (Some k) c = refl
+some_first None None (Some k) = refl
+some_first None None None = refl
+
+pub not_swap : (a b : Bool) → a ≡ not b → b ≡ not a
+not_swap a true e = ap not (sym e)
+not_swap a false e = ap not (sym e)
+
+pub not_some-thing_named : (m : Lists) (name : List ℕ) → not (is_some (thing_named m name)) ≡ is_new m name
+unfolding thing_named
+not_some-thing_named m name =
+    let test = bytes_eq name in
+    let a = place_of name (element_names m) in
+    let b = place_of name (refinement_names m) in
+    let c = place_of name (variable_names m) in
+    let each : (is_some a || (is_some b || is_some c)) ≡ (list_any test (element_names m) || (list_any test (refinement_names m) || list_any test (variable_names m))) =
+    rw (any_from test 0 (element_names m), any_from test 0 (refinement_names m), any_from test 0 (variable_names m)) refl in
+    let whole : list_any test (names m) ≡ (list_any test (element_names m) || (list_any test (refinement_names m) || list_any test (variable_names m))) =
+    list_any-append test (element_names m) (refinement_names m ++ variable_names m)
+    ∙ ap (λ x. list_any test (element_names m) || x) (list_any-append test (refinement_names m) (variable_names m)) in
+    ap not (some_first a b c ∙ (each ∙ sym whole))

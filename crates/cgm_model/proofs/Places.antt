@@ -1,5 +1,5 @@
 -- A loop that tests the items of a list in order: what the rest of the list settles for the whole.
-use Rattle.std.proofs.Common.{◌≡◌, ℕ, ◌+◌, ◌<◌, List, ◌∷◌, length, drop, get_or, refl, sym, subst, inl, inr, ◌∙◌, ap}
+use Rattle.std.proofs.Common.{◌≡◌, ℕ, ◌+◌, ◌<◌, List, ◌∷◌, length, drop, get_or, refl, sym, subst, inl, inr, ◌∙◌, ap, [], ⊎_elim}
 use Rattle.std.proofs.lemmas.List.{drop_more}
 use Rattle.cgm_model.specs.Place.{EachFrom, FirstFailsFrom, Each, FirstFails}
 
@@ -32,3 +32,9 @@ first_from_settled {X} P xs items i x same l e fails s =
     let Q : List X → Type 0 = λ rest. Settles P xs rest i in
     let t : Settles P xs (x ∷ drop (i + 1) xs) i = subst Q (drop-read xs items i x same l e) s in
     t.first i (inl (refl, fails))
+
+-- what holds of each item fails at none
+pub never_both : {X : Type 0} (P : ℕ → X → Type 0) (place : ℕ) (xs : List X) (failing : ℕ) → EachFrom place P xs → FirstFailsFrom place P xs failing → ⊥
+never_both P place [] failing each first = first
+never_both P place (x ∷ xs) failing each first =
+    ⊎_elim (λ h. h.1 each.0) (λ h. never_both P (place + 1) xs failing each.1 h.1) first

@@ -8,3 +8,8 @@ IsNumbering f refinements = All (λ r. All (λ source. f source < f r.target) r.
 
 abbrev pub IsAcyclic : List Refinement → Type 0
 IsAcyclic refinements = (f : ℕ → ℕ) × IsNumbering f refinements
+
+-- the refinement names only elements among so many
+pub record IsKnown (count : ℕ) (r : Refinement) : Type 0 where
+  pub target : r.target < count
+  pub sources : All (λ source. source < count) r.sources

@@ -1,6 +1,7 @@
 -- The lists of a model.
-use Rattle.cgm_model.specs.declared.lists.Model.{Model}
-use Rattle.cgm_model.specs.Lists.{Lists}
+use Rattle.cgm_model.specs.declared.lists.Lists.{Lists}
+use Rattle.cgm_model.specs.declared.model.Model.{Model}
+use Rattle.cgm_model.specs.Lists.{lists}
 
 abbrev pub lists_of : Model → Lists
-lists_of m = record { elements = m.elements; refinements = m.refinements; asserts = m.asserts }
+lists_of m = lists m.elements m.refinements m.vars m.contribs m.conflicts m.binds m.asserts m.rules

@@ -1,14 +1,38 @@
--- The lists of a builder's declarations, and names that stand in them at a place or at none.
-use Rattle.std.specs.Prelude.{◌≡◌, ℕ, List, Some, slice_get}
-use Rattle.cgm_model.specs.declared.declarations.Declarations.{Declarations}
-use Rattle.cgm_model.specs.Lists.{Lists}
+-- The names that lists declare, and what a name stands for.
+use Rattle.std.specs.Prelude.{◌≡◌, ℕ, List, ◌++◌, Option, Some, map, slice_get, option_map}
+use Rattle.std.specs.List.{position_from}
+use Rattle.std.specs.Option.{option_or}
+use Rattle.std.specs.Str.{bytes_eq}
+use Rattle.cgm_model.specs.declared.lists.Lists.{Lists}
+use Rattle.cgm_model.specs.declared.lists.Thing.{Thing}
+use Rattle.cgm_model.specs.declared.lists.Thing.TheVariants as things
 
-abbrev pub listed : Declarations → Lists
-listed d = record { elements = d.elements; refinements = d.refinements; asserts = d.asserts }
+abbrev pub element_names : Lists → List (List ℕ)
+element_names m = map (λ e. e.name) m.elements
 
--- the name stands at no place
-abbrev pub Lacks : List (List ℕ) → List ℕ → Type 0
-Lacks names name = (k : ℕ) → ¬ (slice_get names k ≡ Some name)
+abbrev pub refinement_names : Lists → List (List ℕ)
+refinement_names m = map (λ r. r.name) m.refinements
 
-abbrev pub StandsAt : List (List ℕ) → List ℕ → ℕ → Type 0
-StandsAt names name k = slice_get names k ≡ Some name
+abbrev pub variable_names : Lists → List (List ℕ)
+variable_names m = map (λ v. v.name) m.vars
+
+-- the declared names
+abbrev pub names : Lists → List (List ℕ)
+names m = element_names m ++ (refinement_names m ++ variable_names m)
+
+-- the thing has this name
+abbrev pub IsNamed : Lists → List ℕ → Thing → Type 0
+IsNamed m name (things.Element k) = slice_get (element_names m) k ≡ Some name
+IsNamed m name (things.Refinement k) = slice_get (refinement_names m) k ≡ Some name
+IsNamed m name (things.Var k) = slice_get (variable_names m) k ≡ Some name
+
+-- the place of a name in a list of names
+abbrev pub place_of : List ℕ → List (List ℕ) → Option ℕ
+place_of name names = position_from (bytes_eq name) 0 names
+
+-- what the name stands for
+unfoldable pub thing_named : Lists → List ℕ → Option Thing
+thing_named m name =
+    option_or (option_map (λ k. things.Element k) (place_of name (element_names m)))
+    (option_or (option_map (λ k. things.Refinement k) (place_of name (refinement_names m)))
+    (option_map (λ k. things.Var k) (place_of name (variable_names m))))

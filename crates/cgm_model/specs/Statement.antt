@@ -1,49 +1,79 @@
 -- Which statements may come after those that the lists have, and why one is refused.
-use Rattle.std.specs.Prelude.{◌≡◌, ℕ, ◌<◌, ◌↔◌, Bool, true, false, ◌&&◌, not, ◌==◌, nat_lt, nat_le, IsTrue, List, [], ◌∷◌, length, All, Option, None, Some, slice_get, map}
+use Rattle.std.specs.Prelude.{◌≡◌, ℕ, ◌<◌, ◌↔◌, Bool, true, false, cond, ◌&&◌, not, ◌==◌, nat_lt, nat_le, IsTrue, List, [], ◌∷◌, length, All, Option, None, Some, slice_get, map, unsigned_abs, int_le}
 use Rattle.std.specs.List.{list_all, list_any}
 use Rattle.std.specs.Str.{bytes_eq}
+use Rattle.cgm_base.specs.declared.limit.Which.{Which}
 use Rattle.cgm_base.specs.declared.limit.Which.TheVariants as limits
 use Rattle.cgm_base.specs.Words.{limit_number}
-use Rattle.cgm_model.specs.declared.lists.Statement.{Statement}
-use Rattle.cgm_model.specs.declared.lists.Statement.TheVariants as statements
-use Rattle.cgm_model.specs.declared.lists.Thing.{Thing}
-use Rattle.cgm_model.specs.declared.lists.Thing.TheVariants as things
+use Rattle.cgm_model.specs.declared.lists.Edge.{Edge}
 use Rattle.cgm_model.specs.declared.lists.ElementKind.{ElementKind}
 use Rattle.cgm_model.specs.declared.lists.ElementKind.TheVariants as kinds
+use Rattle.cgm_model.specs.declared.lists.Lists.{Lists}
+use Rattle.cgm_model.specs.declared.lists.Statement.{Statement}
+use Rattle.cgm_model.specs.declared.lists.Statement.TheVariants as statements
 use Rattle.cgm_model.specs.declared.stop.AddStop.{AddStop}
 use Rattle.cgm_model.specs.declared.stop.AddStop.TheVariants as stops
 use Rattle.cgm_model.specs.declared.stop.Fault.TheVariants as faults
-use Rattle.cgm_model.specs.Lists.{Lists, added, names, element_names, refinement_names, statement_count}
-use Rattle.cgm_model.specs.Name.{is_name}
+use Rattle.cgm_model.specs.Distinct.{are_distinct}
+use Rattle.cgm_model.specs.Formulas.{IsProperRule, formula_of, node_total, every_linear, has_small_terms, has_distinct_terms}
 use Rattle.cgm_model.specs.Graph.{IsAcyclic}
+use Rattle.cgm_model.specs.Lists.{added, statement_count}
+use Rattle.cgm_model.specs.Name.{is_name}
+use Rattle.cgm_model.specs.Named.{names}
 
--- the thing has this name
-abbrev pub IsNamed : Lists → List ℕ → Thing → Type 0
-IsNamed m name (things.Element k) = slice_get (element_names m) k ≡ Some name
-IsNamed m name (things.Refinement k) = slice_get (refinement_names m) k ≡ Some name
+-- both ends are among so many
+abbrev pub IsEdgeOf : ℕ → Edge → Type 0
+IsEdgeOf count e = (e.from < count) × (e.to < count)
 
--- every number names something that is there, a refinement has a source, and a goal alone has `must`
+-- every number names something that is there, nothing is empty, and a goal alone has `must`
 abbrev pub IsProper : Lists → Statement → Type 0
 IsProper m (statements.Element e) = IsTrue e.must → e.kind ≡ kinds.Goal
 IsProper m (statements.Refine r) =
     (r.target < length m.elements) × (0 < length r.sources) × All (λ source. source < length m.elements) r.sources
+IsProper m (statements.Variable v) = Unit {0}
+IsProper m (statements.Contrib e) = IsEdgeOf (length m.elements) e
+IsProper m (statements.Conflict e) = IsEdgeOf (length m.elements) e
+IsProper m (statements.Bind e) = IsEdgeOf (length m.refinements) e
 IsProper m (statements.Assert a) = a.element < length m.elements
+IsProper m (statements.Rule r) = IsProperRule m r
 
 -- the names that a statement declares: one or none
 abbrev pub declared_names : Statement → List (List ℕ)
 declared_names (statements.Element e) = e.name ∷ []
 declared_names (statements.Refine r) = r.name ∷ []
-declared_names (statements.Assert a) = []
+declared_names (statements.Variable v) = v.name ∷ []
+declared_names s = []
+
+abbrev pub is_short : List ℕ → Bool
+is_short n = nat_le (length n) (limit_number limits.NameBytes)
+
+abbrev pub is_new : Lists → List ℕ → Bool
+is_new m n = not (list_any (bytes_eq n) (names m))
+
+abbrev pub has_small_coefficients : Statement → Bool
+has_small_coefficients (statements.Rule r) = every_linear has_small_terms (formula_of r)
+has_small_coefficients s = true
+
+abbrev pub has_small_bounds : Statement → Bool
+has_small_bounds (statements.Variable v) =
+    nat_le (unsigned_abs v.lo) (limit_number limits.VariableBound) && nat_le (unsigned_abs v.hi) (limit_number limits.VariableBound)
+has_small_bounds s = true
+
+abbrev pub has_ordered_bounds : Statement → Bool
+has_ordered_bounds (statements.Variable v) = int_le v.lo v.hi
+has_ordered_bounds s = true
 
 -- no number stands twice
 abbrev pub is_distinct : List ℕ → Bool
-is_distinct [] = true
-is_distinct (x ∷ xs) = not (list_any (λ y. y == x) xs) && is_distinct xs
+is_distinct xs = are_distinct (λ y x. y == x) xs
 
 abbrev pub source_list : Statement → List ℕ
-source_list (statements.Element e) = []
 source_list (statements.Refine r) = r.sources
-source_list (statements.Assert a) = []
+source_list s = []
+
+abbrev pub has_distinct_terms_each : Statement → Bool
+has_distinct_terms_each (statements.Rule r) = every_linear has_distinct_terms (formula_of r)
+has_distinct_terms_each s = true
 
 abbrev pub is_task : Option ElementKind → Bool
 is_task (Some kinds.Task) = true
@@ -59,39 +89,43 @@ is_assumption None = false
 
 -- the kind of the element that a statement refines
 abbrev pub target_kind : Lists → Statement → Option ElementKind
-target_kind m (statements.Element e) = None
 target_kind m (statements.Refine r) = slice_get (map (λ e. e.kind) m.elements) r.target
-target_kind m (statements.Assert a) = None
+target_kind m s = None
 
-abbrev pub unless : Bool → AddStop → Option AddStop
-unless true stop = None
-unless false stop = Some stop
+-- the count is within the quantity's limit
+abbrev pub is_within : ℕ → Which → Bool
+is_within count which = nat_le count (limit_number which)
 
-abbrev pub first_some : List (Option AddStop) → Option AddStop
-first_some [] = None
-first_some (None ∷ rest) = first_some rest
-first_some (Some stop ∷ rest) = Some stop
+-- the answer of the first test that fails
+abbrev pub first_failing : List (Bool × AddStop) → Option AddStop
+first_failing [] = None
+first_failing (t ∷ rest) = cond t.0 (first_failing rest) (Some t.1)
 
 -- the tests of a statement in order, each with the answer where it fails;
 -- `acyclic` tells whether the graph has no cycle with the statement
-abbrev pub tests : Lists → Statement → Bool → List (Option AddStop)
+abbrev pub tests : Lists → Statement → Bool → List (Bool × AddStop)
 tests m s acyclic =
-    unless (list_all (λ n. nat_le (length n) (limit_number limits.NameBytes)) (declared_names s)) (stops.Limit limits.NameBytes)
-    ∷ unless (list_all is_name (declared_names s)) (stops.Refused faults.Name)
-    ∷ unless (list_all (λ n. not (list_any (bytes_eq n) (names m))) (declared_names s)) (stops.Refused faults.DoubleName)
-    ∷ unless (is_distinct (source_list s)) (stops.Refused faults.DoubleSource)
-    ∷ unless (not (is_task (target_kind m s))) (stops.Refused faults.TaskRefined)
-    ∷ unless (not (is_assumption (target_kind m s))) (stops.Refused faults.AssumptionRefined)
-    ∷ unless acyclic (stops.Refused faults.Cycle)
-    ∷ unless (nat_lt (statement_count m) (limit_number limits.Statements)) (stops.Limit limits.Statements)
-    ∷ unless (nat_le (length (added m s).elements) (limit_number limits.Elements)) (stops.Limit limits.Elements)
-    ∷ unless (nat_le (length (added m s).refinements) (limit_number limits.Refinements)) (stops.Limit limits.Refinements)
-    ∷ unless (nat_le (length (source_list s)) (limit_number limits.Sources)) (stops.Limit limits.Sources)
+    (list_all is_short (declared_names s), stops.Limit limits.NameBytes)
+    ∷ (list_all is_name (declared_names s), stops.Refused faults.Name)
+    ∷ (list_all (is_new m) (declared_names s), stops.Refused faults.DoubleName)
+    ∷ (has_small_coefficients s, stops.Limit limits.Coefficient)
+    ∷ (has_small_bounds s, stops.Limit limits.VariableBound)
+    ∷ (has_ordered_bounds s, stops.Refused faults.CrossedBounds)
+    ∷ (is_distinct (source_list s), stops.Refused faults.DoubleSource)
+    ∷ (has_distinct_terms_each s, stops.Refused faults.DoubleTerm)
+    ∷ (not (is_task (target_kind m s)), stops.Refused faults.TaskRefined)
+    ∷ (not (is_assumption (target_kind m s)), stops.Refused faults.AssumptionRefined)
+    ∷ (acyclic, stops.Refused faults.Cycle)
+    ∷ (nat_lt (statement_count m) (limit_number limits.Statements), stops.Limit limits.Statements)
+    ∷ (is_within (length (added m s).elements) limits.Elements, stops.Limit limits.Elements)
+    ∷ (is_within (length (added m s).refinements) limits.Refinements, stops.Limit limits.Refinements)
+    ∷ (is_within (length (source_list s)) limits.Sources, stops.Limit limits.Sources)
+    ∷ (is_within (node_total (added m s).rules) limits.FormulaNodes, stops.Limit limits.FormulaNodes)
     ∷ []
 
--- the answer of the first test that fails
+-- the answer that a statement gets, if it is refused
 unfoldable pub refusal : Lists → Statement → Bool → Option AddStop
-refusal m s acyclic = first_some (tests m s acyclic)
+refusal m s acyclic = first_failing (tests m s acyclic)
 
 -- the statement passes each test
 pub record IsAllowed (m : Lists) (s : Statement) : Type 0 where

@@ -1,69 +1,75 @@
-ghost use Rattle.std.specs.Prelude.{◌≡◌, ◌++◌, ◌∷◌, [], if◌then◌else◌, is_ok, length, OnOk, OnErr, IfErr, IfSome, IfNone};
+ghost use Rattle.std.specs.Prelude.{◌≡◌, ◌↔◌, if◌then◌else◌, is_ok, IsTrue, OnOk, OnErr, IfErr};
+ghost use Rattle.cgm_model.specs.Graph.{IsAcyclic};
+ghost use Rattle.cgm_model.specs.Keeping.{AreFor};
 ghost use Rattle.cgm_model.specs.Lists.{no_lists, added};
 ghost use Rattle.cgm_model.specs.Model.{lists_of};
-ghost use Rattle.cgm_model.specs.Named.{listed};
-ghost use Rattle.cgm_model.specs.Statement.{IsNamed, IsProper, IsAllowed, IsNotAdded};
+ghost use Rattle.cgm_model.specs.Named.{thing_named};
+ghost use Rattle.cgm_model.specs.Statement.{IsProper, IsAllowed, IsNotAdded};
 ghost use Rattle.cgm_model.specs.WellFormed.{IsWellFormed};
 
-use crate::declarations::Declarations;
-use crate::lists::{Element, Model, Statement, Thing};
-use crate::parts::Parts;
+use crate::aids::Aids;
+use crate::graph::Graph;
+use crate::lists::{Element, Lists, Refinement, Rule, Statement, Thing, Variable};
+use crate::model::Model;
+use crate::names::NameTable;
 use crate::stop::AddStop;
-use crate::{admit, lookup};
+use crate::{admission, formulas, graph, limits, names};
+use cgm_formula::Parts;
 use std::alloc::Global;
 use std::marker;
 
 /// A model that is being built, statement by statement; contracts see it as the lists so far.
 #[derive(Debug, Drop)]
 pub struct ModelBuilder {
-    declared: Declarations,
-    /// Room for the test for a cycle, a place for each element, so that it takes no memory.
-    marks: Vec<bool>,
+    lists: Lists,
+    aids: Aids,
 }
 
 impl marker::Model for ModelBuilder {
-    ghost use Rattle.std.specs.Prelude.{◌≡◌, length};
-    ghost use Rattle.cgm_model.specs.Lists.{Lists};
-    ghost use Rattle.cgm_model.specs.Named.{listed};
+    ghost use Rattle.cgm_model.specs.contracts.lists.Lists as values;
+    ghost use Rattle.cgm_model.specs.declared.lists.Lists.{Lists};
+    ghost use Rattle.cgm_model.specs.Keeping.{AreFor};
     ghost use Rattle.cgm_model.specs.WellFormed.{IsWellFormed};
 
     ghost Value = { Lists };
 
-    ghost view = { λ b. listed b.declared };
+    ghost coded = { values.the_row.coded };
 
-    ghost invariant = { λ b. IsWellFormed (listed b.declared) × (length b.marks.items ≡ length b.declared.elements) };
+    ghost view = { λ b. b.lists };
+
+    ghost invariant = { λ b. IsWellFormed b.lists × AreFor b.lists b.aids };
 }
 
 impl ModelBuilder {
-    /// The empty model.
+    /// The empty model. It takes no memory.
     pub fn new(alloc: Global) -> ModelBuilder
         ensures empty { result ≡ no_lists }
         ensures known { IsWellFormed result }
     {
         ModelBuilder {
-            declared: Declarations {
-                elements: Parts::of(Vec::new(alloc)),
-                refinements: Parts::of(Vec::new(alloc)),
-                asserts: Parts::of(Vec::new(alloc)),
+            lists: empty_lists(alloc),
+            aids: Aids {
+                alloc,
+                names: NameTable::new(alloc),
+                graph: Graph::new(alloc),
+                node_room: limits::FORMULA_NODES,
             },
-            marks: Vec::new(alloc),
         }
     }
 
-    /// Answers what this name was declared as by a statement so far, if it was.
+    /// Answers what this name was declared as by a statement so far, if it was. It takes no memory.
     pub fn find(&self, name: &[u8]) -> Option<Thing>
         ensures known { IsWellFormed self.now }
-        ensures found { IfSome result (IsNamed self.now name.now) }
-        ensures none { IfNone result ((thing : Thing) → ¬ IsNamed self.now name.now thing) }
+        ensures found { result ≡ thing_named self.now name.now }
     {
-        if let Some(number) = lookup::element_named(self.declared.elements.as_slice(), name) {
-            return Some(Thing::Element(number));
-        }
-        lookup::refinement_named(self.declared.refinements.as_slice(), name).map(Thing::Refinement)
+        names::find(&self.lists, &self.aids, name)
     }
 
-    /// Adds one statement. Condition: each number names something that is there, a refinement has
-    /// a source, and a goal alone has `must`. A refusal leaves the builder as it was.
+    /// Adds one statement. Condition: every number names something that is there, a refinement has
+    /// a source, `And` and `Or` have a part, a linear expression has a term, a formula has at most
+    /// 200 brackets open at once in its canonical text, and a goal alone has `must`. A refusal
+    /// comes for the first test that fails, and only what is allowed can lack memory. Each leaves
+    /// the builder as it was.
     pub fn add(&mut self, s: Statement) -> Result<(), AddStop>
         requires { IsProper self.old s }
         ensures added { OnOk result (self.new ≡ added self.old s) }
@@ -72,59 +78,160 @@ impl ModelBuilder {
         ensures unchanged { OnErr result (self.new ≡ self.old) }
         ensures known { IsWellFormed self.new }
     {
-        admit::admit(&self.declared, self.marks.as_mut_slice(), &s)?;
-        push(&mut self.declared, &mut self.marks, s)
+        add(&mut self.lists, &mut self.aids, s)
     }
 
-    /// The model of the statements so far.
+    /// The model of the statements so far. It takes no memory.
     pub fn finish(self) -> Model
         ensures { lists_of result ≡ self }
     {
-        let ModelBuilder { declared, marks: _ } = self;
-        let Declarations {
+        let ModelBuilder { lists, aids: _ } = self;
+        let Lists {
             elements,
             refinements,
+            vars,
+            contribs,
+            conflicts,
+            binds,
             asserts,
-        } = declared;
+            rules,
+        } = lists;
         Model {
             elements,
             refinements,
+            vars,
+            contribs,
+            conflicts,
+            binds,
             asserts,
+            rules,
         }
     }
 }
 
-/// Adds a statement as it is, or leaves the declarations for want of memory.
-fn push(d: &mut Declarations, marks: &mut Vec<bool>, s: Statement) -> Result<(), AddStop>
-    requires { length marks.old.items ≡ length d.old.elements }
-    ensures marked { length marks.new.items ≡ length d.new.elements }
-    ensures lists { listed d.new ≡ (if is_ok result then added (listed d.old) s else listed d.old) }
-    ensures memory { IfErr result (λ stop. stop ≡ AddStop.Memory) }
+fn empty_lists(alloc: Global) -> Lists
+    ensures { result ≡ no_lists }
 {
-    match s {
-        Statement::Element(e) => push_element(&mut d.elements, marks, e),
-        Statement::Refine(r) => d.refinements.push(r).map_err(|_| AddStop::Memory),
-        Statement::Assert(a) => d.asserts.push(a).map_err(|_| AddStop::Memory),
+    Lists {
+        elements: Parts::of(Vec::new(alloc)),
+        refinements: Parts::of(Vec::new(alloc)),
+        vars: Parts::of(Vec::new(alloc)),
+        contribs: Parts::of(Vec::new(alloc)),
+        conflicts: Parts::of(Vec::new(alloc)),
+        binds: Parts::of(Vec::new(alloc)),
+        asserts: Parts::of(Vec::new(alloc)),
+        rules: Parts::of(Vec::new(alloc)),
     }
 }
 
-/// Adds an element and its mark, or neither.
-fn push_element(
-    elements: &mut Parts<Element>,
-    marks: &mut Vec<bool>,
-    e: Element,
-) -> Result<(), AddStop>
-    requires { length marks.old.items ≡ length elements.old }
-    ensures marked { length marks.new.items ≡ length elements.new }
-    ensures items { elements.new ≡ (if is_ok result then elements.old ++ e ∷ [] else elements.old) }
+/// Adds a statement that passes each test, or answers the first that it fails.
+fn add(m: &mut Lists, aids: &mut Aids, s: Statement) -> Result<(), AddStop>
+    requires well_formed { IsWellFormed m.old }
+    requires aids { AreFor m.old aids.old }
+    requires proper { IsProper m.old s }
+    ensures added { OnOk result (m.new ≡ added m.old s) }
+    ensures allowed { OnOk result (IsAllowed m.old s) }
+    ensures refused { IfErr result (IsNotAdded m.old s) }
+    ensures unchanged { OnErr result (m.new ≡ m.old) }
+    ensures known { IsWellFormed m.new }
+    ensures aids { AreFor m.new aids.new }
+{
+    let acyclic = stays_acyclic(m, aids, &s);
+    match admission::refusal(m, aids, &s, acyclic) {
+        Some(stop) => Err(stop),
+        None => push(m, aids, s),
+    }
+}
+
+/// Says whether the graph has no cycle with the statement.
+fn stays_acyclic(m: &Lists, aids: &mut Aids, s: &Statement) -> bool
+    requires well_formed { IsWellFormed m.now }
+    requires aids { AreFor m.now aids.old }
+    requires proper { IsProper m.now s.now }
+    ensures answer { IsTrue result ↔ IsAcyclic (added m.now s.now).refinements }
+    ensures aids { AreFor m.now aids.new }
+{
+    match s {
+        Statement::Refine(r) => {
+            graph::stays_acyclic(&mut aids.graph, m.refinements.as_slice(), r)
+        }
+        _ => true,
+    }
+}
+
+/// Adds a statement as it is, or leaves the lists for want of memory.
+fn push(m: &mut Lists, aids: &mut Aids, s: Statement) -> Result<(), AddStop>
+    requires well_formed { IsWellFormed m.old }
+    requires aids { AreFor m.old aids.old }
+    requires proper { IsProper m.old s }
+    requires allowed { IsAllowed m.old s }
+    ensures lists { m.new ≡ (if is_ok result then added m.old s else m.old) }
+    ensures aids { AreFor m.new aids.new }
     ensures memory { IfErr result (λ stop. stop ≡ AddStop.Memory) }
 {
-    if marks.push(false).is_err() {
-        return Err(AddStop::Memory);
+    match s {
+        Statement::Element(e) => push_element(m, aids, e),
+        Statement::Refine(r) => push_refinement(m, aids, r),
+        Statement::Variable(v) => push_variable(m, aids, v),
+        Statement::Contrib(e) => m.contribs.push(e).map_err(|_| AddStop::Memory),
+        Statement::Conflict(e) => m.conflicts.push(e).map_err(|_| AddStop::Memory),
+        Statement::Bind(e) => m.binds.push(e).map_err(|_| AddStop::Memory),
+        Statement::Assert(a) => m.asserts.push(a).map_err(|_| AddStop::Memory),
+        Statement::Rule(r) => push_rule(m, aids, r),
     }
-    if elements.push(e).is_err() {
-        marks.pop();
-        return Err(AddStop::Memory);
-    }
+}
+
+fn push_element(m: &mut Lists, aids: &mut Aids, e: Element) -> Result<(), AddStop>
+    requires well_formed { IsWellFormed m.old }
+    requires aids { AreFor m.old aids.old }
+    requires allowed { IsAllowed m.old (Statement.Element e) }
+    ensures lists { m.new ≡ (if is_ok result then added m.old (Statement.Element e) else m.old) }
+    ensures aids { AreFor m.new aids.new }
+    ensures memory { IfErr result (λ stop. stop ≡ AddStop.Memory) }
+{
+    let thing = Thing::Element(m.elements.as_slice().len() as u32);
+    graph::grow(aids.alloc, &mut aids.graph).map_err(|_| AddStop::Memory)?;
+    names::declare(aids, e.name.as_slice(), thing)?;
+    m.elements.push(e).map_err(|_| AddStop::Memory)
+}
+
+fn push_refinement(m: &mut Lists, aids: &mut Aids, r: Refinement) -> Result<(), AddStop>
+    requires well_formed { IsWellFormed m.old }
+    requires aids { AreFor m.old aids.old }
+    requires proper { IsProper m.old (Statement.Refine r) }
+    requires allowed { IsAllowed m.old (Statement.Refine r) }
+    ensures lists { m.new ≡ (if is_ok result then added m.old (Statement.Refine r) else m.old) }
+    ensures aids { AreFor m.new aids.new }
+    ensures memory { IfErr result (λ stop. stop ≡ AddStop.Memory) }
+{
+    let number = m.refinements.as_slice().len() as u32;
+    graph::link(&mut aids.graph, number, &r).map_err(|_| AddStop::Memory)?;
+    names::declare(aids, r.name.as_slice(), Thing::Refinement(number))?;
+    m.refinements.push(r).map_err(|_| AddStop::Memory)
+}
+
+fn push_variable(m: &mut Lists, aids: &mut Aids, v: Variable) -> Result<(), AddStop>
+    requires well_formed { IsWellFormed m.old }
+    requires aids { AreFor m.old aids.old }
+    requires allowed { IsAllowed m.old (Statement.Variable v) }
+    ensures lists { m.new ≡ (if is_ok result then added m.old (Statement.Variable v) else m.old) }
+    ensures aids { AreFor m.new aids.new }
+    ensures memory { IfErr result (λ stop. stop ≡ AddStop.Memory) }
+{
+    let thing = Thing::Var(m.vars.as_slice().len() as u32);
+    names::declare(aids, v.name.as_slice(), thing)?;
+    m.vars.push(v).map_err(|_| AddStop::Memory)
+}
+
+fn push_rule(m: &mut Lists, aids: &mut Aids, r: Rule) -> Result<(), AddStop>
+    requires aids { AreFor m.old aids.old }
+    requires allowed { IsAllowed m.old (Statement.Rule r) }
+    ensures lists { m.new ≡ (if is_ok result then added m.old (Statement.Rule r) else m.old) }
+    ensures aids { AreFor m.new aids.new }
+    ensures memory { IfErr result (λ stop. stop ≡ AddStop.Memory) }
+{
+    let left = formulas::room_after(formulas::formula_of(&r), aids.node_room).unwrap_or(0);
+    m.rules.push(r).map_err(|_| AddStop::Memory)?;
+    aids.node_room = left;
     Ok(())
 }

@@ -1,24 +1,26 @@
 //! Constrained goal models as lists, the builder that keeps them well formed, and realizations.
 #![tactic(auto)]
 
-mod admit;
+mod admission;
+mod aids;
 mod assignment;
 mod builder;
-mod cycle;
-mod declarations;
+mod formulas;
+mod graph;
 mod limits;
 mod lists;
-mod lookup;
-mod name;
-mod parts;
+mod model;
+mod names;
 mod realization;
 mod spelling;
 mod stop;
 
-pub use assignment::{Assignment, fits};
+pub use assignment::fits;
 pub use builder::ModelBuilder;
-pub use lists::{Assertion, Element, ElementKind, Model, Refinement, Statement, Thing};
-pub use name::Name;
-pub use parts::Parts;
+pub use cgm_formula::{Assignment, Formula, Linear, Name, Number, Parts, Truth, holds, value};
+pub use lists::{
+    Assertion, Edge, Element, ElementKind, Lists, Refinement, Rule, Statement, Thing, Variable,
+};
+pub use model::Model;
 pub use realization::{Broken, is_realization};
 pub use stop::{AddStop, Fault};

@@ -1,15 +1,13 @@
-//! Worked examples over all crates, as tests.
+//! Worked examples of the whole program, as tests.
 #![tactic(auto)]
 
 #[cfg(test)]
-mod checker_rows;
+mod example_rows;
 #[cfg(test)]
-mod model_rows;
+mod refusal_rows;
 #[cfg(test)]
-mod narrowing_rows;
+mod runs;
 #[cfg(test)]
-mod problem_rows;
-#[cfg(test)]
-mod problems;
+mod show_rows;
 #[cfg(test)]
 mod solve_rows;

@@ -1,5 +1,5 @@
 -- What a sink in memory shows: its bytes, its plan of failing writes and its counts.
-use Rattle.std.specs.Prelude.{◌≡◌, ℕ, List, Contains}
+use Rattle.std.specs.Prelude.{◌≡◌, ◌⊎◌, ℕ, List, Contains}
 use Rattle.cgm_shelf.specs.Faults.{next}
 use Rattle.cgm_shelf.specs.declared.mem_sink.MemSink.{MemSink}
 
@@ -26,6 +26,21 @@ failing_writes sink = sink.writes.failing.items
 abbrev pub writes_made : MemSink → ℕ
 writes_made sink = sink.writes.made
 
+-- no count of faults has changed
+pub record KeepsFaults (old new : MemSink) : Type 0 where
+  pub faults : faults_of new ≡ faults_of old
+  pub refused : refused_of new ≡ refused_of old
+
+-- one more write has failed by the plan
+pub record AddsFault (old new : MemSink) : Type 0 where
+  pub faults : faults_of new ≡ next (faults_of old)
+  pub refused : refused_of new ≡ refused_of old
+
+-- one more write has failed for want of memory
+pub record AddsRefusal (old new : MemSink) : Type 0 where
+  pub faults : faults_of new ≡ next (faults_of old)
+  pub refused : refused_of new ≡ next (refused_of old)
+
 -- one more write was made; what is to fail stays, and so does the size of a piece
 pub record CountsWrite (old new : MemSink) : Type 0 where
   pub made : writes_made new ≡ next (writes_made old)
@@ -35,3 +50,7 @@ pub record CountsWrite (old new : MemSink) : Type 0 where
 -- the write that this call is, is to fail
 abbrev pub IsFailingWrite : MemSink → Type 0
 IsFailingWrite sink = Contains (failing_writes sink) (next (writes_made sink))
+
+-- a planned fault, or want of memory, and what each does to the counts
+abbrev pub FailsWrite : MemSink → MemSink → Type 0
+FailsWrite old new = (IsFailingWrite old × AddsFault old new) ⊎ (¬ IsFailingWrite old × AddsRefusal old new)

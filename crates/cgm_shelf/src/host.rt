@@ -1,6 +1,6 @@
 // The host's files and its standard output. They tell no content: what the host does is trusted.
-ghost use Rattle.std.specs.Prelude.{◌≡◌, ◌<◌, ◌≤◌, length, None, MatchResult, IfOk, OnOk, IsErr};
-ghost use Rattle.cgm_shelf.specs.Faults.{HasCause};
+ghost use Rattle.std.specs.Prelude.{◌≡◌, ◌<◌, ◌≤◌, length, None, MatchResult, IfOk, IsErr};
+ghost use Rattle.cgm_shelf.specs.Faults.{HasCause, CountsFault};
 
 use crate::{Failed, Shelf, Sink};
 use std::fs::{File, OpenOptions};
@@ -96,7 +96,7 @@ fn some_written(count: usize, piece: &[u8]) -> io::Result<usize>
 fn counted<T>(called: io::Result<T>, faults: &mut u64) -> Result<T, Failed>
     ensures same { MatchResult called (λ value. result ≡ Ok value) (λ _. IsErr result) }
     ensures cause { HasCause faults.old faults.new result }
-    ensures faults { OnOk result (faults.new ≡ faults.old) }
+    ensures counts { CountsFault faults.old faults.new result }
 {
     match called {
         Ok(value) => Ok(value),

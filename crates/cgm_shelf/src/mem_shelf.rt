@@ -1,6 +1,6 @@
 // A shelf in memory, whose calls fail by a plan.
-ghost use Rattle.std.specs.Prelude.{◌≡◌, ◌⊎◌, ◌<◌, ◌≤◌, ◌^◌, ◌+◌, ℕ, min, List, [], length, take, drop, Some, None, option_copied, IsSome, IfOk, OnOk, OnErr, IsErr};
-ghost use Rattle.cgm_shelf.specs.Faults.{Rose, HasCause};
+ghost use Rattle.std.specs.Prelude.{◌≡◌, ◌<◌, ◌≤◌, ◌^◌, ◌+◌, ℕ, min, List, [], length, take, drop, Some, None, option_copied, IsSome, IsSomeAnd, IfOk, OnOk, OnErr, IsErr};
+ghost use Rattle.cgm_shelf.specs.Faults.{HasCause};
 ghost use Rattle.cgm_shelf.specs.MemFiles.{files_in, files_small};
 ghost use Rattle.cgm_shelf.specs.Shelf.{IsMissing, WhereTold, MissingOrRose, OnlyChanges, Leaves, Appends, ReadsFrom};
 
@@ -145,7 +145,7 @@ fn set_bytes(
 }
 
 impl Shelf for MemShelf {
-    ghost use Rattle.cgm_shelf.specs.MemShelf.{mem_files, read_faults_of, write_faults_of, refused_of, piece_of, KeepsPlan, CountsRead, CountsWrite, IsFailingRead, IsFailingWrite};
+    ghost use Rattle.cgm_shelf.specs.MemShelf.{mem_files, read_faults_of, write_faults_of, piece_of, moved, KeepsPlan, CountsRead, CountsWrite, IsFailingRead, IsFailingWrite, KeepsFaults, FailsStart, FailsRead, FailsAppend};
 
     ghost files = { λ shelf. Some (mem_files shelf) };
 
@@ -163,9 +163,8 @@ impl Shelf for MemShelf {
         ensures cause { HasCause (write_faults_of self.old) (write_faults_of self.new) result }
 
         ensures planned { IsFailingWrite self.old → IsErr result }
-        ensures unplanned { OnErr result (IsFailingWrite self.old
-            ⊎ Rose (refused_of self.old) (refused_of self.new)) }
-        ensures faults { OnOk result (write_faults_of self.new ≡ write_faults_of self.old) }
+        ensures fails { OnErr result (FailsStart self.old self.new) }
+        ensures kept { OnOk result (KeepsFaults self.old self.new) }
         ensures counts { CountsWrite self.old self.new }
         ensures plan { KeepsPlan self.old self.new }
     {
@@ -199,10 +198,10 @@ impl Shelf for MemShelf {
             × (read_faults_of self.new ≡ read_faults_of self.old) }
 
         ensures planned { IsFailingRead self.old → IsErr result }
-        ensures unplanned { OnErr result (IsFailingRead self.old ⊎ (mem_files self.old name.now
-            ≡ None)) }
-        ensures moves { IfOk result (λ count. count ≤ piece_of self.old) }
-        ensures faults { OnOk result (read_faults_of self.new ≡ read_faults_of self.old) }
+        ensures fails { OnErr result (FailsRead self.old self.new name.now) }
+        ensures kept { OnOk result (KeepsFaults self.old self.new) }
+        ensures moves { IfOk result (λ count. IsSomeAnd (mem_files self.old name.now)
+            (λ file. count ≡ moved self.old file at buf.old)) }
         ensures counts { CountsRead self.old self.new }
         ensures plan { KeepsPlan self.old self.new }
     {
@@ -233,10 +232,9 @@ impl Shelf for MemShelf {
             × (write_faults_of self.new ≡ write_faults_of self.old) }
 
         ensures planned { IsFailingWrite self.old → IsErr result }
-        ensures unplanned { OnErr result
-            (IsFailingWrite self.old ⊎ (mem_files self.old name.now ≡ None) ⊎ Rose (refused_of self.old) (refused_of self.new)) }
+        ensures fails { OnErr result (FailsAppend self.old self.new name.now) }
+        ensures kept { OnOk result (KeepsFaults self.old self.new) }
         ensures moves { IfOk result (λ count. count ≡ min (piece_of self.old) (length piece.now)) }
-        ensures faults { OnOk result (write_faults_of self.new ≡ write_faults_of self.old) }
         ensures counts { CountsWrite self.old self.new }
         ensures plan { KeepsPlan self.old self.new }
     {

@@ -1,6 +1,6 @@
 // A sink in memory, whose writes fail by a plan, and a sink that takes all.
-ghost use Rattle.std.specs.Prelude.{◌≡◌, ◌⊎◌, ◌<◌, ◌≤◌, min, [], length, take, Some, None, IfOk, OnOk, OnErr, IsErr};
-ghost use Rattle.cgm_shelf.specs.Faults.{Rose, HasCause};
+ghost use Rattle.std.specs.Prelude.{◌≡◌, ◌<◌, ◌≤◌, min, [], length, take, Some, None, IfOk, OnOk, OnErr, IsErr};
+ghost use Rattle.cgm_shelf.specs.Faults.{HasCause};
 ghost use Rattle.cgm_shelf.specs.Sink.{Adds};
 
 use crate::calls::Calls;
@@ -64,7 +64,7 @@ impl MemSink {
 }
 
 impl Sink for MemSink {
-    ghost use Rattle.cgm_shelf.specs.MemSink.{bytes_of, faults_of, refused_of, piece_of, CountsWrite, IsFailingWrite};
+    ghost use Rattle.cgm_shelf.specs.MemSink.{bytes_of, faults_of, piece_of, CountsWrite, IsFailingWrite, KeepsFaults, FailsWrite};
 
     ghost written = { λ sink. Some (bytes_of sink) };
 
@@ -79,10 +79,9 @@ impl Sink for MemSink {
         ensures cause { HasCause (faults_of self.old) (faults_of self.new) result }
 
         ensures planned { IsFailingWrite self.old → IsErr result }
-        ensures unplanned { OnErr result (IsFailingWrite self.old
-            ⊎ Rose (refused_of self.old) (refused_of self.new)) }
+        ensures fails { OnErr result (FailsWrite self.old self.new) }
+        ensures kept { OnOk result (KeepsFaults self.old self.new) }
         ensures moves { IfOk result (λ count. count ≡ min (piece_of self.old) (length piece.now)) }
-        ensures faults { OnOk result (faults_of self.new ≡ faults_of self.old) }
         ensures counts { CountsWrite self.old self.new }
     {
         self.writes.count();
@@ -112,7 +111,9 @@ impl Sink for NullSink {
 
     ghost faults = { λ _. 0 };
 
-    fn write(&mut self, piece: &[u8]) -> Result<usize, Failed> {
+    fn write(&mut self, piece: &[u8]) -> Result<usize, Failed>
+        ensures whole { result ≡ Ok (length piece.now) }
+    {
         Ok(piece.len())
     }
 }

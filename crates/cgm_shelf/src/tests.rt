@@ -41,6 +41,60 @@ fn reads_whole_files(rt: &impl Abort, alloc: Global) -> Result<(), Fail> {
     Ok(())
 }
 
+/// A read of a whole file of so many bytes, of whose reads one fails: does it end with all of them?
+fn ends_whole(alloc: Global, size: usize, failing: u64) -> Result<bool, AllocError> {
+    let mut shelf = MemShelf::new(alloc, 1_000_000, vec![in alloc; failing]?, Vec::new(alloc));
+    shelf.put("file", vec![in alloc; b'a'; size]?.as_slice())?;
+    match read_whole(alloc, &mut shelf, "file", None) {
+        Ok(bytes) => Ok(bytes.len() == size),
+        Err(_) => Ok(false),
+    }
+}
+
+// The last read of a file finds its end, and each one before it asks for at least 4,096 bytes.
+#[test]
+fn reads_ask_for_large_pieces(rt: HostRuntime) -> Result<(), Fail> {
+    let cases = [
+        (0, 1, false),
+        (0, 2, true),
+        (1, 2, false),
+        (4_096, 3, true),
+        (65_536, 2, false),
+        (65_536, 3, true),
+        (65_537, 3, false),
+        (65_537, 4, true),
+    ];
+    for (size, failing, whole) in cases {
+        let ended = ends_whole(rt.alloc(), size, failing)?;
+        assert_eq!(rt; ended, whole, "at {size} bytes and read {failing}");
+    }
+    Ok(())
+}
+
+// Each write is answered by its length, or fails by the plan; none is refused.
+#[test]
+fn writes_and_their_counts(rt: HostRuntime) -> Result<(), Fail> {
+    let alloc = rt.alloc();
+    let mut sink = MemSink::new(alloc, 4, vec![in alloc; 2, 4]?);
+    let cases = [
+        ("abcdef", Some(4), 0),
+        ("ef", None, 1),
+        ("ef", Some(2), 1),
+        ("", None, 2),
+        ("", Some(0), 2),
+    ];
+    for (piece, taken, faults) in cases {
+        assert_eq!(rt; sink.write(piece.as_bytes()).ok(), taken, "at {piece}");
+        assert_eq!(rt; (sink.faults(), sink.refused()), (faults, 0), "at {piece}");
+        assert_eq!(rt;
+            NullSink.write(piece.as_bytes()),
+            Ok(piece.len()),
+            "at {piece}"
+        );
+    }
+    Ok(())
+}
+
 fn writes_whole_files(rt: &impl Abort, alloc: Global) -> Result<(), Fail> {
     let none = Vec::new(alloc);
     let mut shelf = shelf_of_ten(alloc, none, vec![in alloc; 3]?)?;
@@ -65,7 +119,6 @@ fn writes_whole_texts(rt: &impl Abort, alloc: Global) -> Result<(), Fail> {
     write_whole(&mut sink, b"ijklmnopqrst")?;
     assert_eq!(rt; sink.written(), b"abcdefghijklmnopqrst".as_slice());
     assert_eq!(rt; sink.refused(), 0);
-    write_whole(&mut NullSink, b"abc")?;
     Ok(())
 }
 

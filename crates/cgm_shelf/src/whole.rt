@@ -22,8 +22,8 @@ pub enum ReadStop {
     Memory,
 }
 
-/// How many bytes one read asks for.
-const READ_SIZE: usize = 4096;
+/// How many bytes one read asks for: a shelf over the host's files opens the file for each.
+const READ_SIZE: usize = 65_536;
 
 /// Reads the named file to its end. With a limit, a file of more bytes than that is `TooLong`.
 pub fn read_whole<F: Shelf>(
@@ -53,19 +53,22 @@ pub fn read_whole<F: Shelf>(
     ensures later { F.read_faults shelf.old ≤ F.read_faults shelf.new }
 {
     let mut bytes = Vec::new(alloc);
+    let mut buffer = [0; READ_SIZE];
     loop {
-        let count = read_more(shelf, name, limit, &mut bytes)?;
+        let count = read_more(shelf, name, limit, &mut buffer, &mut bytes)?;
         if count == 0 {
             return Ok(bytes);
         }
     }
 }
 
-/// Adds the file's next bytes, and answers how many they are: 0 at the file's end.
+/// Adds the file's next bytes, as many as one read gives, and answers how many they are: 0 at the
+/// file's end.
 fn read_more<F: Shelf>(
     shelf: &mut F,
     name: &str,
     limit: Option<u64>,
+    buffer: &mut [u8; READ_SIZE],
     bytes: &mut Vec<u8>,
 ) -> Result<usize, ReadStop>
     requires { IfSome limit (λ most. vec_len bytes.old ≤ most) }
@@ -86,8 +89,7 @@ fn read_more<F: Shelf>(
     ensures writes { F.write_faults shelf.new ≡ F.write_faults shelf.old }
     ensures later { F.read_faults shelf.old ≤ F.read_faults shelf.new }
 {
-    let mut buffer = [0; READ_SIZE];
-    match shelf.read(name, bytes.len() as u64, &mut buffer) {
+    match shelf.read(name, bytes.len() as u64, buffer) {
         Ok(count) => {
             if is_past(limit, bytes.len() + count) {
                 return Err(ReadStop::TooLong);

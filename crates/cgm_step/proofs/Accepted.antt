@@ -1,5 +1,5 @@
 -- What the entries of an accepted log keep.
-use Rattle.std.proofs.Common.{◌≡◌, ℕ, zero, suc, ◌+◌, ◌<◌, ◌^◌, Bool, true, false, cond, not, ◌&&◌, ◌==◌, nat_lt, List, [], ◌∷◌, length, refl, ap, sym, ◌∙◌, subst, arith}
+use Rattle.std.proofs.Common.{◌≡◌, ℕ, zero, suc, ◌+◌, ◌<◌, ◌^◌, Bool, true, false, cond, not, ◌&&◌, ◌==◌, nat_lt, List, [], ◌∷◌, length, refl, sym, subst, arith}
 use Rattle.std.specs.Prelude.{ℤ, ◌≤ℤ◌, int_le, slice_get, if◌then◌else◌}
 use Rattle.std.specs.declared.option.Option.{Option}
 use Rattle.std.specs.declared.option.Option.TheVariants.{Some, None}
@@ -17,16 +17,15 @@ use Rattle.cgm_atom.specs.declared.entries.Entry.TheVariants.{Best, Lemma}
 use Rattle.cgm_atom.specs.declared.entries.Hint.{Hint}
 use Rattle.cgm_atom.specs.declared.checks.Violated.TheVariants as violated
 use Rattle.cgm_atom.specs.declared.entries.BadStep.TheVariants as fault
-use Rattle.cgm_atom.specs.Acceptance.{IsAccepted, IsAcceptedAfter, fault_of, faults, first_fault}
+use Rattle.cgm_atom.specs.Acceptance.{IsAccepted, IsAcceptedAfter, IsAcceptedState, fault_of, faults, first_fault}
 use Rattle.cgm_atom.specs.Bounds.{Bounds, lower_of, upper_of}
 use Rattle.cgm_atom.specs.Instance.{Instance, fault_unless, first_some, first_violation, outside_from, var_count, violations}
-use Rattle.cgm_atom.specs.Limits.{IsBound, IsWellFormed}
-use Rattle.cgm_atom.specs.LogState.{LogState, empty_state, last_best, lemma_clause, live_at, state_of, state_with}
-use Rattle.cgm_step.specs.Indexing.{Index, IsIndexOf}
-use Rattle.cgm_step.specs.Naming.{AreKnown, AreValuesOf, entry_values}
-use Rattle.cgm_step.specs.Steps.{AreBounds}
-use Rattle.cgm_step.proofs.States.{last_by_index, live_entry, live_values}
-use Rattle.cgm_step.proofs.Tightening.{between}
+use Rattle.cgm_atom.specs.ClauseAtoms.{AreKnown}
+use Rattle.cgm_atom.specs.Limits.{AreValuesOf, IsBound, IsWellFormed}
+use Rattle.cgm_atom.specs.LogState.{LogState, best_at, empty_state, entry_values, item_at, lemma_clause, live_at, state_with, values_at_place}
+use Rattle.cgm_atom.specs.Steps.{AreBounds}
+use Rattle.cgm_atom.proofs.StateLemmas.{live_is_of_log}
+use Rattle.cgm_atom.proofs.Tightening.{between}
 
 accepted_after : (p : Instance) (s : LogState) (log : List Entry) (i : ℕ) (e : Entry) → IsAcceptedAfter p s log → slice_get log i ≡ Some e → (state : LogState) × (first_fault p state e ≡ None)
 accepted_after p s [] i e h k = absurd (cc)
@@ -77,18 +76,22 @@ lemma_fits p s by clause hints bound h =
     AreKnown-from_none (var_count p) clause.atoms
     (option_map-None (λ (i : ℕ). fault.Atom (i + 1)) (position_from (λ (a : Atom). not (nat_lt a.var.0 (var_count p))) 0 clause.atoms) none.1.0)
 
-lemma_known : (p : Instance) (log : List Entry) (i : ℕ) (o : Option Entry) (c : Clause) → IsAccepted p log → slice_get log i ≡ o → option_and_then lemma_clause o ≡ Some c → AreKnown (var_count p) c.atoms
-lemma_known p log i None c h k e = absurd (cc)
-lemma_known p log i (Some (Best by values)) c h k e = absurd (cc)
-lemma_known p log i (Some (Lemma by clause hints bound)) c h k e =
-    let at = accepted_at p log i (Lemma by clause hints bound) h k in
-    subst (λ (x : Clause). AreKnown (var_count p) x.atoms) (same_Some clause c e) (lemma_fits p at.0 by clause hints bound at.1)
+-- each live entry of an accepted state passed its tests
+live_passes : (p : Instance) (s : LogState) (place : ℕ) (e : Entry) → IsAcceptedState p s → live_at s place ≡ Some e → (before : LogState) × (first_fault p before e ≡ None)
+live_passes p s zero e h k = absurd (cc)
+live_passes p s (suc i) e h k =
+    accepted_at p h.0 i e h.1 (live_is_of_log h.0 (suc i) e (subst (λ (t : LogState). live_at t (suc i) ≡ Some e) h.2 k))
 
--- the atoms of a lemma of the log have variables of the problem
-pub lemma_atoms_known : (p : Instance) (log : List Entry) (place : ℕ) (c : Clause) → IsAccepted p log → option_and_then lemma_clause (live_at (state_of log).entries place) ≡ Some c → AreKnown (var_count p) c.atoms
-lemma_atoms_known p log zero c h e = absurd (cc)
-lemma_atoms_known p log (suc i) c h e =
-    lemma_known p log i (slice_get log i) c h refl (ap (option_and_then lemma_clause) (sym (live_entry log i)) ∙ e)
+lemma_known : (p : Instance) (s : LogState) (place : ℕ) (o : Option Entry) (c : Clause) → IsAcceptedState p s → live_at s place ≡ o → option_and_then lemma_clause o ≡ Some c → AreKnown (var_count p) c.atoms
+lemma_known p s place None c h k e = absurd (cc)
+lemma_known p s place (Some (Best by values)) c h k e = absurd (cc)
+lemma_known p s place (Some (Lemma by clause hints bound)) c h k e =
+    let passed = live_passes p s place (Lemma by clause hints bound) h k in
+    subst (λ (x : Clause). AreKnown (var_count p) x.atoms) (same_Some clause c e) (lemma_fits p passed.0 by clause hints bound passed.1)
+
+-- the atoms of a live lemma have variables of the problem
+pub lemma_atoms_known : (p : Instance) (s : LogState) (place : ℕ) (c : Clause) → IsAcceptedState p s → option_and_then lemma_clause (live_at s place) ≡ Some c → AreKnown (var_count p) c.atoms
+lemma_atoms_known p s place c h e = lemma_known p s place (live_at s place) c h refl e
 
 fault_unless-None : {X : Type 0} (t : Bool) (x : X) → fault_unless t x ≡ None → t ≡ true
 fault_unless-None true x h = refl
@@ -125,31 +128,23 @@ best_fits p s by values wf h =
     let none = AreNone-from_first (faults p s (Best by values)) h in
     AreValuesOf-from_none p values wf (option_map-None (fault_of (length values)) (first_violation p values) none.1.0)
 
-values_fit : (p : Instance) (log : List Entry) (i : ℕ) (o : Option Entry) (values : List ℤ) → IsWellFormed p → IsAccepted p log → slice_get log i ≡ o → option_and_then entry_values o ≡ Some values → AreValuesOf p values
-values_fit p log i None values wf h k e = absurd (cc)
-values_fit p log i (Some (Lemma by clause hints bound)) values wf h k e = absurd (cc)
-values_fit p log i (Some (Best by vs)) values wf h k e =
-    let at = accepted_at p log i (Best by vs) h k in
-    subst (λ (x : List ℤ). AreValuesOf p x) (same_Some vs values e) (best_fits p at.0 by vs wf at.1)
+values_fit : (p : Instance) (s : LogState) (place : ℕ) (o : Option Entry) (values : List ℤ) → IsWellFormed p → IsAcceptedState p s → live_at s place ≡ o → option_and_then entry_values o ≡ Some values → AreValuesOf p values
+values_fit p s place None values wf h k e = absurd (cc)
+values_fit p s place (Some (Lemma by clause hints bound)) values wf h k e = absurd (cc)
+values_fit p s place (Some (Best by vs)) values wf h k e =
+    let passed = live_passes p s place (Best by vs) h k in
+    subst (λ (x : List ℤ). AreValuesOf p x) (same_Some vs values e) (best_fits p passed.0 by vs wf passed.1)
 
--- the values of a best of the log are those of the problem's variables
-pub best_values_fit : (p : Instance) (log : List Entry) (ordinal : ℕ) (values : List ℤ) → IsWellFormed p → IsAccepted p log → live_at (state_of log).bests ordinal ≡ Some values → AreValuesOf p values
-best_values_fit p log ordinal values wf h e =
-    let there = live_values log ordinal values e in
-    values_fit p log there.0 (slice_get log there.0) values wf h refl there.1
+best_fits_at : (p : Instance) (s : LogState) (o : Option ℕ) (values : List ℤ) → IsWellFormed p → IsAcceptedState p s → option_and_then (values_at_place s) o ≡ Some values → AreValuesOf p values
+best_fits_at p s None values wf h e = absurd (cc)
+best_fits_at p s (Some place) values wf h e = values_fit p s place (live_at s place) values wf h refl e
 
--- so are those of the last best
-pub last_best_fits : (p : Instance) (log : List Entry) (index : Index) (values : List ℤ) → IsWellFormed p → IsAccepted p log → IsIndexOf index log → Some values ≡ last_best (state_of log) → AreValuesOf p values
-last_best_fits p log index values wf h own e =
-    best_values_fit p log (length index.bests) values wf h (sym (last_by_index log index own) ∙ sym e)
+-- the values of a live best are those of the problem's variables
+pub best_values_fit : (p : Instance) (s : LogState) (ordinal : ℕ) (values : List ℤ) → IsWellFormed p → IsAcceptedState p s → best_at s ordinal ≡ Some values → AreValuesOf p values
+best_values_fit p s ordinal values wf h e = best_fits_at p s (item_at s.bests ordinal) values wf h e
 
 -- the objectives have such values
 pub objectives_known : (p : Instance) (os : List Var) (values : List ℤ) → os ≡ p.objectives → IsWellFormed p → AreValuesOf p values → All (λ v. v.0 < length values) os
 objectives_known p os values e wf fit =
     let known : All (λ (v : Var). v.0 < var_count p) os = subst (λ (xs : List Var). All (λ (v : Var). v.0 < var_count p) xs) (sym e) wf.objectives in
     subst (λ (n : ℕ). All (λ (v : Var). v.0 < n) os) (sym fit.count) known
-
--- the empty log is accepted
-pub accepted_none : (p : Instance) → IsAccepted p []
-unfolding IsAccepted
-accepted_none p = tt

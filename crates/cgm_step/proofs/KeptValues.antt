@@ -5,11 +5,11 @@ use Rattle.std.specs.declared.option.Option.{Option}
 use Rattle.std.specs.declared.option.Option.TheVariants.{Some, None}
 use Rattle.cgm_atom.specs.Bounds.{Bounds, IsWithin}
 use Rattle.cgm_atom.specs.Laws.{IsLeft}
-use Rattle.cgm_atom.specs.LogState.{Constraint, left_by, left_by_named, of_clause, of_row}
+use Rattle.cgm_atom.specs.Constraints.{Constraint, left_by, left_by_named, of_clause, of_row, IsMetBy}
 use Rattle.cgm_atom.proofs.Keeping.{within_left_by_clause, within_left_by_row}
-use Rattle.cgm_step.specs.declared.outcome.Narrowed.{Narrowed}
-use Rattle.cgm_step.specs.declared.outcome.Narrowed.TheVariants.{Same, Tighter, Conflict}
-use Rattle.cgm_step.specs.Outcome.{HasNoValues, IsMetBy, IsNarrowing, KeepsValues}
+use Rattle.cgm_atom.specs.declared.outcome.Narrowed.{Narrowed}
+use Rattle.cgm_atom.specs.declared.outcome.Narrowed.TheVariants.{Same, Tighter, Conflict}
+use Rattle.cgm_atom.specs.Outcome.{HasNoValues, IsNarrowing, KeepsValues}
 
 left_kept : (b : Bounds) (c : Constraint) (values : List ℤ) → IsWithin b values → IsMetBy values c → IsLeft (left_by b c) values
 left_kept b (of_clause c) values within h = within_left_by_clause b c values within h

@@ -1,11 +1,6 @@
-pub mod Tightening
-pub mod CutParts
-pub mod RowSums
-pub mod Leaving
-pub mod RowTightening
-pub mod States
 pub mod Accepted
-pub mod Names
-pub mod RowLimits
-pub mod Testing
 pub mod KeptValues
+pub mod Names
+pub mod States
+pub mod Testing
+pub mod Touching

@@ -7,51 +7,60 @@ use Rattle.std.specs.Option.{option_and_then, option_map, option_map_or}
 use Rattle.cgm_atom.specs.declared.constraints.Atom.{Atom}
 use Rattle.cgm_atom.specs.declared.constraints.Clause.{Clause}
 use Rattle.cgm_atom.specs.declared.entries.Entry.{Entry}
+use Rattle.cgm_atom.specs.declared.entries.Entry.TheVariants.{Lemma}
 use Rattle.cgm_atom.specs.declared.entries.Hint.{Hint}
 use Rattle.cgm_atom.specs.declared.entries.Hint.TheVariants as hint
-use Rattle.cgm_atom.specs.Acceptance.{IsAccepted}
+use Rattle.cgm_atom.specs.Acceptance.{IsAcceptedState}
+use Rattle.cgm_atom.specs.ClauseAtoms.{AreKnown}
+use Rattle.cgm_atom.specs.Constraints.{Constraint, of_clause}
 use Rattle.cgm_atom.specs.Cut.{cut}
-use Rattle.cgm_atom.specs.Instance.{Instance, vector, var_count}
-use Rattle.cgm_atom.specs.LogState.{Constraint, LogState, carried, lemma_bound, lemma_clause, live_at, named, of_clause, of_row, state_of}
+use Rattle.cgm_atom.specs.Instance.{Instance, var_count, vector}
+use Rattle.cgm_atom.specs.LogState.{LogState, best_at, carried, lemma_bound, lemma_clause, live_at, named}
+use Rattle.cgm_step.specs.declared.naming.Found.{Found}
 use Rattle.cgm_step.specs.declared.naming.Named.{Named}
-use Rattle.cgm_step.specs.Naming.{AreKnown, IsFound}
+use Rattle.cgm_step.specs.Naming.{IsFound, IsNamed}
 use Rattle.cgm_step.proofs.Accepted.{lemma_atoms_known}
 
-pub found_by : (p : Instance) (there there' : Option Constraint) (o : Option Named) → there ≡ there' → IsFound p there' o → IsFound p there o
-found_by p there there' o e h = subst (λ (x : Option Constraint). IsFound p x o) (sym e) h
+-- the item that a hint names, with what the hint carries
+pub found_with : (p : Instance) (s : LogState) (h : Hint) (there : Option Constraint) (n : ℕ) (o : Option Named) (r : Option Found) → named p s h ≡ there → carried s h ≡ n → IsNamed p there o → r ≡ option_map (λ (m : Named). record { named = m; carried = n }) o → IsFound p s h r
+found_with p s h there n None r e k found same = subst (λ (x : Option Found). IsFound p s h x) (sym same) (e ∙ found)
+found_with p s h there n (Some m) r e k found same =
+    subst (λ (x : Option Found). IsFound p s h x) (sym same) (e ∙ found.0, found.1, sym k)
 
-pub named-Clause : (p : Instance) (s : LogState) (h : Hint) (n : ℕ) → h ≡ hint.Clause n → named p s h ≡ option_map of_clause (slice_get p.clauses n)
+-- the same hint, given by an equation
+pub found_as : (p : Instance) (s : LogState) (h same : Hint) (r : Option Found) → h ≡ same → IsFound p s same r → IsFound p s h r
+found_as p s h same r e found = subst (λ (x : Hint). IsFound p s x r) (sym e) found
+
+-- ---- a part of the cut of the best with an ordinal
+
+pub named-Cut : (p : Instance) (s : LogState) (ordinal part : ℕ) (values : List ℤ) → Some values ≡ best_at s ordinal → named p s (hint.Cut ordinal part) ≡ option_map of_clause (slice_get (cut p.objectives (vector p values)) part)
 unfolding named
-named-Clause p s h n e = ap (named p s) e
+named-Cut p s ordinal part values e =
+    ap (λ (o : Option (List ℤ)). option_map of_clause (option_and_then (λ vs. slice_get (cut p.objectives (vector p vs)) part) o)) (sym e)
 
-pub named-Row : (p : Instance) (s : LogState) (h : Hint) (n : ℕ) → h ≡ hint.Row n → named p s h ≡ option_map of_row (slice_get p.rows n)
+pub named-Cut_gone : (p : Instance) (s : LogState) (ordinal part : ℕ) → None ≡ best_at s ordinal → named p s (hint.Cut ordinal part) ≡ None
 unfolding named
-named-Row p s h n e = ap (named p s) e
+named-Cut_gone p s ordinal part e =
+    ap (λ (o : Option (List ℤ)). option_map of_clause (option_and_then (λ vs. slice_get (cut p.objectives (vector p vs)) part) o)) (sym e)
 
-pub named-Own : (p : Instance) (s : LogState) (h : Hint) (n : ℕ) → h ≡ hint.Own n → named p s h ≡ None
+-- ---- the clause of the entry at a place
+
+by_lemma : (p : Instance) (s : LogState) (place : ℕ) (o : Option Entry) → live_at s place ≡ o → named p s (hint.Entry place) ≡ option_map of_clause (option_and_then lemma_clause o)
 unfolding named
-named-Own p s h n e = ap (named p s) e
+by_lemma p s place o e = ap (λ (x : Option Entry). option_map of_clause (option_and_then lemma_clause x)) e
 
-pub named-Entry : (p : Instance) (s : LogState) (h : Hint) (place : ℕ) (o : Option Clause) → h ≡ hint.Entry place → o ≡ option_and_then lemma_clause (live_at s.entries place) → named p s h ≡ option_map of_clause o
-unfolding named
-named-Entry p s h place o e k = ap (named p s) e ∙ ap (option_map of_clause) (sym k)
-
-pub named-Cut : (p : Instance) (s : LogState) (h : Hint) (best part : ℕ) (o : Option (List ℤ)) → h ≡ hint.Cut best part → o ≡ live_at s.bests best → named p s h ≡ option_map of_clause (option_and_then (λ values. slice_get (cut p.objectives (vector p values)) part) o)
-unfolding named
-named-Cut p s h best part o e k =
-    ap (named p s) e
-    ∙ ap (λ (x : Option (List ℤ)). option_map of_clause (option_and_then (λ values. slice_get (cut p.objectives (vector p values)) part) x)) (sym k)
-
--- the clause of a lemma that a hint names
-pub lemma_found : (p : Instance) (log : List Entry) (h : Hint) (place : ℕ) (clause : Clause) (atoms : List Atom) → IsAccepted p log → h ≡ hint.Entry place → Some clause ≡ option_and_then lemma_clause (live_at (state_of log).entries place) → atoms ≡ clause.atoms
-    → (named p (state_of log) h ≡ Some (of_clause (record { atoms = atoms }))) × (Unit {0} × AreKnown (var_count p) atoms)
-lemma_found p log h place clause atoms accepted e k same = (
-  named-Entry p (state_of log) h place (Some clause) e k ∙ ap (λ (xs : List Atom). Some (of_clause (record { atoms = xs }))) (sym same),
-  (tt, subst (λ (xs : List Atom). AreKnown (var_count p) xs) (sym same) (lemma_atoms_known p log place clause accepted (sym k))),
-)
-
--- ---- what is carried
-
-pub carried-Entry : (s : LogState) (h : Hint) (place : ℕ) (o : Option Entry) → h ≡ hint.Entry place → o ≡ live_at s.entries place → carried s h ≡ option_map_or lemma_bound o 0
+carried_by_lemma : (s : LogState) (place : ℕ) (o : Option Entry) → live_at s place ≡ o → carried s (hint.Entry place) ≡ option_map_or lemma_bound o 0
 unfolding carried
-carried-Entry s h place o e k = ap (carried s) e ∙ ap (λ (x : Option Entry). option_map_or lemma_bound x 0) (sym k)
+carried_by_lemma s place o e = ap (λ (x : Option Entry). option_map_or lemma_bound x 0) e
+
+pub lemma_found : (p : Instance) (s : LogState) (place by bound : ℕ) (clause : Clause) (hints : List Hint) (atoms : List Atom) → IsAcceptedState p s → Some (Lemma by clause hints bound) ≡ live_at s place → atoms ≡ clause.atoms
+    → (named p s (hint.Entry place) ≡ Some (of_clause (record { atoms = atoms }))) × (Unit {0} × AreKnown (var_count p) atoms) × (bound ≡ carried s (hint.Entry place))
+lemma_found p s place by bound clause hints atoms accepted e same =
+    let known = lemma_atoms_known p s place clause accepted (ap (option_and_then lemma_clause) (sym e)) in (
+      by_lemma p s place _ (sym e) ∙ ap (λ (xs : List Atom). Some (of_clause (record { atoms = xs }))) (sym same),
+      (tt, subst (λ (xs : List Atom). AreKnown (var_count p) xs) (sym same) known),
+      sym (carried_by_lemma s place _ (sym e)),
+    )
+
+pub no_lemma_found : (p : Instance) (s : LogState) (place : ℕ) (o : Option Entry) → o ≡ live_at s place → option_and_then lemma_clause o ≡ None → named p s (hint.Entry place) ≡ None
+no_lemma_found p s place o e h = by_lemma p s place o (sym e) ∙ ap (option_map of_clause) h

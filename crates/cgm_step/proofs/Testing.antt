@@ -1,12 +1,12 @@
 -- The tests of an entry as far as a loop has come.
-use Rattle.std.proofs.Common.{◌≡◌, ℕ, ◌+◌, ◌<◌, ◌≤◌, Bool, true, false, cond, not, nat_lt, List, ◌∷◌, length, get_or, map, drop, refl, ap, sym, ◌∙◌, arith}
+use Rattle.std.proofs.Common.{◌≡◌, ℕ, ◌≤◌, Bool, true, false, cond, not, nat_lt, List, ◌∷◌, length, map, drop, [], ap, sym, subst, inr, ◌∙◌, arith}
 use Rattle.std.specs.Prelude.{ℤ, pos, ◌+ℤ◌, ◌-ℤ◌, int_le, int_lt}
 use Rattle.std.specs.declared.option.Option.{Option}
 use Rattle.std.specs.declared.option.Option.TheVariants.{Some, None}
 use Rattle.std.specs.List.{position_from}
-use Rattle.std.specs.Option.{IsNone, is_none, option_and_then}
+use Rattle.std.specs.Option.{is_none, option_and_then}
 use Rattle.std.proofs.lemmas.Int.{ints}
-use Rattle.std.proofs.lemmas.List.{drop_more, drop_all}
+use Rattle.std.proofs.lemmas.List.{drop_all}
 use Rattle.cgm_atom.specs.declared.constraints.Atom.{Atom}
 use Rattle.cgm_atom.specs.declared.constraints.Clause.{Clause}
 use Rattle.cgm_atom.specs.declared.entries.Entry.TheVariants.{Best}
@@ -17,7 +17,9 @@ use Rattle.cgm_atom.specs.Bounds.{Bounds, IsBoxOf, lower_of, upper_of}
 use Rattle.cgm_atom.specs.Instance.{Instance}
 use Rattle.cgm_atom.specs.LogState.{LogState, all_narrowed, named}
 use Rattle.cgm_atom.specs.Narrowing.{all_assumed, is_false_in, is_true_in, made_true}
-use Rattle.cgm_step.proofs.RowTightening.{length-made_true}
+use Rattle.cgm_atom.proofs.RowTightening.{length-made_true}
+use Rattle.cgm_step.specs.Touching.{ChangesOnly, IsAmong, vars_of_atoms}
+use Rattle.cgm_step.proofs.Touching.{changes_both, changes_more, first_among, made_true_changes}
 
 -- ---- the first item with a fault
 
@@ -26,18 +28,6 @@ is_unknown count a = not (nat_lt a.var.0 count)
 
 abbrev pub is_missing : Instance → LogState → Hint → Bool
 is_missing p s h = is_none (named p s h)
-
-position_at : {X : Type 0} (f : X → Bool) (xs : List X) (i : ℕ) (d : X) → i < length xs → position_from f i (drop i xs) ≡ cond (f (get_or xs i d)) (Some i) (position_from f (i + 1) (drop (i + 1) xs))
-position_at f xs i d h = ap (position_from f i) (drop_more xs i d h)
-
--- the item at a place is the first, where the place is the first from itself on
-pub first_here : {X : Type 0} (f : X → Bool) (xs : List X) (i : ℕ) (d : X) → i < length xs → position_from f i (drop i xs) ≡ position_from f 0 xs → f (get_or xs i d) ≡ true → position_from f 0 xs ≡ Some i
-first_here f xs i d h far e =
-    sym far ∙ position_at f xs i d h ∙ ap (λ (t : Bool). cond t (Some i) (position_from f (i + 1) (drop (i + 1) xs))) e
-
-pub first_later : {X : Type 0} (f : X → Bool) (xs : List X) (i : ℕ) (d : X) → i < length xs → position_from f i (drop i xs) ≡ position_from f 0 xs → f (get_or xs i d) ≡ false → position_from f (i + 1) (drop (i + 1) xs) ≡ position_from f 0 xs
-first_later f xs i d h far e =
-    sym (ap (λ (t : Bool). cond t (Some i) (position_from f (i + 1) (drop (i + 1) xs))) e) ∙ sym (position_at f xs i d h) ∙ far
 
 -- past the end there is none
 pub first_nowhere : {X : Type 0} (f : X → Bool) (xs : List X) (i : ℕ) → length xs ≤ i → position_from f i (drop i xs) ≡ position_from f 0 xs → position_from f 0 xs ≡ None
@@ -67,10 +57,9 @@ is_false_in-negation b a = opposite b a.var.0 a.at_least a.k
 pub record AreAssumedSoFar (old : Bounds) (atoms rest : List Atom) (now : Bounds) : Type 0 where
   pub left : all_assumed now (map negation rest) ≡ all_assumed old (map negation atoms)
   pub count : length now.lower ≡ length old.lower
+  pub among : (x : ℕ) → IsAmong x (vars_of_atoms rest) → IsAmong x (vars_of_atoms atoms)
+  pub touched : ChangesOnly (vars_of_atoms atoms) old now
   pub within : (limits : Bounds) → IsBoxOf limits old → IsBoxOf limits now
-
-pub assuming_begins : (b : Bounds) (atoms : List Atom) → AreAssumedSoFar b atoms atoms b
-assuming_begins b atoms = record { left = refl; count = refl; within = λ limits box. box }
 
 pub assuming_steps : (old : Bounds) (atoms rest : List Atom) (a : Atom) (now new : Bounds) → AreAssumedSoFar old atoms (a ∷ rest) now → is_true_in now a ≡ false → new ≡ made_true now (negation a) → ((limits : Bounds) → IsBoxOf limits now → IsBoxOf limits new) → AreAssumedSoFar old atoms rest new
 assuming_steps old atoms rest a now new far e h within = record {
@@ -79,7 +68,12 @@ assuming_steps old atoms rest a now new far e h within = record {
       ∙ sym (ap (λ (t : Bool). cond t None (all_assumed (made_true now (negation a)) (map negation rest))) (is_false_in-negation now a ∙ e))
       ∙ far.left;
   count = ap (λ (b : Bounds). length b.lower) h ∙ length-made_true now (negation a) ∙ far.count;
-  within = λ limits box. within limits (far.within limits box);
+  among = λ x k. far.among x (inr k);
+  touched =
+      changes_both (vars_of_atoms atoms) old now new far.touched
+      (subst (λ (b : Bounds). ChangesOnly (vars_of_atoms atoms) now b) (sym h)
+      (changes_more (a.var.0 ∷ []) (vars_of_atoms atoms) now (made_true now (negation a)) (λ x k. far.among x (first_among x a.var.0 (vars_of_atoms rest) k)) (made_true_changes now (negation a))));
+  within = λ limits place. within limits (far.within limits place);
 }
 
 pub assuming_stops : (old : Bounds) (atoms rest : List Atom) (a : Atom) (now : Bounds) → AreAssumedSoFar old atoms (a ∷ rest) now → is_true_in now a ≡ true → all_assumed old (map negation atoms) ≡ None
@@ -89,24 +83,14 @@ assuming_stops old atoms rest a now far e =
 
 -- ---- refutations
 
-pub all_assumed-same : (b b' : Bounds) (xs xs' : List Atom) (o : Option Bounds) → b ≡ b' → xs ≡ xs' → all_assumed b (map negation xs) ≡ o → all_assumed b' (map negation xs') ≡ o
-all_assumed-same b b' xs xs' o e h k =
-    sym (ap (λ (x : Bounds). all_assumed x (map negation xs)) e ∙ ap (λ (ys : List Atom). all_assumed b' (map negation ys)) h) ∙ k
-
-pub refuted_at_once : (p : Instance) (s : LogState) (c : Clause) (hints : List Hint) → all_assumed p.bounds (map negation c.atoms) ≡ None → is_refuted p s c hints ≡ true
+pub refuted_at_once : (p : Instance) (s : LogState) (c : Clause) (hints : List Hint) (b : Bounds) → b ≡ p.bounds → all_assumed b (map negation c.atoms) ≡ None → true ≡ is_refuted p s c hints
 unfolding is_refuted
-refuted_at_once p s c hints e = ap (λ (o : Option Bounds). is_none (option_and_then (λ b. all_narrowed p s b hints) o)) e
+refuted_at_once p s c hints b same e =
+    let none : all_assumed p.bounds (map negation c.atoms) ≡ None = subst (λ (x : Bounds). all_assumed x (map negation c.atoms) ≡ None) same e in
+    sym (ap (λ (o : Option Bounds). is_none (option_and_then (λ x. all_narrowed p s x hints) o)) none)
 
-refuted_by : (p : Instance) (s : LogState) (c : Clause) (hints : List Hint) (b : Bounds) → all_assumed p.bounds (map negation c.atoms) ≡ Some b → is_refuted p s c hints ≡ is_none (all_narrowed p s b hints)
+pub refuted_by_hints : (p : Instance) (s : LogState) (c : Clause) (hints : List Hint) (b left : Bounds) (t : Bool) → b ≡ p.bounds → all_assumed b (map negation c.atoms) ≡ Some left → t ≡ is_none (all_narrowed p s left hints) → t ≡ is_refuted p s c hints
 unfolding is_refuted
-refuted_by p s c hints b e = ap (λ (o : Option Bounds). is_none (option_and_then (λ x. all_narrowed p s x hints) o)) e
-
-pub refuted : (p : Instance) (s : LogState) (c : Clause) (hints : List Hint) (b : Bounds) → all_assumed p.bounds (map negation c.atoms) ≡ Some b → IsNone (all_narrowed p s b hints) → is_refuted p s c hints ≡ true
-refuted p s c hints b e h = refuted_by p s c hints b e ∙ ap not h
-
-some_of : {X : Type 0} (o : Option X) → ¬ IsNone o → is_none o ≡ false
-some_of None h = absurd (h refl)
-some_of (Some x) h = refl
-
-pub not_refuted : (p : Instance) (s : LogState) (c : Clause) (hints : List Hint) (b : Bounds) → all_assumed p.bounds (map negation c.atoms) ≡ Some b → ¬ IsNone (all_narrowed p s b hints) → is_refuted p s c hints ≡ false
-not_refuted p s c hints b e h = refuted_by p s c hints b e ∙ some_of (all_narrowed p s b hints) h
+refuted_by_hints p s c hints b left t same e k =
+    let some : all_assumed p.bounds (map negation c.atoms) ≡ Some left = subst (λ (x : Bounds). all_assumed x (map negation c.atoms) ≡ Some left) same e in
+    k ∙ sym (ap (λ (o : Option Bounds). is_none (option_and_then (λ x. all_narrowed p s x hints) o)) some)

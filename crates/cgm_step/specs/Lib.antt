@@ -1,4 +1,4 @@
 pub mod Indexing
 pub mod Naming
 pub mod Outcome
-pub mod Steps
+pub mod Touching

@@ -1,26 +1,22 @@
 //! The test of the next entry of a log.
-ghost use Rattle.std.specs.Prelude.{◌≡◌, ◌+◌, ◌<◌, ◌==◌, length, map, nat_lt, not, Some, None, MatchBool, OnOk};
+ghost use Rattle.std.specs.Prelude.{◌≡◌, ◌+◌, ◌<◌, ◌==◌, length, map, nat_lt, not, Some, None, MatchBool, IfOk, OnOk};
 ghost use Rattle.std.specs.List.{All, position_from};
 ghost use Rattle.std.specs.Option.{is_none, option_map};
 ghost use Rattle.cgm_atom.specs.declared.entries.BadStep.TheVariants as fault;
 ghost use Rattle.cgm_atom.specs.declared.entries.Entry.TheVariants as entry;
-ghost use Rattle.cgm_atom.specs.Acceptance.{IsAccepted, fault_of, first_fault, is_refuted};
-ghost use Rattle.cgm_atom.specs.Atoms.{negation};
-ghost use Rattle.cgm_atom.specs.Bounds.{Bounds, IsBoxOf};
+ghost use Rattle.cgm_atom.specs.Acceptance.{IsAcceptedState, fault_of, first_fault, is_refuted};
 ghost use Rattle.cgm_atom.specs.Instance.{fault_unless, first_violation, values_at, var_count, vector};
-ghost use Rattle.cgm_atom.specs.LogState.{greatest_carried, last_best as state_last_best, named, state_of};
-ghost use Rattle.cgm_atom.specs.Narrowing.{all_assumed};
+ghost use Rattle.cgm_atom.specs.LogState.{greatest_carried, last_best, named};
 ghost use Rattle.cgm_atom.specs.Order.{is_below, is_less as is_less_vector};
-ghost use Rattle.cgm_step.specs.Indexing.{IsIndexOf};
-ghost use Rattle.cgm_step.specs.Naming.{AreKnown, AreValuesOf};
+ghost use Rattle.cgm_atom.specs.ClauseAtoms.{AreKnown};
+ghost use Rattle.cgm_atom.specs.Limits.{AreValuesOf};
 ghost use Rattle.cgm_step.specs.Outcome.{IsVerdict};
 
-use crate::atoms::{make_true, negated};
-use crate::index::LogIndex;
-use crate::naming::{carried_by, find, last_best};
-use crate::narrowing::reaches_conflict;
+use crate::indexed::IndexedLog;
+use crate::refuting::refutes;
 use cgm_atom::{
     Atom, BadStep, BoxState, Clause, Entry, Hint, Problem, Var, Violated, first_violated,
+    make_true, negated,
 };
 
 /// Tests the next entry of a log: answers the fault of the first test that it fails, in their order.
@@ -28,73 +24,68 @@ use cgm_atom::{
 /// For a best: no lemma without atoms stands before it, its values are a solution, and its vector is less than
 /// that of the last best. For a lemma: none without atoms stands before it, its variables exist, its hints name
 /// something, its bound is the greatest that they carry, and they refute it.
-/// `work` is afterwards some box of the problem, also after a refusal. Takes no memory.
-/// Condition: the log is accepted, the index is its own, and `work` is a box of the problem.
+/// Takes no memory: what a lemma's atoms and the hints that were used have touched of `work` is taken back.
+/// Condition: the log is accepted, and `work` is the problem's own box, which it is again afterwards.
 #[tactic(auto, unfolding(cgm_atom::specs::Acceptance::first_fault))]
 pub fn accepts_next(
     p: &Problem,
-    log: &[Entry],
-    index: &LogIndex,
+    log: &IndexedLog<'_>,
     next: &Entry,
     work: &mut BoxState,
 ) -> Result<(), BadStep>
-    requires accepted { IsAccepted p.now log.now }
-    requires own { IsIndexOf index.now log.now }
-    requires in_box { IsBoxOf p.now.bounds work.old }
-    ensures exact { IsVerdict (first_fault p.now (state_of log.now) next.now) result }
-    ensures within { IsBoxOf p.now.bounds work.new }
+    requires accepted { IsAcceptedState p.now log.now }
+    requires own_box { work.old ≡ p.now.bounds }
+    ensures exact { IsVerdict (first_fault p.now log.now next.now) result }
+    ensures own_box { work.new ≡ p.now.bounds }
 {
     match next {
-        Entry::Best { values, .. } => accepts_best(p, log, index, values.as_slice()),
+        Entry::Best { values, .. } => accepts_best(p, log, values.as_slice()),
         Entry::Lemma {
             clause,
             hints,
             bound,
             ..
-        } => accepts_lemma(p, log, index, clause, hints.as_slice(), *bound, work),
+        } => accepts_lemma(p, log, clause, hints.as_slice(), *bound, work),
     }
 }
 
-#[tactic(auto, using(crate::proofs::States::closed_by_index), unfolding(cgm_atom::specs::Acceptance::first_fault))]
-fn accepts_best(p: &Problem, log: &[Entry], index: &LogIndex, values: &[i64]) -> Result<(), BadStep>
-    requires accepted { IsAccepted p.now log.now }
-    requires own { IsIndexOf index.now log.now }
-    ensures { IsVerdict (first_fault p.now (state_of log.now) (entry.Best 0 values.now)) result }
+#[tactic(auto, unfolding(cgm_atom::specs::Acceptance::first_fault))]
+fn accepts_best(p: &Problem, log: &IndexedLog<'_>, values: &[i64]) -> Result<(), BadStep>
+    requires accepted { IsAcceptedState p.now log.now }
+    ensures { IsVerdict (first_fault p.now log.now (entry.Best 0 values.now)) result }
 {
-    test_open(index)?;
+    test_open(log)?;
     test_values(p, values)?;
-    test_less(p, log, index, values)
+    test_less(p, log, values)
 }
 
-#[tactic(auto, using(crate::proofs::States::closed_by_index), unfolding(cgm_atom::specs::Acceptance::first_fault))]
+#[tactic(auto, unfolding(cgm_atom::specs::Acceptance::first_fault))]
 fn accepts_lemma(
     p: &Problem,
-    log: &[Entry],
-    index: &LogIndex,
+    log: &IndexedLog<'_>,
     clause: &Clause,
     hints: &[Hint],
     bound: u64,
     work: &mut BoxState,
 ) -> Result<(), BadStep>
-    requires accepted { IsAccepted p.now log.now }
-    requires own { IsIndexOf index.now log.now }
-    requires in_box { IsBoxOf p.now.bounds work.old }
-    ensures exact { IsVerdict (first_fault p.now (state_of log.now) (entry.Lemma 0 clause.now
+    requires accepted { IsAcceptedState p.now log.now }
+    requires own_box { work.old ≡ p.now.bounds }
+    ensures exact { IsVerdict (first_fault p.now log.now (entry.Lemma 0 clause.now
         hints.now bound)) result }
-    ensures within { IsBoxOf p.now.bounds work.new }
+    ensures own_box { work.new ≡ p.now.bounds }
 {
-    test_open(index)?;
+    test_open(log)?;
     test_atoms(p, clause.atoms.as_slice())?;
-    test_hints(p, log, index, hints)?;
-    test_bound(log, hints, bound)?;
-    test_refuted(p, log, index, clause, hints, work)
+    let found = test_hints(p, log, hints)?;
+    test_bound(found, bound)?;
+    test_refuted(p, log, clause, hints, work)
 }
 
 /// No lemma without atoms stands in the log.
-fn test_open(index: &LogIndex) -> Result<(), BadStep>
-    ensures { IsVerdict (fault_unless (not index.now.closed) fault.AfterEnd) result }
+fn test_open(log: &IndexedLog<'_>) -> Result<(), BadStep>
+    ensures { IsVerdict (fault_unless (not log.now.closed) fault.AfterEnd) result }
 {
-    if index.is_closed() {
+    if log.is_closed() {
         return Err(BadStep::AfterEnd);
     }
     Ok(())
@@ -106,7 +97,7 @@ fn test_values(p: &Problem, values: &[i64]) -> Result<(), BadStep>
         values.now)) result }
     ensures fit { OnOk result (AreValuesOf p.now values.now) }
 {
-    let _valid = p.objectives();
+    p.recall_well_formed();
     match first_violated(p, values) {
         Some(violated) => Err(fault_for(values.len() as u64, violated)),
         None => Ok(()),
@@ -125,16 +116,15 @@ fn fault_for(given: u64, violated: Violated) -> BadStep
 }
 
 /// The vector of the values is less than that of the last best, if there is one.
-fn test_less(p: &Problem, log: &[Entry], index: &LogIndex, values: &[i64]) -> Result<(), BadStep>
-    requires accepted { IsAccepted p.now log.now }
-    requires own { IsIndexOf index.now log.now }
+fn test_less(p: &Problem, log: &IndexedLog<'_>, values: &[i64]) -> Result<(), BadStep>
+    requires accepted { IsAcceptedState p.now log.now }
     requires values { AreValuesOf p.now values.now }
     ensures { IsVerdict
-        (fault_unless (is_below (vector p.now values.now) (option_map (vector p.now) (state_last_best (state_of log.now)))) fault.NotLess)
+        (fault_unless (is_below (vector p.now values.now) (option_map (vector p.now) (last_best log.now))) fault.NotLess)
         result }
 {
     let objectives = p.objectives();
-    match last_best(log, index) {
+    match log.last_best() {
         Some(best) => {
             if is_less(objectives, values, best) {
                 return Ok(());
@@ -145,7 +135,9 @@ fn test_less(p: &Problem, log: &[Entry], index: &LogIndex, values: &[i64]) -> Re
     }
 }
 
-fn is_less(objectives: &[Var], values: &[i64], others: &[i64]) -> bool
+/// Whether the objective values are less than those of the others, in their order.
+/// Condition: each objective has a value in both.
+pub fn is_less(objectives: &[Var], values: &[i64], others: &[i64]) -> bool
     requires known { All (λ v. v.0 < length values.now) objectives.now }
     requires others_known { All (λ v. v.0 < length others.now) objectives.now }
     ensures { result ≡ is_less_vector (values_at values.now objectives.now) (values_at others.now
@@ -171,107 +163,60 @@ fn test_atoms(p: &Problem, atoms: &[Atom]) -> Result<(), BadStep>
     ensures known { OnOk result (AreKnown (var_count p.now) atoms.now) }
 {
     for (i, a) in atoms.iter().enumerate() {
+        let place = i as u64 + 1;
         if a.var.0 >= p.vars() {
-            return Err(BadStep::Atom {
-                place: i as u64 + 1,
-            });
+            return Err(BadStep::Atom { place });
         }
     }
     Ok(())
 }
 
-/// The hints name something.
-fn test_hints(p: &Problem, log: &[Entry], index: &LogIndex, hints: &[Hint]) -> Result<(), BadStep>
-    requires accepted { IsAccepted p.now log.now }
-    requires own { IsIndexOf index.now log.now }
-    ensures { IsVerdict
-        (option_map (λ i. fault.Hint (i + 1)) (position_from (λ h. is_none (named p.now (state_of log.now) h)) 0 hints.now))
+/// The hints name something. Answers the greatest that they carry.
+fn test_hints<'l>(p: &'l Problem, log: &IndexedLog<'l>, hints: &[Hint]) -> Result<u64, BadStep>
+    requires accepted { IsAcceptedState p.now log.now }
+    ensures exact { IsVerdict
+        (option_map (λ i. fault.Hint (i + 1)) (position_from (λ h. is_none (named p.now log.now h)) 0 hints.now))
         result }
+    ensures greatest { IfOk result (λ found. found ≡ greatest_carried log.now hints.now) }
 {
+    let mut greatest = 0;
     for (i, h) in hints.iter().enumerate() {
-        if !is_there(p, log, index, h) {
-            return Err(BadStep::Hint {
-                place: i as u64 + 1,
-            });
+        let place = i as u64 + 1;
+        match log.find(p, h) {
+            Some(found) => greatest = found.carried.max(greatest),
+            None => return Err(BadStep::Hint { place }),
         }
     }
-    Ok(())
-}
-
-fn is_there(p: &Problem, log: &[Entry], index: &LogIndex, h: &Hint) -> bool
-    requires accepted { IsAccepted p.now log.now }
-    requires own { IsIndexOf index.now log.now }
-    ensures { result ≡ not (is_none (named p.now (state_of log.now) h.now)) }
-{
-    match find(p, log, index, h) {
-        Some(_) => true,
-        None => false,
-    }
+    Ok(greatest)
 }
 
 /// The bound is the greatest that the hints carry.
-fn test_bound(log: &[Entry], hints: &[Hint], bound: u64) -> Result<(), BadStep>
-    ensures { IsVerdict
-        (fault_unless (bound == greatest_carried (state_of log.now) hints.now) (fault.Bound (greatest_carried (state_of log.now) hints.now)))
-        result }
+fn test_bound(found: u64, bound: u64) -> Result<(), BadStep>
+    ensures { IsVerdict (fault_unless (bound == found) (fault.Bound found)) result }
 {
-    let found = greatest_bound(log, hints);
     if bound == found {
         return Ok(());
     }
     Err(BadStep::Bound { found })
 }
 
-fn greatest_bound(log: &[Entry], hints: &[Hint]) -> u64
-    ensures { result ≡ greatest_carried (state_of log.now) hints.now }
-{
-    let mut greatest = 0;
-    for h in hints {
-        greatest = carried_by(log, h).max(greatest);
-    }
-    greatest
-}
-
 /// From the problem's bounds with each atom's negation, the hints reach conflict.
 fn test_refuted(
     p: &Problem,
-    log: &[Entry],
-    index: &LogIndex,
+    log: &IndexedLog<'_>,
     clause: &Clause,
     hints: &[Hint],
     work: &mut BoxState,
 ) -> Result<(), BadStep>
-    requires accepted { IsAccepted p.now log.now }
-    requires own { IsIndexOf index.now log.now }
-    requires in_box { IsBoxOf p.now.bounds work.old }
+    requires accepted { IsAcceptedState p.now log.now }
+    requires own_box { work.old ≡ p.now.bounds }
     requires known { AreKnown (var_count p.now) clause.now.atoms }
-    ensures exact { IsVerdict (fault_unless (is_refuted p.now (state_of log.now) clause.now
-        hints.now) fault.NoConflict) result }
-    ensures within { IsBoxOf p.now.bounds work.new }
+    ensures exact { IsVerdict (fault_unless (is_refuted p.now log.now clause.now hints.now)
+        fault.NoConflict) result }
+    ensures own_box { work.new ≡ p.now.bounds }
 {
-    let _valid = p.objectives();
-    work.reset(p);
-    if !assume_negations(work, clause.atoms.as_slice()) {
-        return Ok(());
-    }
-    if reaches_conflict(p, log, index, work, hints) {
+    if refutes(p, log, work, clause.atoms.as_slice(), hints) {
         return Ok(());
     }
     Err(BadStep::NoConflict)
-}
-
-/// Makes the negations of the atoms true, in their order. Answers false where one is false.
-fn assume_negations(b: &mut BoxState, atoms: &[Atom]) -> bool
-    requires { AreKnown (length b.old.lower) atoms.now }
-    ensures exact { MatchBool result
-        (all_assumed b.old (map negation atoms.now) ≡ Some b.new) (all_assumed b.old (map negation atoms.now) ≡ None) }
-    ensures within { (limits : Bounds) → IsBoxOf limits b.old → IsBoxOf limits b.new }
-{
-    for a in atoms {
-        match negated(b, *a) {
-            Some(opposite) => make_true(b, opposite),
-            None => return false,
-        };
-    }
-    true
 }

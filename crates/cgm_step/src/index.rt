@@ -1,17 +1,17 @@
 //! The index of a log.
-ghost use Rattle.std.specs.Prelude.{◌≡◌, ◌+◌, ◌^◌, ◌<◌, ◌++◌, ◌∷◌, [], List, OnOk, OnErr};
+ghost use Rattle.std.specs.Prelude.{◌≡◌, ◌+◌, ◌^◌, ◌<◌, ◌≤◌, ◌++◌, ◌∷◌, [], List, length, take, OnOk, OnErr};
 ghost use Rattle.cgm_atom.specs.declared.entries.Entry.{Entry};
-ghost use Rattle.cgm_step.specs.Indexing.{IsIndexOf, empty_index, index_with};
+ghost use Rattle.cgm_step.specs.Indexing.{IsIndexOf, empty_index, index_after, index_with};
 
 use cgm_atom::{Entry, OutOfMemory};
 use std::alloc::Global;
 use std::marker::{Model, Send};
 
-/// The places of the bests of a log, and whether the log is closed.
+/// How many entries a log has, the places of its bests, from 1, and whether it is closed.
 #[derive(Debug, Drop)]
 pub struct LogIndex {
-    entries: usize,
-    bests: Vec<usize>,
+    entries: u64,
+    bests: Vec<u64>,
     is_closed: bool,
 }
 
@@ -46,7 +46,7 @@ impl LogIndex {
         ensures err { OnErr result (self.new ≡ self.old) }
     {
         match e {
-            Entry::Best { .. } => self.bests.push(self.entries)?,
+            Entry::Best { .. } => self.bests.push(self.entries + 1)?,
             Entry::Lemma { clause, .. } => {
                 if clause.atoms.as_slice().is_empty() {
                     self.is_closed = true;
@@ -57,8 +57,41 @@ impl LogIndex {
         Ok(())
     }
 
-    /// The places of the bests, from 0.
-    pub(crate) fn bests(&self) -> &[usize]
+    /// Adds the next entries of the log, all of them or none: without memory for them the index stays
+    /// as it was. Condition: at most 2^63 entries with them.
+    pub fn append(&mut self, more: &[Entry]) -> Result<(), OutOfMemory>
+        requires { self.old.entries + length more.now ≤ 2 ^ 63 }
+        ensures ok { OnOk result (self.new ≡ index_after self.old more.now) }
+        ensures own { OnOk result
+            ((log : List Entry) → IsIndexOf self.old log → IsIndexOf self.new (log ++ more.now)) }
+        ensures err { OnErr result (self.new ≡ self.old) }
+    {
+        let entries = self.entries;
+        let bests = self.bests.len();
+        let is_closed = self.is_closed;
+        if let Err(error) = self.add_each(more) {
+            self.entries = entries;
+            self.bests.truncate(bests);
+            self.is_closed = is_closed;
+            return Err(error);
+        }
+        Ok(())
+    }
+
+    /// Adds the next entries one by one. The places of the bests so far stay in front.
+    fn add_each(&mut self, more: &[Entry]) -> Result<(), OutOfMemory>
+        requires { self.old.entries + length more.now ≤ 2 ^ 63 }
+        ensures ok { OnOk result (self.new ≡ index_after self.old more.now) }
+        ensures front { take (length self.old.bests) self.new.bests ≡ self.old.bests }
+    {
+        for e in more {
+            self.add(e)?;
+        }
+        Ok(())
+    }
+
+    /// The places of the bests, from 1.
+    pub(crate) fn bests(&self) -> &[u64]
         ensures { result.now ≡ self.now.bests }
     {
         self.bests.as_slice()

@@ -1,17 +1,17 @@
-//! Narrowing of a box by a clause or a row, and the test of the next entry of a log.
+//! What hints name in a log, narrowing by hints, and the test of the next entry of a log.
 #![tactic(auto)]
 
 mod accepting;
-mod atoms;
-mod clauses;
 mod index;
+mod indexed;
 mod naming;
 mod narrowing;
-mod outcome;
-mod rows;
+mod refuting;
+mod restoring;
 
-pub use accepting::accepts_next;
-pub use cgm_atom::BadStep;
+pub use accepting::{accepts_next, is_less};
+pub use cgm_atom::{BadStep, Narrowed};
 pub use index::LogIndex;
+pub use indexed::IndexedLog;
+pub use naming::{Found, Named};
 pub use narrowing::narrow;
-pub use outcome::Narrowed;

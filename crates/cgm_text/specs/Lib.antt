@@ -1,2 +1,11 @@
+pub mod Back
+pub mod Canonical
 pub mod Line
+pub mod Meaning
+pub mod Printing
+pub mod Progress
+pub mod Statements
 pub mod Text
+pub mod Trees
+pub mod Uses
+pub mod Written

@@ -1,81 +1,121 @@
--- The lines of a text, the words of a line, and the words that each statement has.
-use Rattle.std.specs.Prelude.{◌≡◌, ◌≢◌, ℕ, ◌≤◌, ◌==◌, Bool, true, false, List, [], ◌∷◌, length, map, codes}
-use Rattle.std.specs.List.{slice_split, slice_index_or}
-use Rattle.cgm_model.specs.declared.lists.ElementKind.{ElementKind}
-use Rattle.cgm_model.specs.declared.lists.ElementKind.TheVariants as kinds
-use Rattle.cgm_model.specs.declared.lists.Element.{Element}
-use Rattle.cgm_model.specs.declared.lists.Refinement.{Refinement}
-use Rattle.cgm_model.specs.declared.lists.Assertion.{Assertion}
+-- What a line comes to: nothing, the header, a statement, or a fault; the tests stand in the order in which the first that fails is told.
+use Rattle.std.specs.Prelude.{◌≡◌, ◌≢◌, ℕ, pos, Bool, true, false, List, [], ◌∷◌, codes, Option, None, Some, Result, Ok, Err}
+use Rattle.cgm_base.specs.declared.fault.BadKind.{BadKind}
+use Rattle.cgm_base.specs.declared.fault.BadKind.TheVariants as kinds
+use Rattle.cgm_base.specs.declared.limit.Which.{Which}
+use Rattle.cgm_base.specs.declared.limit.Which.TheVariants as limits
+use Rattle.cgm_base.specs.Words.{limit_number}
+use Rattle.cgm_lex.specs.declared.token.Flaw.{Flaw}
+use Rattle.cgm_lex.specs.declared.token.Flaw.TheVariants as flaws
+use Rattle.cgm_lex.specs.Lexemes.{Lexeme, number, word, line_lexemes}
+use Rattle.cgm_model.specs.declared.lists.Lists.{Lists}
 use Rattle.cgm_model.specs.declared.lists.Statement.{Statement}
-use Rattle.cgm_model.specs.declared.lists.Statement.TheVariants as statements
-use Rattle.cgm_model.specs.Lists.{Lists, added, names, element_names}
-use Rattle.cgm_model.specs.Statement.{IsProper, IsAllowed}
+use Rattle.cgm_model.specs.declared.stop.AddStop.TheVariants as stops
+use Rattle.cgm_model.specs.declared.stop.Fault.{Fault}
+use Rattle.cgm_model.specs.declared.stop.Fault.TheVariants as faults
+use Rattle.cgm_model.specs.Statement.{IsAllowed, IsRefused}
+use Rattle.cgm_text.specs.declared.fault.LineFault.{LineFault}
+use Rattle.cgm_text.specs.declared.fault.LineFault.TheVariants as line_faults
+use Rattle.cgm_text.specs.declared.written.Sort.{Sort}
+use Rattle.cgm_text.specs.Meaning.{is_read, statement_of}
+use Rattle.cgm_text.specs.Statements.{WrittenStatement, sort_of, sort_word, statement_tokens, BeginsNoStatement}
+use Rattle.cgm_text.specs.Trees.{is_deeper}
+use Rattle.cgm_text.specs.Uses.{first_fault, statement_uses}
 
--- the pieces of a text between its line feeds; the last one is what follows the last line feed
-abbrev pub lines : List ℕ → List (List ℕ)
-lines text = slice_split (λ byte. byte == 10) text
+pub data Verdict : Type 0 where
+  nothing : Verdict
+  header : Verdict
+  says : Statement → Verdict
+  faulty : LineFault → Verdict
 
--- the pieces of a line between its spaces
-abbrev pub words : List ℕ → List (List ℕ)
-words line = slice_split (λ byte. byte == 32) line
+abbrev pub flaw_kind : Flaw → BadKind
+flaw_kind flaws.BadByte = kinds.BadByte
+flaw_kind flaws.BadNumber = kinds.BadNumber
 
-abbrev pub kind_word : ElementKind → List ℕ
-kind_word kinds.Goal = codes "goal"
-kind_word kinds.Task = codes "task"
-kind_word kinds.Assume = codes "assume"
+abbrev pub refusal_kind : Fault → BadKind
+refusal_kind faults.Name = kinds.Name
+refusal_kind faults.DoubleName = kinds.DoubleName
+refusal_kind faults.CrossedBounds = kinds.CrossedBounds
+refusal_kind faults.DoubleSource = kinds.DoubleSource
+refusal_kind faults.DoubleTerm = kinds.DoubleTerm
+refusal_kind faults.DoubleInterest = kinds.DoubleInterest
+refusal_kind faults.TaskRefined = kinds.TaskRefined
+refusal_kind faults.AssumptionRefined = kinds.AssumptionRefined
+refusal_kind faults.Cycle = kinds.Cycle
 
-abbrev pub must_words : Bool → List (List ℕ)
-must_words true = codes "must" ∷ []
-must_words false = []
+-- the first line with tokens, in this version of the text form
+abbrev pub header_tokens : List Lexeme
+header_tokens = word (codes "cgm") ∷ number (pos 1) ∷ []
 
-abbrev pub truth_word : Bool → List ℕ
-truth_word true = codes "true"
-truth_word false = codes "false"
+-- what tokens come to by their form alone
+pub data Form : Type 0 where
+  no_word : Form
+  not_read : Form
+  no_form : Form
+  written : WrittenStatement → Form
 
--- the name of the element with this number
-abbrev pub element_name : Lists → ℕ → List ℕ
-element_name m number = slice_index_or (element_names m) number []
+-- the first token is the word of a statement that is read, or of one that isn't
+pub record BeginsAs (tokens : List Lexeme) (reads : Bool) : Type 0 where
+  pub sort : Sort
+  pub after : List Lexeme
+  pub begins : tokens ≡ word (sort_word sort) ∷ after
+  pub reads_it : is_read sort ≡ reads
 
--- the words after `goal` or `task`
-abbrev pub element_arguments : Element → List (List ℕ)
-element_arguments e = e.name ∷ must_words e.must
+abbrev pub HasForm : List Lexeme → Form → Type 0
+HasForm tokens no_word = BeginsNoStatement tokens
+HasForm tokens not_read = BeginsAs tokens false
+HasForm tokens no_form = BeginsAs tokens true × ((s : WrittenStatement) → tokens ≢ statement_tokens s)
+HasForm tokens (written s) = (tokens ≡ statement_tokens s) × (is_read (sort_of s) ≡ true)
 
--- the words after `refine`
-abbrev pub refinement_arguments : Lists → Refinement → List (List ℕ)
-refinement_arguments m r = r.name ∷ element_name m r.target ∷ codes ":" ∷ map (element_name m) r.sources
+-- this is the fault of the first test that the statement fails after these lists
+abbrev pub IsRefusedAs : Lists → Statement → LineFault → Type 0
+IsRefusedAs m s (line_faults.Bad kind) = (fault : Fault) × (IsRefused m s (stops.Refused fault) × (kind ≡ refusal_kind fault))
+IsRefusedAs m s (line_faults.Limit which) = IsRefused m s (stops.Limit which)
 
--- the words after `assert`
-abbrev pub assertion_arguments : Lists → Assertion → List (List ℕ)
-assertion_arguments m a = element_name m a.element ∷ truth_word a.truth ∷ []
+-- a statement whose names are right
+abbrev pub IsJudged : Lists → Option Statement → Verdict → Type 0
+IsJudged m None v = ⊥
+IsJudged m (Some s) nothing = ⊥
+IsJudged m (Some s) header = ⊥
+IsJudged m (Some s) (says t) = (t ≡ s) × IsAllowed m s
+IsJudged m (Some s) (faulty fault) = IsRefusedAs m s fault
 
--- the words of a statement that comes after these lists
-abbrev pub statement_words : Lists → Statement → List (List ℕ)
-statement_words m (statements.Element e) = kind_word e.kind ∷ element_arguments e
-statement_words m (statements.Refine r) = codes "refine" ∷ refinement_arguments m r
-statement_words m (statements.Assert a) = codes "assert" ∷ assertion_arguments m a
+-- a statement after what is wrong with the first of its names
+abbrev pub IsNamedJudged : Option BadKind → Lists → Option Statement → Verdict → Type 0
+IsNamedJudged (Some kind) m s v = v ≡ faulty (line_faults.Bad kind)
+IsNamedJudged None m s v = IsJudged m s v
 
--- this form of the text has no assumptions
-abbrev pub IsInForm : Statement → Type 0
-IsInForm (statements.Element e) = e.kind ≢ kinds.Assume
-IsInForm (statements.Refine r) = Unit {0}
-IsInForm (statements.Assert a) = Unit {0}
+abbrev pub IsFormJudged : Lists → Form → Verdict → Type 0
+IsFormJudged m no_word v = v ≡ faulty (line_faults.Bad kinds.Statement)
+IsFormJudged m not_read v = v ≡ faulty (line_faults.Bad kinds.NotYet)
+IsFormJudged m no_form v = v ≡ faulty (line_faults.Bad kinds.Form)
+IsFormJudged m (written s) v = IsNamedJudged (first_fault m (statement_uses s)) m (statement_of m s) v
 
--- after these lists these words are a statement
-pub record IsWrittenAs (m : Lists) (line_words : List (List ℕ)) (s : Statement) : Type 0 where
-  pub spelled : line_words ≡ statement_words m s
-  pub proper : IsProper m s
-  pub in_form : IsInForm s
+-- tokens after the header
+abbrev pub AreJudged : Lists → List Lexeme → Verdict → Type 0
+AreJudged m tokens v = (form : Form) × (HasForm tokens form × IsFormJudged m form v)
 
--- after these lists the line makes this statement
-pub record Says (m : Lists) (line : List ℕ) (s : Statement) : Type 0 where
-  pub written : IsWrittenAs m (words line) s
-  pub few_names : length (names (added m s)) ≤ 16
-  pub allowed : IsAllowed m s
+-- the first tokens of the text
+abbrev pub AreFirst : List Lexeme → Verdict → Type 0
+AreFirst tokens nothing = ⊥
+AreFirst tokens header = tokens ≡ header_tokens
+AreFirst tokens (says s) = ⊥
+AreFirst tokens (faulty fault) = (tokens ≢ header_tokens) × (fault ≡ line_faults.Bad kinds.Header)
 
--- the words say no allowed statement
-abbrev pub SaysNothing : Lists → List (List ℕ) → Type 0
-SaysNothing m line_words = (s : Statement) → IsWrittenAs m line_words s → ¬ IsAllowed m s
+-- tokens of which it is told whether they nest too deep; there are no lists before the header
+abbrev pub AreShallowJudged : Bool → Option Lists → List Lexeme → Verdict → Type 0
+AreShallowJudged true before tokens v = v ≡ faulty (line_faults.Limit limits.FormulaDepth)
+AreShallowJudged false None tokens v = AreFirst tokens v
+AreShallowJudged false (Some m) tokens v = AreJudged m tokens v
 
--- the line's statement leads from the first lists to the others
-abbrev pub MakesStatement : Lists → List ℕ → Lists → Type 0
-MakesStatement m line n = (s : Statement) × (Says m line s × (n ≡ added m s))
+abbrev pub nests_too_deep : List Lexeme → Bool
+nests_too_deep tokens = is_deeper (limit_number limits.FormulaDepth) 0 tokens
+
+abbrev pub AreLexemesJudged : Option Lists → Result (List Lexeme) Flaw → Verdict → Type 0
+AreLexemesJudged before (Err flaw) v = v ≡ faulty (line_faults.Bad (flaw_kind flaw))
+AreLexemesJudged before (Ok []) v = v ≡ nothing
+AreLexemesJudged before (Ok (token ∷ tokens)) v = AreShallowJudged (nests_too_deep (token ∷ tokens)) before (token ∷ tokens) v
+
+-- what the line comes to after these lists, or before the header
+abbrev pub ComesTo : Option Lists → List ℕ → Verdict → Type 0
+ComesTo before line v = AreLexemesJudged before (line_lexemes line) v

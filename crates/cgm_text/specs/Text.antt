@@ -1,59 +1,96 @@
--- Which model a text stands for, and the first faulty line of a text that stands for none.
-use Rattle.std.specs.Prelude.{◌≡◌, ◌≢◌, ℕ, ◌+◌, ◌⊎◌, List, [], ◌∷◌, codes}
-use Rattle.cgm_base.specs.declared.fault.BadKind.{BadKind}
+-- The statements of a text with their lines, the model that these give, and the first fault of a text that has none.
+use Rattle.std.specs.Prelude.{◌≡◌, ℕ, ◌+◌, List, [], ◌∷◌, ◌++◌, Option, None, Some}
+use Rattle.std.specs.Option.{option_map}
 use Rattle.cgm_base.specs.declared.fault.BadKind.TheVariants as kinds
+use Rattle.cgm_base.specs.Words.{limit_number}
+use Rattle.cgm_lex.specs.Lines.{lines}
+use Rattle.cgm_model.specs.declared.lists.Lists.{Lists}
 use Rattle.cgm_model.specs.declared.lists.Statement.{Statement}
-use Rattle.cgm_model.specs.Lists.{Lists, no_lists, added}
+use Rattle.cgm_model.specs.declared.lists.Statement.TheVariants as statements
+use Rattle.cgm_model.specs.Lists.{no_lists, added}
+use Rattle.cgm_text.specs.declared.fault.LineFault.{LineFault}
+use Rattle.cgm_text.specs.declared.fault.LineFault.TheVariants as line_faults
 use Rattle.cgm_text.specs.declared.reader.TextStop.{TextStop}
 use Rattle.cgm_text.specs.declared.reader.TextStop.TheVariants as stops
-use Rattle.cgm_text.specs.Line.{lines, Says}
+use Rattle.cgm_text.specs.Line.{Verdict, nothing, header, says, faulty, ComesTo}
 
--- each of the lines makes a statement, and these lead from the first lists to the last;
--- every line ends with a line feed, so that nothing follows the last one
-abbrev pub Leads : Lists → List (List ℕ) → Lists → Type 0
-Leads m [] n = ⊥
-Leads m (line ∷ []) n = (line ≡ []) × (m ≡ n)
-Leads m (line ∷ next ∷ more) n = (s : Statement) × (Says m line s × Leads (added m s) (next ∷ more) n)
+-- a statement with the number of its line, from 1
+pub record LineStatement : Type 0 where
+  pub line : ℕ
+  pub statement : Statement
 
--- the first of the lines that makes no statement after those before it has the number `faulty`;
--- the first of them all has the number `number`
-abbrev pub FailsAt : Lists → ℕ → List (List ℕ) → ℕ → Type 0
-FailsAt m number [] faulty = ⊥
-FailsAt m number (line ∷ []) faulty = (line ≢ []) × (faulty ≡ number)
-FailsAt m number (line ∷ next ∷ more) faulty =
-    ((faulty ≡ number) × ((s : Statement) → ¬ Says m line s))
-    ⊎ ((s : Statement) × (Says m line s × FailsAt (added m s) (number + 1) (next ∷ more) faulty))
+abbrev pub on_line : ℕ → Statement → LineStatement
+on_line line s = record { line = line; statement = s }
 
-abbrev pub header : List ℕ
-header = codes "cgm 1"
+-- the lists with these statements added in order
+abbrev pub all_added : Lists → List LineStatement → Lists
+all_added m [] = m
+all_added m (s ∷ rest) = all_added (added m s.statement) rest
 
-abbrev pub AreLinesOf : List (List ℕ) → Lists → Type 0
-AreLinesOf [] m = ⊥
-AreLinesOf (first ∷ []) m = ⊥
-AreLinesOf (first ∷ next ∷ more) m = (first ≡ header) × Leads no_lists (next ∷ more) m
+-- the model that statements give
+abbrev pub model_of : List LineStatement → Lists
+model_of said = all_added no_lists said
 
-abbrev pub AreFaultyAt : List (List ℕ) → ℕ → Type 0
-AreFaultyAt [] faulty = ⊥
-AreFaultyAt (first ∷ []) faulty = faulty ≡ 1
-AreFaultyAt (first ∷ next ∷ more) faulty =
-    ((first ≢ header) × (faulty ≡ 1)) ⊎ ((first ≡ header) × FailsAt no_lists 2 (next ∷ more) faulty)
+-- the statement's line, if it is a rule
+abbrev pub rule_line : ℕ → Statement → List ℕ
+rule_line line (statements.Rule r) = line ∷ []
+rule_line line s = []
 
--- the text is a header line and then the statements of this model, one a line
-unfoldable pub IsTextOf : List ℕ → Lists → Type 0
-IsTextOf text m = AreLinesOf (lines text) m
+-- the lines of the rules, in the order of the rules
+abbrev pub rule_lines : List LineStatement → List ℕ
+rule_lines [] = []
+rule_lines (s ∷ rest) = rule_line s.line s.statement ++ rule_lines rest
+
+pub data Outcome : Type 0 where
+  gives : List LineStatement → Outcome
+  fails : ℕ → LineFault → Outcome
+
+-- the statements so far after a line with this number, where there are none before the header
+abbrev pub after_line : Option (List LineStatement) → ℕ → Verdict → Option (List LineStatement)
+after_line so_far line nothing = so_far
+after_line so_far line header = Some []
+after_line so_far line (says s) = option_map (λ said. said ++ on_line line s ∷ []) so_far
+after_line so_far line (faulty fault) = so_far
+
+-- a text that ends before its header has the fault that there is none, in its first line
+abbrev pub IsEnd : Option (List LineStatement) → Outcome → Type 0
+IsEnd None outcome = outcome ≡ fails 1 (line_faults.Bad kinds.Header)
+IsEnd (Some said) outcome = outcome ≡ gives said
+
+-- a faulty line ends the text; after another one it is as the lines after it say
+abbrev pub IsOutcome : ℕ → Verdict → Outcome → Type 0 → Type 0
+IsOutcome line nothing outcome later = later
+IsOutcome line header outcome later = later
+IsOutcome line (says s) outcome later = later
+IsOutcome line (faulty fault) outcome later = outcome ≡ fails line fault
+
+-- what these lines come to after the statements so far; the first of them has the number `line`
+abbrev pub Lead : Option (List LineStatement) → ℕ → List (List ℕ) → Outcome → Type 0
+Lead so_far line [] outcome = IsEnd so_far outcome
+Lead so_far line (bytes ∷ more) outcome =
+    (v : Verdict) × (ComesTo (option_map model_of so_far) bytes v × IsOutcome line v outcome (Lead (after_line so_far line v) (line + 1) more outcome))
+
+-- the text has these statements and no fault
+unfoldable pub HasStatements : List ℕ → List LineStatement → Type 0
+HasStatements text said = Lead None 1 (lines text) (gives said)
 
 -- the text's first faulty line, from 1, and what is wrong with it
-unfoldable pub HasFault : List ℕ → ℕ → BadKind → Type 0
-HasFault text line kind = (kind ≡ kinds.NotYet) × AreFaultyAt (lines text) line
+unfoldable pub HasFault : List ℕ → ℕ → LineFault → Type 0
+HasFault text line fault = Lead None 1 (lines text) (fails line fault)
+
+-- the text is one of this model, with these lines of its rules
+pub record IsReading (text : List ℕ) (m : Lists) (lines_of_rules : List ℕ) : Type 0 where
+  pub said : List LineStatement
+  pub has : HasStatements text said
+  pub model_is : m ≡ model_of said
+  pub lines_are : lines_of_rules ≡ rule_lines said
+
+-- the text is one of this model
+abbrev pub IsTextOf : List ℕ → Lists → Type 0
+IsTextOf text m = (said : List LineStatement) × (HasStatements text said × (m ≡ model_of said))
 
 -- why a text isn't read: its first fault, or want of memory
 abbrev pub IsNotRead : List ℕ → TextStop → Type 0
-IsNotRead text (stops.Bad line kind) = HasFault text line kind
-IsNotRead text (stops.Limit limit) = ⊥
+IsNotRead text (stops.Bad line kind) = HasFault text line (line_faults.Bad kind)
+IsNotRead text (stops.Limit limit) = HasFault text limit.line (line_faults.Limit limit.which) × (limit.number ≡ limit_number limit.which)
 IsNotRead text stops.Memory = Unit {0}
-
--- why the lines after the header aren't read
-abbrev pub IsStopAfter : List (List ℕ) → TextStop → Type 0
-IsStopAfter after (stops.Bad line kind) = (kind ≡ kinds.NotYet) × FailsAt no_lists 2 after line
-IsStopAfter after (stops.Limit limit) = ⊥
-IsStopAfter after stops.Memory = Unit {0}

@@ -1,114 +1,203 @@
-ghost use Rattle.std.specs.Prelude.{◌≡◌, ◌+◌, ◌≤◌, length, map, OnOk, Err};
-ghost use Rattle.cgm_model.specs.declared.lists.Statement.{Statement};
-ghost use Rattle.cgm_model.specs.Lists.{no_lists, added, names};
-ghost use Rattle.cgm_model.specs.Model.{lists_of};
-ghost use Rattle.cgm_model.specs.WellFormed.{IsWellFormed};
-ghost use Rattle.cgm_model.specs.Statement.{IsProper, IsAllowed, declared_names};
-ghost use Rattle.cgm_text.specs.Line.{Says, IsWrittenAs, MakesStatement};
+ghost use Rattle.std.specs.Prelude.{◌≡◌, ◌↔◌, ◌≤◌, ℕ, List, [], ◌∷◌, true, false, if◌then◌else◌, length, All, Option, None, Some, IsTrue, IfOk, IfErr, OnOk};
+ghost use Rattle.cgm_lex.specs.Lexemes.{IsLineStop};
+ghost use Rattle.cgm_lex.specs.Spelling.{IsPlain};
+ghost use Rattle.cgm_model.specs.declared.lists.Lists.{Lists};
+ghost use Rattle.cgm_model.specs.Statement.{IsProper};
+ghost use Rattle.cgm_text.specs.Line.{AreFirst, AreJudged, ComesTo, IsJudged, header_tokens, nests_too_deep};
+ghost use Rattle.cgm_text.specs.Progress.{IsAdded, IsDraft, IsFinished, IsFinishStop, IsPut, IsStep, IsStop, IsStopAfter, line_stop, tokens_come_to};
+ghost use Rattle.cgm_text.specs.Text.{rule_line};
+ghost use Rattle.cgm_text.specs.Trees.{seen_all};
 
-use crate::line::split_words;
-use crate::statement::statement_of;
-use cgm_model::{AddStop, Model, ModelBuilder, Statement};
+use crate::depth::nests_deeper;
+use crate::fault::{LineFault, LineStop, refusal_kind};
+use crate::judge::statement_of_tokens;
+use crate::reader::{Reading, TextStop};
+use crate::shape::is_end;
+use crate::take::{take_exact, take_number};
+use cgm_base::{BadKind, Which, limits};
+use cgm_lex::{LexFault, LexStop, Token, tokens_of_line};
+use cgm_model::{AddStop, ModelBuilder, Statement};
 use std::alloc::Global;
 
-/// How many names a text of this form declares at most.
-const MOST_NAMES: u32 = 16;
-
-/// Why a line isn't added.
-#[derive(Clone, Copy)]
-pub(crate) enum LineStop {
-    /// The line makes no statement after those before it.
-    Faulty,
-    /// There is no memory for it.
-    Memory,
-}
-
-/// The model that the lines so far make, and how many names they declare.
+/// What the lines so far make.
 #[derive(Drop)]
 pub(crate) struct Draft {
+    has_header: bool,
     builder: ModelBuilder,
-    name_count: u32,
-    ghost counted: { name_count ≡ length (names builder) },
-    ghost few: { name_count ≤ 16 },
-    ghost known: { ∥ IsWellFormed builder ∥₁ },
+    rule_lines: Vec<u32>,
 }
 
-fn declared_count(s: &Statement) -> u32
-    ensures { result ≡ length (declared_names s.now) }
+fn is_rule(s: &Statement) -> bool
+    ensures { (line : ℕ) → rule_line line s.now ≡ (if result then line ∷ [] else []) }
 {
     match s {
-        Statement::Element(_) => 1,
-        Statement::Refine(_) => 1,
-        Statement::Assert(_) => 0,
+        Statement::Rule(_) => true,
+        _ => false,
+    }
+}
+
+/// Says whether these are the tokens of the header.
+fn is_header(line: &[u8], tokens: &[Token]) -> bool
+    ensures { IsTrue result ↔ (seen_all line.now tokens.now ≡ header_tokens) }
+{
+    match take_exact(line, tokens, "cgm") {
+        None => false,
+        Some(rest) => match take_number(rest) {
+            None => false,
+            Some((version, rest)) => version == 1 && is_end(rest),
+        },
+    }
+}
+
+fn add_stop(stop: AddStop) -> LineStop
+    ensures { result ≡ line_stop stop }
+{
+    match stop {
+        AddStop::Refused(fault) => LineStop::Faulty(LineFault::Bad(refusal_kind(fault))),
+        AddStop::Limit(which) => LineStop::Faulty(LineFault::Limit(which)),
+        AddStop::Memory => LineStop::Memory,
+    }
+}
+
+fn lex_stop(stop: LexStop) -> LineStop
+    ensures { (number : ℕ) (line : List ℕ) → IsLineStop number line stop → (before : Option Lists) → IsStop (ComesTo before line) result }
+{
+    match stop {
+        LexStop::Fault(LexFault::BadByte { line: _ }) => LineStop::Faulty(LineFault::Bad(
+            BadKind::BadByte,
+        )),
+        LexStop::Fault(LexFault::BadNumber { line: _ }) => LineStop::Faulty(LineFault::Bad(
+            BadKind::BadNumber,
+        )),
+        LexStop::Memory => LineStop::Memory,
     }
 }
 
 impl Draft {
+    /// The draft before the first line.
     pub(crate) fn new(alloc: Global) -> Draft
-        ensures { result.builder ≡ no_lists }
+        ensures { IsDraft None result }
     {
         Draft {
+            has_header: false,
             builder: ModelBuilder::new(alloc),
-            name_count: 0,
+            rule_lines: Vec::new(alloc),
         }
     }
 
-    fn add(&mut self, s: Statement) -> Result<(), LineStop>
+    /// Adds a statement of the line with this number.
+    fn add(&mut self, s: Statement, number: u32) -> Result<(), LineStop>
         requires { IsProper self.old.builder s }
-        ensures added { OnOk result (self.new.builder ≡ added self.old.builder s) }
-        ensures allowed { OnOk result (IsAllowed self.old.builder s) }
-        ensures few_names { OnOk result (length (names (added self.old.builder s)) ≤ 16) }
-        ensures faulty { result ≡ Err LineStop.Faulty → length (names (added self.old.builder s)) ≤
-            16 → ¬ IsAllowed self.old.builder s }
+        ensures put { OnOk result (IsPut number s self.old self.new) }
+        ensures stop { IfErr result (IsStop (IsJudged self.old.builder (Some s))) }
     {
-        let declared = declared_count(&s);
-        if self.name_count + declared > MOST_NAMES {
-            return Err(LineStop::Faulty);
-        }
+        let has_line = is_rule(&s);
         match self.builder.add(s) {
-            Ok(()) => {
-                self.name_count += declared;
-                Ok(())
+            Ok(()) => {}
+            Err(stop) => return Err(add_stop(stop)),
+        }
+        if has_line {
+            match self.rule_lines.push(number) {
+                Ok(()) => {}
+                Err(_) => return Err(LineStop::Memory),
             }
-            Err(AddStop::Memory) => Err(LineStop::Memory),
-            Err(AddStop::Refused(_)) => Err(LineStop::Faulty),
-            Err(AddStop::Limit(_)) => Err(LineStop::Faulty),
+        }
+        Ok(())
+    }
+
+    /// Adds the statement that a line's tokens make.
+    fn add_statement(
+        &mut self,
+        alloc: Global,
+        line: &[u8],
+        tokens: &[Token],
+        number: u32,
+    ) -> Result<(), LineStop>
+        requires plain { All IsPlain (seen_all line.now tokens.now) }
+        requires shallow { nests_too_deep (seen_all line.now tokens.now) ≡ false }
+        ensures added { OnOk result (IsAdded number (seen_all line.now tokens.now) self.old self.new) }
+        ensures stop { IfErr result (IsStop (AreJudged self.old.builder (seen_all line.now tokens.now))) }
+    {
+        let statement = statement_of_tokens(alloc, &self.builder, line, tokens)?;
+        self.add(statement, number)
+    }
+
+    /// Takes the first tokens of the text, which are to be the header.
+    fn begin(&mut self, line: &[u8], tokens: &[Token]) -> Result<(), LineStop>
+        ensures begun { OnOk result (seen_all line.now tokens.now ≡ header_tokens) }
+        ensures header { OnOk result (self.new.has_header ≡ true) }
+        ensures lists { self.new.builder ≡ self.old.builder }
+        ensures lines { self.new.rule_lines.items ≡ self.old.rule_lines.items }
+        ensures stop { IfErr result (IsStop (AreFirst (seen_all line.now tokens.now))) }
+    {
+        if !is_header(line, tokens) {
+            return Err(LineStop::Faulty(LineFault::Bad(BadKind::Header)));
+        }
+        self.has_header = true;
+        Ok(())
+    }
+
+    /// Adds what a line's tokens say.
+    fn add_tokens(
+        &mut self,
+        alloc: Global,
+        line: &[u8],
+        tokens: &[Token],
+        number: u32,
+    ) -> Result<(), LineStop>
+        requires plain { All IsPlain (seen_all line.now tokens.now) }
+        ensures step { OnOk result (IsStep (tokens_come_to (seen_all line.now tokens.now)) number self.old self.new) }
+        ensures stop { IfErr result (IsStopAfter (tokens_come_to (seen_all line.now tokens.now)) self.old) }
+    {
+        if is_end(tokens) {
+            return Ok(());
+        }
+        if nests_deeper(tokens, limits::FORMULA_DEPTH as usize) {
+            return Err(LineStop::Faulty(LineFault::Limit(Which::FormulaDepth)));
+        }
+        if self.has_header {
+            self.add_statement(alloc, line, tokens, number)
+        } else {
+            self.begin(line, tokens)
         }
     }
 
-    /// Adds the statement that these words make.
-    fn add_words(&mut self, alloc: Global, words: &[&[u8]]) -> Result<(), LineStop>
-        ensures added { OnOk result ((s : Statement) × (IsWrittenAs self.old.builder (map
-            (λ word. word.now) words.now) s × IsAllowed self.old.builder s
-            × (length (names (added self.old.builder s)) ≤ 16) × (self.new.builder
-            ≡ added self.old.builder s))) }
-        ensures faulty { result ≡ Err LineStop.Faulty → (s : Statement)
-            → IsWrittenAs self.old.builder (map (λ word. word.now) words.now) s
-            → length (names (added self.old.builder s)) ≤ 16 → ¬ IsAllowed self.old.builder s }
+    /// Adds what a line says.
+    pub(crate) fn add_line(
+        &mut self,
+        alloc: Global,
+        line: &[u8],
+        number: u32,
+    ) -> Result<(), LineStop>
+        requires { length line.now ≤ 16777216 }
+        ensures step { OnOk result (IsStep (λ before. ComesTo before line.now) number self.old self.new) }
+        ensures stop { IfErr result (IsStopAfter (λ before. ComesTo before line.now) self.old) }
     {
-        match statement_of(alloc, &self.builder, words) {
-            Ok(Some(s)) => self.add(s),
-            Ok(None) => Err(LineStop::Faulty),
-            Err(_) => Err(LineStop::Memory),
+        match tokens_of_line(alloc, line, number) {
+            Ok(tokens) => self.add_tokens(alloc, line, tokens.as_slice(), number),
+            Err(stop) => Err(lex_stop(stop)),
         }
     }
 
-    /// Adds the statement that a line makes.
-    pub(crate) fn add_line(&mut self, alloc: Global, line: &[u8]) -> Result<(), LineStop>
-        ensures added { OnOk result (MakesStatement self.old.builder line.now self.new.builder) }
-        ensures faulty { result ≡ Err LineStop.Faulty → (s : Statement)
-            → ¬ Says self.old.builder line.now s }
+    /// The model of the lines so far; there is none before the header.
+    pub(crate) fn finish(self) -> Result<Reading, TextStop>
+        ensures finished { IfOk result (IsFinished self) }
+        ensures stop { IfErr result (IsFinishStop self) }
     {
-        match split_words(alloc, line) {
-            Ok(words) => self.add_words(alloc, words.as_slice()),
-            Err(_) => Err(LineStop::Memory),
+        if !self.has_header {
+            return Err(TextStop::Bad {
+                line: 1,
+                kind: BadKind::Header,
+            });
         }
-    }
-
-    /// The model of the lines so far.
-    pub(crate) fn finish(self) -> Model
-        ensures { lists_of result ≡ self.builder }
-    {
-        self.builder.finish()
+        let Draft {
+            has_header: _,
+            builder,
+            rule_lines,
+        } = self;
+        Ok(Reading {
+            model: builder.finish(),
+            rule_lines,
+        })
     }
 }

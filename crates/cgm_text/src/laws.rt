@@ -1,22 +1,33 @@
 ghost use Rattle.std.specs.Prelude.{◌≡◌, ℕ, List};
-ghost use Rattle.cgm_base.specs.declared.fault.BadKind.{BadKind};
-ghost use Rattle.cgm_model.specs.Lists.{Lists};
-ghost use Rattle.cgm_text.specs.Text.{IsTextOf, HasFault};
+ghost use Rattle.cgm_model.specs.declared.lists.Lists.{Lists};
+ghost use Rattle.cgm_text.specs.declared.fault.LineFault.{LineFault};
+ghost use Rattle.cgm_text.specs.Statements.{WrittenStatement, statement_tokens};
+ghost use Rattle.cgm_text.specs.Text.{IsReading, IsTextOf, HasFault};
 
-/// The law that a text which has a model has no fault.
+/// The law that a text has a model or a first fault: never both, and never neither.
 pub fn text_has_model_or_fault()
-    ensures { (text : List ℕ) (m : Lists) (line : ℕ) (kind : BadKind) → IsTextOf text m
-        → ¬ HasFault text line kind }
+    ensures one { (text : List ℕ) (m : Lists) (line : ℕ) (fault : LineFault) → IsTextOf text m
+        → ¬ HasFault text line fault }
+    ensures some { (text : List ℕ) → ((m : Lists) → ¬ IsTextOf text m)
+        → ¬ ((line : ℕ) (fault : LineFault) → ¬ HasFault text line fault) }
 {}
 
-/// The law that a text has one model at most.
+/// The law that a text has one model at most, with the same lines of rules.
 pub fn text_has_one_model()
-    ensures { (text : List ℕ) (one other : Lists) → IsTextOf text one → IsTextOf text other
+    ensures model { (text : List ℕ) (one other : Lists) → IsTextOf text one → IsTextOf text other
         → one ≡ other }
+    ensures rule_lines { (text : List ℕ) (one other : Lists) (lines other_lines : List ℕ)
+        → IsReading text one lines → IsReading text other other_lines → lines ≡ other_lines }
 {}
 
-/// The law that a text has one first fault at most: its line and its kind are determined.
+/// The law that a text has one first fault at most: its line, and its kind or limit.
 pub fn text_has_one_fault()
-    ensures { (text : List ℕ) (line other : ℕ) (kind other_kind : BadKind) → HasFault text line kind
-        → HasFault text other other_kind → (line ≡ other) × (kind ≡ other_kind) }
+    ensures { (text : List ℕ) (line other : ℕ) (fault other_fault : LineFault)
+        → HasFault text line fault → HasFault text other other_fault
+        → (line ≡ other) × (fault ≡ other_fault) }
+{}
+
+/// The law that tokens are those of one written statement at most.
+pub fn tokens_have_one_statement()
+    ensures { (one other : WrittenStatement) → statement_tokens one ≡ statement_tokens other → one ≡ other }
 {}

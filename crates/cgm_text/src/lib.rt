@@ -1,12 +1,34 @@
 //! The text form of a model: reading it, or telling the first fault of a text that has none.
 #![tactic(auto)]
 
+mod depth;
 mod draft;
+mod fault;
+mod form;
+mod formula;
+mod formula_printer;
+mod judge;
+mod keyword;
 mod laws;
 mod line;
+mod linear;
+mod meaning;
+mod names;
+mod printer;
+mod printing_laws;
 mod reader;
-mod statement;
+mod shape;
+mod statement_printer;
+mod take;
 mod word;
+mod written;
 
-pub use laws::{text_has_model_or_fault, text_has_one_fault, text_has_one_model};
+pub use fault::LineFault;
+pub use laws::{
+    text_has_model_or_fault, text_has_one_fault, text_has_one_model, tokens_have_one_statement,
+};
+pub use printing_laws::{
+    canonical_formula_is_read_back, canonical_statement_is_read_back, canonical_text_is_read_back,
+};
 pub use reader::{Reading, TextStop, read};
+pub use statement_printer::print;

@@ -1,12 +1,11 @@
 ghost use Rattle.std.specs.Prelude.{◌≡◌, ◌≤◌, length, IfOk, IfErr};
-ghost use Rattle.cgm_model.specs.Lists.{no_lists};
 ghost use Rattle.cgm_model.specs.Model.{lists_of};
-ghost use Rattle.cgm_text.specs.Line.{lines};
-ghost use Rattle.cgm_text.specs.Text.{IsTextOf, IsNotRead, Leads, IsStopAfter};
+ghost use Rattle.cgm_text.specs.Progress.{stop_at};
+ghost use Rattle.cgm_text.specs.Text.{IsReading, IsNotRead};
 
-use crate::draft::{Draft, LineStop};
+use crate::draft::Draft;
+use crate::fault::{LineFault, LineStop};
 use crate::line::split_line;
-use crate::word::is;
 use cgm_base::{BadKind, Limit};
 use cgm_model::Model;
 use std::alloc::Global;
@@ -15,6 +14,8 @@ use std::alloc::Global;
 #[derive(Debug, Drop)]
 pub struct Reading {
     pub model: Model,
+    /// The line of each rule, numbered from 1, in the order of the rules.
+    pub rule_lines: Vec<u32>,
 }
 
 /// Why a text isn't read.
@@ -22,64 +23,47 @@ pub struct Reading {
 pub enum TextStop {
     /// The first faulty line, numbered from 1, and what is wrong with it.
     Bad { line: u32, kind: BadKind },
-    /// A limit that the text passes.
+    /// A limit that the text passes, at its first faulty line.
     Limit(Limit),
     /// There is no memory for the model.
     Memory,
 }
 
-fn not_yet(line: u32) -> TextStop
-    ensures { result ≡ TextStop.Bad line BadKind.NotYet }
+/// Why a text isn't read that stops at this line.
+fn text_stop(stop: LineStop, line: u32) -> TextStop
+    ensures { result ≡ stop_at line stop }
 {
-    TextStop::Bad {
-        line,
-        kind: BadKind::NotYet,
+    match stop {
+        LineStop::Faulty(LineFault::Bad(kind)) => TextStop::Bad { line, kind },
+        LineStop::Faulty(LineFault::Limit(which)) => TextStop::Limit(Limit {
+            which,
+            number: which.number(),
+            line,
+        }),
+        LineStop::Memory => TextStop::Memory,
     }
 }
 
-/// Reads the statements of the lines after the header.
-fn read_statements(alloc: Global, text: &[u8]) -> Result<Reading, TextStop>
-    requires { length text.now ≤ 16777216 }
-    ensures read { IfOk result (λ reading. Leads no_lists (lines text.now) (lists_of
-        reading.model)) }
-    ensures faulty { IfErr result (IsStopAfter (lines text.now)) }
+/// Reads a model text of at most 16 MiB: its model with the lines of the rules, or the first fault:
+/// its line and its kind, or the limit that is passed there. Only want of memory comes beside these.
+pub fn read(alloc: Global, bytes: &[u8]) -> Result<Reading, TextStop>
+    requires { length bytes.now ≤ 16777216 }
+    ensures read { IfOk result (λ reading. IsReading bytes.now (lists_of reading.model) reading.rule_lines.items) }
+    ensures stop { IfErr result (IsNotRead bytes.now) }
 {
     let mut draft = Draft::new(alloc);
-    let mut rest = text;
-    let mut number = 2;
+    let mut rest = bytes;
+    let mut number = 1;
     while let Some((line, after)) = split_line(rest) {
-        match draft.add_line(alloc, line) {
+        match draft.add_line(alloc, line, number) {
             Ok(()) => {}
-            Err(LineStop::Faulty) => return Err(not_yet(number)),
-            Err(LineStop::Memory) => return Err(TextStop::Memory),
+            Err(stop) => return Err(text_stop(stop, number)),
         }
         rest = after;
         number += 1;
     }
-    if rest.is_empty() {
-        Ok(Reading {
-            model: draft.finish(),
-        })
-    } else {
-        Err(not_yet(number))
-    }
-}
-
-/// Reads a model text of at most 16 MiB: its model, or why there is none. The text is faulty
-/// exactly where it is the text of no model, and the first faulty line is told.
-pub fn read(alloc: Global, bytes: &[u8]) -> Result<Reading, TextStop>
-    requires { length bytes.now ≤ 16777216 }
-    ensures read { IfOk result (λ reading. IsTextOf bytes.now (lists_of reading.model)) }
-    ensures faulty { IfErr result (IsNotRead bytes.now) }
-{
-    match split_line(bytes) {
-        None => Err(not_yet(1)),
-        Some((header, rest)) => {
-            if is(header, "cgm 1") {
-                read_statements(alloc, rest)
-            } else {
-                Err(not_yet(1))
-            }
-        }
+    match draft.add_line(alloc, rest, number) {
+        Ok(()) => draft.finish(),
+        Err(stop) => Err(text_stop(stop, number)),
     }
 }

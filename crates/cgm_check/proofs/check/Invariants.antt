@@ -1,7 +1,6 @@
--- The entries so far are accepted, the index is theirs, and the box is one of the problem.
-use Rattle.std.proofs.Common.{take}
+-- The entries so far are accepted, the index is theirs, and the box is the problem's own.
+use Rattle.std.proofs.Common.{◌≡◌, take}
 use Rattle.cgm_atom.specs.Acceptance.{IsAccepted}
-use Rattle.cgm_atom.specs.Bounds.{IsBoxOf}
 use Rattle.cgm_step.specs.Indexing.{IsIndexOf}
 use Rattle.cgm_check.proofs.check.Given as goal
 
@@ -9,5 +8,5 @@ abbrev pub invariant-loop-i : goal.invariant-loop-i
 invariant-loop-i l = record {
   accepted : IsAccepted l.p (take l.i l.entries);
   own : IsIndexOf l.index (take l.i l.entries);
-  in_box : IsBoxOf l.p.bounds l.work;
+  own_box : l.work ≡ l.p.bounds;
 }

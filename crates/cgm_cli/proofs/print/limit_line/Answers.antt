@@ -2,4 +2,4 @@ use Rattle.std.proofs.Common.{append_assoc}
 use Rattle.cgm_cli.proofs.print.limit_line.Goals as goal
 
 pub returns : goal.returns
-returns c = simp append_assoc c.format.ensures.ok
+returns c = simp append_assoc (rw (← c.word-word.ensures, ← c.number-number.ensures) c.format.ensures.ok)

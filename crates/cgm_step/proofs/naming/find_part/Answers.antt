@@ -1,5 +1,5 @@
 use Rattle.std.proofs.Common.{arith}
-use Rattle.cgm_step.proofs.CutParts.{part_past, part_there}
+use Rattle.cgm_atom.proofs.CutParts.{part_past, part_there}
 use Rattle.cgm_step.proofs.naming.find_part.Goals as goal
 
 pub returns-then-part-max : goal.returns-then-part-max

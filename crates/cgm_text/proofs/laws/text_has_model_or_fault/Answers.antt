@@ -1,5 +1,8 @@
-use Rattle.cgm_text.proofs.Once.{model_or_fault}
+use Rattle.cgm_text.proofs.Outcomes.{never_both, never_neither}
 use Rattle.cgm_text.proofs.laws.text_has_model_or_fault.Goals as goal
 
-pub returns : goal.returns
-returns c = model_or_fault
+pub returns-clause-one : goal.returns-clause-one
+returns-clause-one c = never_both
+
+pub returns-clause-some : goal.returns-clause-some
+returns-clause-some c = never_neither

@@ -1,4 +1,4 @@
-use Rattle.cgm_text.proofs.Once.{one_fault}
+use Rattle.cgm_text.proofs.Outcomes.{one_fault}
 use Rattle.cgm_text.proofs.laws.text_has_one_fault.Goals as goal
 
 pub returns : goal.returns

@@ -1,26 +1,29 @@
-use Rattle.std.proofs.Common.{◌≡◌, ◌∷◌, refl, ap, ◌∙◌}
-use Rattle.cgm_text.specs.Line.{lines}
-use Rattle.cgm_text.specs.Text.{header}
-use Rattle.cgm_text.proofs.Whole.{has_no_header, has_one_line, read_whole, stopped_whole}
+use Rattle.std.proofs.Common.{[], arith}
+use Rattle.cgm_lex.specs.Lines.{lines}
+use Rattle.cgm_text.proofs.Drafts.{finished, read_ends, read_stops, unfinished}
 use Rattle.cgm_text.proofs.reader.read.Goals as goal
 
-pub returns-in-None-clause-faulty : goal.returns-in-None-clause-faulty
-returns-in-None-clause-faulty c = rw c.not_yet.ensures (has_one_line c.args.bytes.now _ c.in-None.ensures)
+pub returns-in-Err-clause-stop : goal.returns-in-Err-clause-stop
+returns-in-Err-clause-stop c =
+    rw c.text_stop.ensures (read_stops c.args.bytes.now c.in-Some.line.now c.loop-line.rest.now (lines c.in-Some.after.now) c.loop-line.number c.loop-line.draft c.in-Err.stop c.in-Some.ensures.0 c.loop-line.invariant.0 c.in-Err.ensures.stop)
 
-pub returns-else-is-clause-faulty : goal.returns-else-is-clause-faulty
-returns-else-is-clause-faulty c =
-    let text = c.args.bytes.now in
-    let false_is_true = c.if-is.false in
-    rw c.not_yet-else-is.ensures (has_no_header text c.in-Some.header.now (lines c.in-Some.rest.now) c.in-Some.ensures.0 (λ e. let t = c.if-is.ensures.1 e in cc))
+pub add_line-requires-2 : goal.add_line-requires-2
+add_line-requires-2 c =
+    let short = c.requires in
+    let room = c.loop-line.invariant.1 in
+    let first = c.loop-line.invariant.2 in
+    omega (arith, short, room, first)
 
-pub returns-then-is-clause-read : goal.returns-then-is-clause-read
-returns-then-is-clause-read c =
-    let first : c.in-Some.header.now ≡ header = c.if-is.ensures.0 refl in
-    let split = c.in-Some.ensures.0 ∙ ap (λ line. line ∷ lines c.in-Some.rest.now) first in
-    read_whole c.args.bytes.now (lines c.in-Some.rest.now) c.read_statements.result split c.read_statements.ensures.read
+pub returns-in-Ok-add_line-clause-read : goal.returns-in-Ok-add_line-clause-read
+returns-in-Ok-add_line-clause-read c =
+    let whole = read_ends c.args.bytes.now c.loop-line.rest.now c.loop-line.number c.loop-line.draft c.add_line-2.new.self c.in_default.ensures c.loop-line.invariant.0 c.in-Ok-add_line.ensures.step in
+    finished c.args.bytes.now c.add_line-2.new.self c.finish.result whole c.finish.ensures.finished
 
-pub returns-then-is-clause-faulty : goal.returns-then-is-clause-faulty
-returns-then-is-clause-faulty c =
-    let first : c.in-Some.header.now ≡ header = c.if-is.ensures.0 refl in
-    let split = c.in-Some.ensures.0 ∙ ap (λ line. line ∷ lines c.in-Some.rest.now) first in
-    stopped_whole c.args.bytes.now (lines c.in-Some.rest.now) c.read_statements.result split c.read_statements.ensures.faulty
+pub returns-in-Ok-add_line-clause-stop : goal.returns-in-Ok-add_line-clause-stop
+returns-in-Ok-add_line-clause-stop c =
+    let whole = read_ends c.args.bytes.now c.loop-line.rest.now c.loop-line.number c.loop-line.draft c.add_line-2.new.self c.in_default.ensures c.loop-line.invariant.0 c.in-Ok-add_line.ensures.step in
+    unfinished c.args.bytes.now c.add_line-2.new.self c.finish.result whole c.finish.ensures.stop
+
+pub returns-in-Err-add_line-clause-stop : goal.returns-in-Err-add_line-clause-stop
+returns-in-Err-add_line-clause-stop c =
+    rw c.text_stop-in-Err-add_line.ensures (read_stops c.args.bytes.now c.loop-line.rest.now c.loop-line.rest.now [] c.loop-line.number c.loop-line.draft c.in-Err-add_line.stop c.in_default.ensures c.loop-line.invariant.0 c.in-Err-add_line.ensures.stop)

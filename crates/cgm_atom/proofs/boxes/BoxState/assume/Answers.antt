@@ -1,7 +1,7 @@
 use Rattle.std.proofs.Common.{◌≡◌, ◌≤ℤ◌, w64, to_z, of_z, rules}
 use Rattle.std.specs.Int.{int_max, int_min}
 use Rattle.cgm_atom.specs.Bounds.{lower_of, upper_of}
-use Rattle.cgm_atom.specs.Parts.{box_bounds}
+use Rattle.cgm_atom.specs.Fields.{box_bounds}
 use Rattle.cgm_atom.proofs.Assuming.{IsProper-raised, IsProper-reduced, box_raised, box_reduced, read_max, read_min, read_not_above, read_not_below}
 use Rattle.cgm_atom.proofs.boxes.BoxState.assume.Goals as goal
 

@@ -1,5 +1,5 @@
 use Rattle.std.proofs.Common.{◌≡◌, ◌++◌, [], ◌∷◌, rules}
-use Rattle.cgm_atom.specs.Parts.{instance}
+use Rattle.cgm_atom.specs.Fields.{instance}
 use Rattle.cgm_atom.proofs.Growing.{IsWellFormed-with_var}
 use Rattle.cgm_atom.proofs.problems.Problem.push_var.Goals as goal
 

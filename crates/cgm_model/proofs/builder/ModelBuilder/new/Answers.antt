@@ -1,17 +1,18 @@
-use Rattle.std.proofs.Common.{◌≡◌, [], ◌∙◌}
+use Rattle.std.proofs.Common.{refl, sym, subst}
+use Rattle.cgm_model.specs.declared.aids.Aids.{Aids}
+use Rattle.cgm_model.specs.declared.lists.Lists.{Lists}
+use Rattle.cgm_model.specs.Keeping.{AreFor}
+use Rattle.cgm_model.specs.WellFormed.{IsWellFormed}
+use Rattle.cgm_model.proofs.Aiding.{AreFor-none}
 use Rattle.cgm_model.proofs.Keeping.{IsWellFormed-none}
 use Rattle.cgm_model.proofs.builder.ModelBuilder.new.Goals as goal
 
 pub invariant_of-result : goal.invariant_of-result
 invariant_of-result c =
-    let elements : c.of.result ≡ [] = c.of.ensures ∙ c.new.ensures.items in
-    let refinements : c.of-2.result ≡ [] = c.of-2.ensures ∙ c.new-2.ensures.items in
-    let asserts : c.of-3.result ≡ [] = c.of-3.ensures ∙ c.new-3.ensures.items in
-    rw (elements, refinements, asserts, c.new-4.ensures.items) (IsWellFormed-none, cc)
+    let aids : Aids = record { alloc = c.args.alloc; names = c.new.result; graph = c.new-2.result; node_room = 200000 } in (
+      subst IsWellFormed (sym c.empty_lists.ensures) IsWellFormed-none,
+      subst (λ (m : Lists). AreFor m aids) (sym c.empty_lists.ensures) (AreFor-none aids c.new-2.ensures.index c.new-2.ensures.room refl),
+    )
 
 pub returns-clause-known : goal.returns-clause-known
-returns-clause-known c =
-    let elements : c.of.result ≡ [] = c.of.ensures ∙ c.new.ensures.items in
-    let refinements : c.of-2.result ≡ [] = c.of-2.ensures ∙ c.new-2.ensures.items in
-    let asserts : c.of-3.result ≡ [] = c.of-3.ensures ∙ c.new-3.ensures.items in
-    rw (elements, refinements, asserts) IsWellFormed-none
+returns-clause-known c = subst IsWellFormed (sym c.empty_lists.ensures) IsWellFormed-none

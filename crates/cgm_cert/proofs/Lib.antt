@@ -1,0 +1,11 @@
+pub mod EntryLines
+pub mod EntryWords
+pub mod Lacking
+pub mod Once
+pub mod Printed
+pub mod Rows
+pub mod Splits
+pub mod Steps
+pub mod Unique
+pub mod Whole
+pub mod WordLemmas

@@ -1,0 +1,34 @@
+-- A list that is cut at each element that passes, by the first of these places.
+use Rattle.std.proofs.Common.{◌≡◌, ℕ, ◌+◌, ◌<◌, ◌≤◌, Bool, true, false, cond, ltb, List, [], ◌∷◌, length, take, drop, None, Some, position, refl, arith, eqb, get_or, ◌++◌, sym, ◌∙◌, ap}
+use Rattle.std.specs.List.{slice_split, position_or_len}
+use Rattle.std.proofs.lemmas.List.Sums.{position_or_len_is, fails_before_first}
+use Rattle.std.proofs.lemmas.List.Quantifiers.{position-Some}
+use Rattle.std.proofs.lemmas.List.Splits.{slice_split_none, slice_split_first}
+use Rattle.std.proofs.lemmas.Bool.{ltb-false, eqb-true}
+use Rattle.std.proofs.lemmas.List.{take-append-drop, drop_more}
+
+false_where_none : (test : Bool) (place : ℕ) → cond test (Some place) None ≡ None → test ≡ false
+false_where_none false place e = refl
+false_where_none true place e = cc
+
+pub slice_split-position_none : (p : ℕ → Bool) (xs : List ℕ) → position p xs ≡ None → slice_split p xs ≡ xs ∷ []
+slice_split-position_none p xs e =
+    let past : length xs ≤ position_or_len p xs = ltb-false (position_or_len p xs) (length xs) (false_where_none (ltb (position_or_len p xs) (length xs)) (position_or_len p xs) e) in
+    slice_split_none p xs (λ k d within. fails_before_first p xs k d (omega arith))
+
+pub slice_split-position_some : (p : ℕ → Bool) (xs : List ℕ) (i : ℕ) → position p xs ≡ Some i → (slice_split p xs ≡ take i xs ∷ slice_split p (drop (i + 1) xs)) × (i < length xs)
+slice_split-position_some p xs i e =
+    let found = position-Some p xs i 0 e in
+    let within : i < length xs = found.0 in
+    let at : position_or_len p xs ≡ i = position_or_len_is p xs i 0 (omega arith) found.2 (λ _. found.1) in
+    let cut = slice_split_first p xs 0 (rw at within) in
+    (rw at at cut, within)
+
+-- what stands before and after the first such byte, and the byte between them
+pub whole_at : (mark : ℕ) (xs : List ℕ) (i : ℕ) → position (λ byte. eqb byte mark) xs ≡ Some i → xs ≡ take i xs ++ mark ∷ drop (i + 1) xs
+whole_at mark xs i e =
+    let found = position-Some (λ byte. eqb byte mark) xs i 0 e in
+    let same : get_or xs i 0 ≡ mark = eqb-true (get_or xs i 0) mark found.1 in
+    let more = drop_more xs i 0 found.0 in
+    let parts = take-append-drop i xs in
+    sym parts ∙ ap (λ l. take i xs ++ l) (more ∙ ap (λ b. b ∷ drop (i + 1) xs) same)

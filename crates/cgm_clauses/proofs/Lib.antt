@@ -1,0 +1,4 @@
+pub mod Naming
+pub mod Standings
+pub mod Steps
+pub mod Units

@@ -1,0 +1,14 @@
+use Rattle.std.proofs.Common.{◌≡◌, ◌+◌, ◌++◌, ◌^◌, ◌≤◌}
+use Rattle.cgm_trail.specs.Steps.{IsPropagated}
+use Rattle.cgm_clauses.specs.StoreState.{IsNamedIn}
+use Rattle.cgm_clauses.proofs.sweeping.propagate_by.Given as goal
+
+abbrev pub invariant-loop-h : goal.invariant-loop-h
+invariant-loop-h l = record {
+  made : IsPropagated (IsNamedIn (l.clauses ++ l.added)) l.fn.t l.t l.fn.left l.left;
+  problem : l.t.problem ≡ l.fn.t.problem;
+  room : l.t.moves + l.left ≤ 2 ^ 62;
+}
+
+abbrev pub decreases-loop-h : goal.decreases-loop-h
+decreases-loop-h l = l.left

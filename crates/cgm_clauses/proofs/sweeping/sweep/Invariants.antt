@@ -1,0 +1,14 @@
+use Rattle.std.proofs.Common.{◌≡◌, ◌+◌, ◌^◌, ◌≤◌, take}
+use Rattle.cgm_trail.specs.Steps.{IsPropagated}
+use Rattle.cgm_trail.specs.TrailState.{box_of}
+use Rattle.cgm_clauses.specs.StoreState.{IsNamedIn}
+use Rattle.cgm_clauses.specs.Sweeping.{AreQuiet}
+use Rattle.cgm_clauses.proofs.sweeping.sweep.Given as goal
+
+abbrev pub invariant-loop-named : goal.invariant-loop-named
+invariant-loop-named l = record {
+  made : IsPropagated (IsNamedIn l.clauses) l.fn.t l.t l.fn.left l.left;
+  quiet : l.left ≡ l.fn.left → AreQuiet (box_of l.t) (take l.named-index l.clauses);
+  problem : l.t.problem ≡ l.fn.t.problem;
+  room : l.t.moves + l.left ≤ 2 ^ 62;
+}

@@ -1,0 +1,5 @@
+pub mod Laws
+pub mod Standing
+pub mod StoreParts
+pub mod StoreState
+pub mod Sweeping

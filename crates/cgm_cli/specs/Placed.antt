@@ -1,0 +1,15 @@
+-- The line and the status of a fault that tells what is faulty and where.
+use Rattle.std.specs.Prelude.{ℕ, List}
+use Rattle.cgm_base.specs.declared.status.Status.{Status}
+use Rattle.cgm_base.specs.declared.status.Status.TheVariants as statuses
+use Rattle.cgm_cli.specs.declared.print.PlacedFault.{PlacedFault}
+use Rattle.cgm_cli.specs.declared.print.PlacedFault.TheVariants as faults
+use Rattle.cgm_cli.specs.Report.{text_fault, limit_fault}
+
+abbrev pub placed_line : PlacedFault → List ℕ
+placed_line (faults.Text line kind) = text_fault line kind
+placed_line (faults.Limit limit) = limit_fault limit
+
+abbrev pub placed_status : PlacedFault → Status
+placed_status (faults.Text line kind) = statuses.Text
+placed_status (faults.Limit limit) = statuses.Limit

@@ -1,0 +1,21 @@
+ghost use Rattle.cgm_model.specs.Model.{lists_of};
+ghost use Rattle.cgm_cli.specs.Outcome.{printing, HasShowOutcome};
+
+use crate::print::{print_report, tell_memory};
+use cgm_base::Status;
+use cgm_model::Model;
+use cgm_shelf::Sink;
+use cgm_text::print;
+use std::alloc::Global;
+
+/// Prints the canonical text of a model.
+pub(crate) fn show<O: Sink>(alloc: Global, m: &Model, out: &mut O) -> Status
+    ensures { HasShowOutcome (lists_of m.now)
+        (printing (O.written out.old) (O.written out.new) (O.faults out.old) (O.faults out.new))
+        result }
+{
+    match print(alloc, m) {
+        Ok(text) => print_report(out, text.as_slice(), Status::Done),
+        Err(_) => tell_memory(out),
+    }
+}

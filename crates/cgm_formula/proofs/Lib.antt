@@ -1,0 +1,4 @@
+pub mod Comparisons
+pub mod Folds
+pub mod Induction
+pub mod Truths

@@ -1,0 +1,15 @@
+//! Formulas over elements, refinements and bounded numbers, and what they mean under an assignment.
+#![tactic(auto)]
+
+mod assignment;
+mod formula;
+mod meaning;
+mod name;
+mod parts;
+
+pub use assignment::Assignment;
+pub use formula::{Formula, Linear, Number, Truth};
+pub use meaning::{holds, value};
+pub use name::Name;
+pub use parts::Parts;
+pub use std::alloc::AllocError as OutOfMemory;

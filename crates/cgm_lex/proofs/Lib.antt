@@ -1,0 +1,9 @@
+pub mod Adding
+pub mod Contents
+pub mod Cutting
+pub mod Numbering
+pub mod Passing
+pub mod Places
+pub mod Plain
+pub mod Printing
+pub mod Splits

@@ -1,0 +1,5 @@
+pub mod Lexemes
+pub mod Lines
+pub mod Numbers
+pub mod Pieces
+pub mod Spelling

@@ -1,0 +1,27 @@
+ghost use Rattle.std.specs.Prelude.{◌≡◌, ◌≢◌, ℕ, List, All, Ok, IsTrue, IsUtf8};
+ghost use Rattle.std.specs.List.{list_all};
+ghost use Rattle.cgm_lex.specs.Pieces.{is_run_byte};
+ghost use Rattle.cgm_lex.specs.Lexemes.{Lexeme, line_lexemes};
+ghost use Rattle.cgm_lex.specs.Spelling.{IsPlain, spelled_line};
+
+/// The law that a canonical line is lexed again as its tokens.
+pub fn canonical_line_is_read_back()
+    ensures { (lexemes : List Lexeme) → All IsPlain lexemes → line_lexemes (spelled_line lexemes)
+        ≡ Ok lexemes }
+{}
+
+/// The law that a canonical line has no line feed.
+pub fn canonical_line_has_no_feed()
+    ensures { (lexemes : List Lexeme) → All IsPlain lexemes → All (λ byte. byte
+        ≢ 10) (spelled_line lexemes) }
+{}
+
+/// The law that the words of a line are runs that begin as no number, and its numbers have 64 bits.
+pub fn line_is_plain()
+    ensures { (line : List ℕ) (lexemes : List Lexeme) → line_lexemes line ≡ Ok lexemes → All IsPlain lexemes }
+{}
+
+/// The law that a run is a text.
+pub fn run_is_text()
+    ensures { (run : List ℕ) → IsTrue (list_all is_run_byte run) → IsUtf8 run }
+{}

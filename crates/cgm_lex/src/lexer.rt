@@ -1,0 +1,106 @@
+ghost use Rattle.std.specs.Prelude.{◌≡◌, ◌+◌, ◌<◌, ◌≤◌, List, length, map, All, IfOk, IfErr, MatchOption, Ok, drop};
+ghost use Rattle.std.specs.List.{slice_range};
+ghost use Rattle.cgm_lex.specs.Lexemes.{Lexeme, IsAdded, IsFaultOf, IsLineStop, IsWithin, StandInOrder, first_fault, lexeme_with, line_lexemes, placed, seen, text_lexemes};
+ghost use Rattle.cgm_lex.specs.Lines.{lines};
+
+use crate::line::{Span, content, line_end, next_piece};
+use crate::number::kind_of;
+use crate::token::{Kind, LexFault, LexStop, Lexed, Token, fault_of};
+use std::alloc::{AllocError, Global};
+
+/// The token of a piece of the line that begins at the place `start`.
+fn token_at(line: u32, start: usize, piece: Span, kind: Kind) -> Token
+    requires small { start + piece.to ≤ 16777216 }
+    requires order { piece.from < piece.to }
+    ensures line { result.line ≡ line }
+    ensures from { result.from ≡ start + piece.from }
+    ensures to { result.to ≡ start + piece.to }
+    ensures kind { result.kind ≡ kind }
+{
+    Token {
+        line,
+        from: (start + piece.from) as u32,
+        to: (start + piece.to) as u32,
+        kind,
+    }
+}
+
+/// Adds the tokens of the line from place `start` to before place `end`; answers the line's fault, and adds
+/// nothing, where it has one.
+fn add_tokens(
+    tokens: &mut Vec<Token>,
+    text: &[u8],
+    start: usize,
+    end: usize,
+    line: u32,
+) -> Result<Option<LexFault>, AllocError>
+    requires order { start ≤ end }
+    requires inside { end ≤ length text.now }
+    requires small { length text.now ≤ 16777216 }
+    ensures added { IfOk result (λ found. MatchOption found ((lexemes : List Lexeme)
+        × ((line_lexemes (slice_range text.now start end) ≡ Ok lexemes) × IsAdded text.now line tokens.old.items tokens.new.items lexemes)) (λ fault.
+        IsFaultOf line (slice_range text.now start end) fault × (tokens.new.items ≡ tokens.old.items))) }
+    ensures order { IfOk result (λ found. StandInOrder text.now 0 start tokens.old.items
+        → StandInOrder text.now 0 end tokens.new.items) }
+{
+    let count = tokens.len();
+    let words = content(&text[start..end]);
+    let mut at = 0;
+    while let Some(piece) = next_piece(words, at) {
+        match kind_of(&words[piece.from..piece.to]) {
+            Ok(kind) => tokens.push(token_at(line, start, piece, kind))?,
+            Err(flaw) => {
+                tokens.truncate(count);
+                return Ok(Some(fault_of(line, flaw)));
+            }
+        }
+        at = piece.to;
+    }
+    Ok(None)
+}
+
+/// The tokens of one line of at most 16 MiB, given without its line feed; their spans are places of the line.
+/// `number` is the line's number.
+pub fn tokens_of_line(alloc: Global, line: &[u8], number: u32) -> Result<Vec<Token>, LexStop>
+    requires { length line.now ≤ 16777216 }
+    ensures lexemes { IfOk result (λ tokens. line_lexemes line.now
+        ≡ Ok (map (seen line.now) tokens.items)) }
+    ensures numbered { IfOk result (λ tokens. All (λ token. token.line ≡ number) tokens.items) }
+    ensures within { IfOk result (λ tokens. All (IsWithin line.now) tokens.items) }
+    ensures order { IfOk result (λ tokens. StandInOrder line.now 0 (length line.now) tokens.items) }
+    ensures stop { IfErr result (IsLineStop number line.now) }
+{
+    let mut tokens = Vec::new(alloc);
+    match add_tokens(&mut tokens, line, 0, line.len(), number) {
+        Ok(None) => Ok(tokens),
+        Ok(Some(fault)) => Err(LexStop::Fault(fault)),
+        Err(_) => Err(LexStop::Memory),
+    }
+}
+
+/// The tokens of a text of at most 16 MiB: those of the lines before the first faulty one, and its fault.
+pub fn tokens(alloc: Global, bytes: &[u8]) -> Result<Lexed, AllocError>
+    requires { length bytes.now ≤ 16777216 }
+    ensures tokens { IfOk result (λ lexed. map (placed bytes.now) lexed.tokens.items
+        ≡ text_lexemes 1 (lines bytes.now)) }
+    ensures within { IfOk result (λ lexed. All (IsWithin bytes.now) lexed.tokens.items) }
+    ensures order { IfOk result (λ lexed. StandInOrder bytes.now 0 (length bytes.now) lexed.tokens.items) }
+    ensures fault { IfOk result (λ lexed. lexed.fault ≡ first_fault 1 (lines bytes.now)) }
+{
+    let mut tokens = Vec::new(alloc);
+    let mut start = 0;
+    let mut line = 1;
+    while start < bytes.len() {
+        let end = line_end(bytes, start);
+        match add_tokens(&mut tokens, bytes, start, end, line)? {
+            None => {}
+            fault => return Ok(Lexed { tokens, fault }),
+        }
+        start = (end + 1).min(bytes.len());
+        line += 1;
+    }
+    Ok(Lexed {
+        tokens,
+        fault: None,
+    })
+}

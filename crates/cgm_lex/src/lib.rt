@@ -1,0 +1,15 @@
+//! The tokens of a text, with their spans, and the first fault.
+#![tactic(auto)]
+
+mod bytes;
+mod laws;
+mod lexer;
+mod line;
+mod number;
+mod token;
+
+pub use laws::{
+    canonical_line_has_no_feed, canonical_line_is_read_back, line_is_plain, run_is_text,
+};
+pub use lexer::{tokens, tokens_of_line};
+pub use token::{Flaw, Kind, LexFault, LexStop, Lexed, Token, bytes_of};

@@ -1,0 +1,8 @@
+//! Propagation by rows: the tightenings that narrowing by a row makes, each as a change of a trail.
+#![tactic(auto)]
+
+mod rows;
+mod steps;
+
+pub use cgm_trail::OutOfMemory;
+pub use rows::propagate_row;

@@ -1,0 +1,70 @@
+-- What a trade adds to the log.
+use Rattle.std.proofs.Common.{◌≡◌, ℕ, Bool, true, false, List, [], ◌∷◌, ◌++◌, drop, length, refl, sym, ap, subst, ◌∙◌, append-nil, arith}
+use Rattle.std.specs.Prelude.{IsTrue, if◌then◌else◌, IfOk, OnOk, Result, Ok, Err}
+use Rattle.std.specs.declared.option.Option.TheVariants.{Some}
+use Rattle.std.proofs.lemmas.List.{length-map}
+use Rattle.std.proofs.lemmas.List.Elements.{All-nil}
+use Rattle.cgm_atom.specs.declared.entries.Entry.{Entry}
+use Rattle.cgm_atom.specs.Instance.{Instance}
+use Rattle.cgm_atom.specs.LogState.{state_of}
+use Rattle.cgm_atom.specs.Placing.{all_placed}
+use Rattle.cgm_atom.specs.Limits.{IsWellFormed}
+use Rattle.cgm_atom.specs.Ranges.{IsPrintable}
+use Rattle.cgm_atom.proofs.StateLemmas.{IsAccepted-nil, state_of-entries}
+use Rattle.cgm_step.specs.Indexing.{Index, IsIndexOf}
+use Rattle.cgm_log.specs.declared.batches.Batch.{Batch}
+use Rattle.cgm_log.specs.declared.batches.Refund.{Refund}
+use Rattle.cgm_log.specs.declared.batches.Traded.{Traded}
+use Rattle.cgm_log.specs.Landing.{kept_candidate, with_landed}
+use Rattle.cgm_log.specs.LogBook.{IsLog}
+use Rattle.cgm_log.specs.Trading.{news_of}
+
+-- a log without entries
+pub empty_log : (p : Instance) (entries : List Entry) → entries ≡ [] → IsWellFormed p → IsLog (record { problem = p; entries = entries })
+empty_log p entries e valid =
+    subst (λ (xs : List Entry). IsLog (record { problem = p; entries = xs })) (sym e)
+    (record { problem = valid; accepted = IsAccepted-nil p; printable = All-nil IsPrintable; count = omega arith })
+
+pub counted : (index : Index) (log : List Entry) → IsIndexOf index log → index.entries ≡ length log
+counted index log own = ap (λ (i : Index). i.entries) own ∙ ap length (state_of-entries log) ∙ length-map log Some
+
+-- ---- the list that lands
+
+abbrev pub added : Instance → List Entry → Batch → List Entry
+added p log b = all_placed (length log) b.lemmas ++ kept_candidate p (state_of log) b.by b.candidate
+
+pub landing_is : (p : Instance) (log : List Entry) (b : Batch) (n : ℕ) (lemmas kept landing : List Entry) → n ≡ length log → lemmas ≡ b.lemmas → kept ≡ kept_candidate p (state_of log) b.by b.candidate → landing ≡ all_placed n lemmas ++ kept → landing ≡ added p log b
+landing_is p log b n lemmas kept landing e f g h =
+    h
+    ∙ ap (λ (k : ℕ). all_placed k lemmas ++ kept) e
+    ∙ ap (λ (xs : List Entry). all_placed (length log) xs ++ kept) f
+    ∙ ap (λ (xs : List Entry). all_placed (length log) b.lemmas ++ xs) g
+
+when_closed : (t : Bool) (log added : List Entry) → t ≡ true → log ≡ log ++ (if t then [] else added)
+when_closed true log added h = sym (append-nil log)
+when_closed false log added h = absurd (cc)
+
+when_open : (t : Bool) (log added : List Entry) → t ≡ false → log ++ added ≡ log ++ (if t then [] else added)
+when_open true log added h = absurd (cc)
+when_open false log added h = refl
+
+pub closed_stays : (p : Instance) (log : List Entry) (b : Batch) → IsTrue (state_of log).closed → log ≡ with_landed p log b
+closed_stays p log b h = when_closed (state_of log).closed log (all_placed (length log) b.lemmas ++ kept_candidate p (state_of log) b.by b.candidate) h
+
+pub open_grows : (p : Instance) (log : List Entry) (b : Batch) → (state_of log).closed ≡ false → log ++ (all_placed (length log) b.lemmas ++ kept_candidate p (state_of log) b.by b.candidate) ≡ with_landed p log b
+open_grows p log b h = when_open (state_of log).closed log (all_placed (length log) b.lemmas ++ kept_candidate p (state_of log) b.by b.candidate) h
+
+-- ---- who has seen all is told nothing new
+
+drop_own : (log : List Entry) → drop (length log) log ≡ []
+drop_own [] = refl
+drop_own (e ∷ log) = drop_own log
+
+none_new : (log news : List Entry) (seen : ℕ) → seen ≡ length log → news ≡ drop seen log → log ≡ log ++ news
+none_new log news seen e h =
+    sym (append-nil log) ∙ ap (λ (xs : List Entry). log ++ xs) (sym (h ∙ ap (λ (n : ℕ). drop n log) e ∙ drop_own log))
+
+pub landed_after_news : (p : Instance) (told after : List Entry) (seen : ℕ) (b : Batch) (r : Result Traded Refund) → seen ≡ length told → IfOk r (λ t. news_of t ≡ drop seen told) → OnOk r (after ≡ with_landed p told b) → IfOk r (λ t. after ≡ with_landed p (told ++ news_of t) b)
+landed_after_news p told after seen b (Ok t) e h k =
+    k ∙ ap (λ (log : List Entry). with_landed p log b) (none_new told (news_of t) seen e h)
+landed_after_news p told after seen b (Err r) e h k = k

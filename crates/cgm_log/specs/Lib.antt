@@ -1,0 +1,4 @@
+pub mod Landing
+pub mod LogBook
+pub mod LogParts
+pub mod Trading

@@ -1,0 +1,21 @@
+-- The answer of a trade on a log.
+use Rattle.std.specs.Prelude.{◌≡◌, false, ◌+◌, List, length}
+use Rattle.cgm_atom.specs.declared.entries.Entry.{Entry}
+use Rattle.cgm_atom.specs.Acceptance.{IsClosed}
+use Rattle.cgm_atom.specs.Instance.{Instance}
+use Rattle.cgm_atom.specs.LogState.{state_of}
+use Rattle.cgm_log.specs.declared.batches.Batch.{Batch}
+use Rattle.cgm_log.specs.declared.batches.Traded.{Traded}
+use Rattle.cgm_log.specs.declared.batches.Traded.TheVariants.{Closed, Landed}
+use Rattle.cgm_log.specs.Landing.{fate_of}
+
+-- the entries that stood before the trade and weren't seen
+abbrev pub news_of : Traded → List Entry
+news_of (Landed news first fate) = news
+news_of (Closed news) = news
+
+-- what a trade of the batch on the log answers
+abbrev pub IsAnswer : Instance → List Entry → Batch → Traded → Type 0
+IsAnswer p log b (Landed news first fate) =
+    ((state_of log).closed ≡ false) × (first ≡ length log + 1) × (fate ≡ fate_of p (state_of log) b.candidate)
+IsAnswer p log b (Closed news) = IsClosed log

@@ -1,0 +1,25 @@
+//! The log of a search: entries that are accepted one after another, and the trades by which workers add to it.
+#![tactic(auto)]
+
+mod batches;
+mod copies;
+mod judging;
+mod logs;
+mod traders;
+
+pub use batches::{Batch, Fate, Refund, Traded};
+pub use cgm_atom::OutOfMemory;
+pub use logs::Log;
+use std::marker::Send;
+pub use traders::{Alone, MAX_TRADES, Trader};
+
+// A log, its trader and what they exchange can be moved to a thread.
+fn cross_threads(log: &Log, alone: &Alone, batch: &Batch, traded: &Traded, refund: &Refund) {
+    can_be_moved(log);
+    can_be_moved(alone);
+    can_be_moved(batch);
+    can_be_moved(traded);
+    can_be_moved(refund);
+}
+
+fn can_be_moved<T: Send>(_: &T) {}

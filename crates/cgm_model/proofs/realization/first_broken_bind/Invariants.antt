@@ -1,0 +1,8 @@
+use Rattle.std.proofs.Common.{drop}
+use Rattle.cgm_model.specs.Model.{lists_of}
+use Rattle.cgm_model.specs.Realization.{KeepsBind}
+use Rattle.cgm_model.proofs.Places.{Settles}
+use Rattle.cgm_model.proofs.realization.first_broken_bind.Given as goal
+
+abbrev pub invariant-loop-number : goal.invariant-loop-number
+invariant-loop-number l = Settles (KeepsBind (lists_of l.m) l.a) l.m.binds (drop l.number l.m.binds) l.number

@@ -1,0 +1,13 @@
+use crate::graph::Graph;
+use crate::names::NameTable;
+use std::alloc::Global;
+
+/// What serves to find names, cycles and counts fast.
+#[derive(Debug, Drop)]
+pub(crate) struct Aids {
+    pub(crate) alloc: Global,
+    pub(crate) names: NameTable,
+    pub(crate) graph: Graph,
+    /// How many formula nodes may still come.
+    pub(crate) node_room: usize,
+}

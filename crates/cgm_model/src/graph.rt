@@ -1,0 +1,228 @@
+ghost use Rattle.std.specs.Prelude.{◌≡◌, ◌+◌, ◌<◌, ◌≤◌, ◌++◌, ◌∷◌, [], ◌==◌, ◌↔◌, ℕ, false, List, IsTrue, All, length, slice_index_or, OnOk};
+ghost use Rattle.std.specs.List.{list_any};
+ghost use Rattle.cgm_model.specs.declared.lists.Refinement.{Refinement};
+ghost use Rattle.cgm_model.specs.Graph.{IsAcyclic, IsKnown};
+ghost use Rattle.cgm_model.specs.Search.{IsMarked, IsSearch, MarksEach, Visits, Fills, IsCovered, state};
+ghost use Rattle.cgm_model.specs.TargetIndex.{IsIndexOf, HasRoomFor};
+
+use crate::lists::Refinement;
+use cgm_formula::OutOfMemory;
+use sqlite_items::{Items, at};
+use std::alloc::Global;
+
+/// The graph from targets to sources, with room to search it for a cycle without taking memory.
+#[derive(Debug, Drop)]
+pub(crate) struct Graph {
+    /// For each element the numbers of the refinements that have it as target, and maybe others.
+    by_target: Vec<Items<u32>>,
+    /// For each element whether it is a source, or was to become one.
+    is_source: Vec<bool>,
+    queue: Vec<u32>,
+    marks: Vec<bool>,
+}
+
+impl Graph {
+    pub(crate) fn new(alloc: Global) -> Graph
+        ensures index { IsIndexOf [] result }
+        ensures room { HasRoomFor 0 result }
+    {
+        Graph {
+            by_target: Vec::new(alloc),
+            is_source: Vec::new(alloc),
+            queue: Vec::new(alloc),
+            marks: Vec::new(alloc),
+        }
+    }
+}
+
+/// Makes room for one more element.
+pub(crate) fn grow(alloc: Global, graph: &mut Graph) -> Result<(), OutOfMemory>
+    ensures kept { (rs : List Refinement) → IsIndexOf rs graph.old → IsIndexOf rs graph.new }
+    ensures room { (count : ℕ) → HasRoomFor count graph.old → HasRoomFor count graph.new }
+    ensures more { OnOk result ((count : ℕ) → HasRoomFor count graph.old → HasRoomFor (count + 1) graph.new) }
+{
+    graph.by_target.push(Items::new(alloc))?;
+    graph.is_source.push(false)?;
+    graph.queue.push(0)?;
+    graph.marks.push(false)?;
+    Ok(())
+}
+
+/// Takes the refinement with this number into the graph.
+pub(crate) fn link(graph: &mut Graph, number: u32, r: &Refinement) -> Result<(), OutOfMemory>
+    requires known { IsKnown (length graph.old.marks.items) r.now }
+    requires index { IsIndexOf [] graph.old }
+    ensures kept { (rs : List Refinement) → IsIndexOf rs graph.old → IsIndexOf rs graph.new }
+    ensures room { (count : ℕ) → HasRoomFor count graph.old → HasRoomFor count graph.new }
+    ensures linked { OnOk result ((rs : List Refinement) → number ≡ length rs → IsIndexOf rs graph.old → IsIndexOf (rs ++ r.now ∷ []) graph.new) }
+{
+    graph.by_target[r.target as usize].push(number)?;
+    flag_each(&mut graph.is_source, r.sources.as_slice());
+    Ok(())
+}
+
+fn flag_each(flags: &mut Vec<bool>, elements: &[u32])
+    requires { All (λ element. element < length flags.old.items) elements.now }
+    ensures length { length flags.new.items ≡ length flags.old.items }
+    ensures kept { (element : ℕ) → IsMarked flags.old.items element → IsMarked flags.new.items element }
+    ensures flagged { All (IsMarked flags.new.items) elements.now }
+{
+    for element in elements {
+        flags[*element as usize] = true;
+    }
+}
+
+/// Says whether the graph of the refinements still has no cycle with one more.
+pub(crate) fn stays_acyclic(graph: &mut Graph, refinements: &[Refinement], r: &Refinement) -> bool
+    requires acyclic { IsAcyclic refinements.now }
+    requires index { IsIndexOf refinements.now graph.old }
+    requires known { All (IsKnown (length graph.old.marks.items)) refinements.now }
+    requires new_known { IsKnown (length graph.old.marks.items) r.now }
+    ensures answer { IsTrue result ↔ IsAcyclic (refinements.now ++ r.now ∷ []) }
+    ensures kept { (rs : List Refinement) → IsIndexOf rs graph.old → IsIndexOf rs graph.new }
+    ensures room { (count : ℕ) → HasRoomFor count graph.old → HasRoomFor count graph.new }
+{
+    if is_on_top(graph.is_source.as_slice(), r) {
+        return true;
+    }
+    is_unreached(
+        graph.by_target.as_slice(),
+        graph.marks.as_mut_slice(),
+        graph.queue.as_mut_slice(),
+        refinements,
+        r,
+    )
+}
+
+/// Says whether the target is no source, of this refinement neither.
+fn is_on_top(is_source: &[bool], r: &Refinement) -> bool
+    requires { r.now.target < length is_source.now }
+    ensures old { IsTrue result → slice_index_or is_source.now r.now.target false ≡ false }
+    ensures new { IsTrue result → list_any (λ y. y == r.now.target) r.now.sources ≡ false }
+{
+    !is_source[r.target as usize] && !r.sources.as_slice().contains(&r.target)
+}
+
+/// Says whether the target isn't reached from the sources.
+fn is_unreached(
+    by_target: &[Items<u32>],
+    marks: &mut [bool],
+    queue: &mut [u32],
+    refinements: &[Refinement],
+    r: &Refinement,
+) -> bool
+    requires acyclic { IsAcyclic refinements.now }
+    requires covered { IsCovered by_target.now refinements.now }
+    requires targets { length marks.old ≤ length by_target.now }
+    requires queue { length marks.old ≤ length queue.old }
+    requires known { All (IsKnown (length marks.old)) refinements.now }
+    requires new_known { IsKnown (length marks.old) r.now }
+    ensures { IsTrue result ↔ IsAcyclic (refinements.now ++ r.now ∷ []) }
+{
+    unmark_all(marks);
+    let count = mark_each(marks, queue, 0, r.sources.as_slice());
+    fill(by_target, marks, queue, count, refinements);
+    !marks[r.target as usize]
+}
+
+fn unmark_all(marks: &mut [bool])
+    ensures { (element : ℕ) → ¬ IsMarked marks.new element }
+{
+    for mark in marks.iter_mut() {
+        *mark = false;
+    }
+}
+
+/// Marks all that is reached from the elements in the queue.
+fn fill(
+    by_target: &[Items<u32>],
+    marks: &mut [bool],
+    queue: &mut [u32],
+    count: usize,
+    refinements: &[Refinement],
+)
+    requires search { IsSearch (state marks.old queue.old count) }
+    requires covered { IsCovered by_target.now refinements.now }
+    requires targets { length marks.old ≤ length by_target.now }
+    requires known { All (IsKnown (length marks.old)) refinements.now }
+    ensures { Fills refinements.now marks.old marks.new }
+{
+    let mut count = count;
+    let mut next = 0;
+    while next < count {
+        let element = queue[next];
+        let numbers = by_target[element as usize].as_slice();
+        count = visit(marks, queue, count, refinements, element, numbers);
+        next += 1;
+    }
+}
+
+/// Marks the sources of each refinement that has one of these numbers and the element as target.
+fn visit(
+    marks: &mut [bool],
+    queue: &mut [u32],
+    count: usize,
+    refinements: &[Refinement],
+    element: u32,
+    numbers: &[u32],
+) -> usize
+    requires search { IsSearch (state marks.old queue.old count) }
+    requires known { All (IsKnown (length marks.old)) refinements.now }
+    ensures { Visits refinements.now element numbers.now (state marks.old queue.old count) (state marks.new queue.new result) }
+{
+    let mut count = count;
+    for number in numbers {
+        count = visit_one(marks, queue, count, refinements, element, *number);
+    }
+    count
+}
+
+fn visit_one(
+    marks: &mut [bool],
+    queue: &mut [u32],
+    count: usize,
+    refinements: &[Refinement],
+    element: u32,
+    number: u32,
+) -> usize
+    requires search { IsSearch (state marks.old queue.old count) }
+    requires known { All (IsKnown (length marks.old)) refinements.now }
+    ensures { Visits refinements.now element (number ∷ []) (state marks.old queue.old count) (state marks.new queue.new result) }
+{
+    match at(refinements, number as usize) {
+        None => count,
+        Some(r) => {
+            if r.target == element {
+                mark_each(marks, queue, count, r.sources.as_slice())
+            } else {
+                count
+            }
+        }
+    }
+}
+
+/// Marks these elements, and puts those that weren't marked into the queue.
+fn mark_each(marks: &mut [bool], queue: &mut [u32], count: usize, elements: &[u32]) -> usize
+    requires search { IsSearch (state marks.old queue.old count) }
+    requires known { All (λ element. element < length marks.old) elements.now }
+    ensures { MarksEach elements.now (state marks.old queue.old count) (state marks.new queue.new result) }
+{
+    let mut count = count;
+    for element in elements {
+        count = mark(marks, queue, count, *element);
+    }
+    count
+}
+
+fn mark(marks: &mut [bool], queue: &mut [u32], count: usize, element: u32) -> usize
+    requires search { IsSearch (state marks.old queue.old count) }
+    requires known { element < length marks.old }
+    ensures { MarksEach (element ∷ []) (state marks.old queue.old count) (state marks.new queue.new result) }
+{
+    if marks[element as usize] {
+        return count;
+    }
+    marks[element as usize] = true;
+    queue[count] = element;
+    count + 1
+}

@@ -1,0 +1,110 @@
+ghost use Rattle.std.specs.Prelude.{◌≡◌, ◌↔◌, List, ℕ, IsTrue, IfErr, OnOk, OnErr, if◌then◌else◌};
+ghost use Rattle.std.specs.Str.{bytes_eq};
+ghost use Rattle.cgm_model.specs.Keeping.{AreFor};
+ghost use Rattle.cgm_model.specs.NameTable.{found};
+ghost use Rattle.cgm_model.specs.Named.{IsNamed, thing_named};
+ghost use Rattle.cgm_model.specs.Statement.{is_new};
+ghost use Rattle.cgm_model.specs.WellFormed.{IsWellFormed};
+
+use crate::aids::Aids;
+use crate::lists::{Lists, Thing};
+use crate::stop::AddStop;
+use cgm_formula::OutOfMemory;
+use indexmap::IndexMap;
+use sqlite_items::at;
+use std::alloc::Global;
+
+/// What each name stands for. An entry may be left over from a statement that wasn't added.
+#[derive(Debug, Drop)]
+pub(crate) struct NameTable {
+    entries: IndexMap<Vec<u8>, Thing>,
+}
+
+impl NameTable {
+    pub(crate) fn new(alloc: Global) -> NameTable
+        ensures { (name : List ℕ) → found result name ≡ None }
+    {
+        NameTable {
+            entries: IndexMap::new(alloc),
+        }
+    }
+
+    pub(crate) fn get(&self, name: &[u8]) -> Option<Thing>
+        ensures { result ≡ found self.now name.now }
+    {
+        self.entries.get(name).copied()
+    }
+
+    /// Says what the name stands for, whatever it stood for before.
+    pub(crate) fn set(
+        &mut self,
+        alloc: Global,
+        name: &[u8],
+        thing: Thing,
+    ) -> Result<(), OutOfMemory>
+        ensures set { OnOk result ((q : List ℕ) → found self.new q ≡ (if bytes_eq q name.now then Some thing else found self.old q)) }
+        ensures unchanged { OnErr result ((q : List ℕ) → found self.new q ≡ found self.old q) }
+    {
+        let key = Vec::from_slice(alloc, name)?;
+        self.entries.insert(key, thing)?;
+        Ok(())
+    }
+}
+
+/// Says what the name stands for by the lists.
+pub(crate) fn find(m: &Lists, aids: &Aids, name: &[u8]) -> Option<Thing>
+    requires well_formed { IsWellFormed m.now }
+    requires aids { AreFor m.now aids.now }
+    ensures { result ≡ thing_named m.now name.now }
+{
+    match aids.names.get(name) {
+        None => None,
+        Some(thing) => {
+            if is_named(m, name, thing) {
+                return Some(thing);
+            }
+            None
+        }
+    }
+}
+
+pub(crate) fn is_new(m: &Lists, aids: &Aids, name: &[u8]) -> bool
+    requires well_formed { IsWellFormed m.now }
+    requires aids { AreFor m.now aids.now }
+    ensures { result ≡ is_new m.now name.now }
+{
+    find(m, aids, name).is_none()
+}
+
+/// Says whether the thing has this name by the lists.
+fn is_named(m: &Lists, name: &[u8], thing: Thing) -> bool
+    ensures { IsTrue result ↔ IsNamed m.now name.now thing }
+{
+    match thing {
+        Thing::Element(k) => match at(m.elements.as_slice(), k as usize) {
+            None => false,
+            Some(e) => e.name.is(name),
+        },
+        Thing::Refinement(k) => match at(m.refinements.as_slice(), k as usize) {
+            None => false,
+            Some(r) => r.name.is(name),
+        },
+        Thing::Var(k) => match at(m.vars.as_slice(), k as usize) {
+            None => false,
+            Some(v) => v.name.is(name),
+        },
+    }
+}
+
+/// Enters a name that no statement declares yet.
+pub(crate) fn declare(aids: &mut Aids, name: &[u8], thing: Thing) -> Result<(), AddStop>
+    ensures set { OnOk result ((q : List ℕ) → found aids.new.names q ≡ (if bytes_eq q name.now then Some thing else found aids.old.names q)) }
+    ensures others { OnErr result ((q : List ℕ) → found aids.new.names q ≡ found aids.old.names q) }
+    ensures graph { aids.new.graph ≡ aids.old.graph }
+    ensures node_room { aids.new.node_room ≡ aids.old.node_room }
+    ensures memory { IfErr result (λ stop. stop ≡ AddStop.Memory) }
+{
+    aids.names
+        .set(aids.alloc, name, thing)
+        .map_err(|_| AddStop::Memory)
+}

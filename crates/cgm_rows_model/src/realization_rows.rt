@@ -1,0 +1,352 @@
+// Assignments of models that are read, and the first rule that each breaks.
+use cgm_model::{Assignment, Broken, Model, Parts, fits, is_realization};
+use cgm_text::read;
+use std::alloc::{AllocError, Global};
+use std::process::Abort;
+use std::test::Fail;
+
+/// Goals, refinements and assertions.
+const GRAPH: &str =
+    "cgm 1\ngoal G must\ngoal H\ntask T\ntask U\nrefine R G : H T\nrefine S H : T\nassert U false\n";
+
+fn model_of(alloc: Global, text: &str) -> Result<Model, Fail> {
+    if text.len() > 16_777_216 {
+        return Err(Fail::new("the text is too long"));
+    }
+    Ok(read(alloc, text.as_bytes())?.model)
+}
+
+fn assignment(
+    alloc: Global,
+    elements: &[bool],
+    refinements: &[bool],
+    vars: &[i64],
+) -> Result<Assignment, AllocError> {
+    Ok(Assignment {
+        elements: Parts::of(Vec::from_slice(alloc, elements)?),
+        refinements: Parts::of(Vec::from_slice(alloc, refinements)?),
+        vars: Parts::of(Vec::from_slice(alloc, vars)?),
+    })
+}
+
+/// The first rule that the assignment breaks; it has to fit.
+fn broken_by(rt: &impl Abort, m: &Model, a: &Assignment) -> Option<Broken> {
+    assert!(rt; fits(m, a));
+    is_realization(m, a, &[])
+}
+
+#[test]
+fn broken_rules_of_a_graph(rt: HostRuntime) -> Result<(), Fail> {
+    let m = model_of(rt.alloc(), GRAPH)?;
+    let rows = [
+        ([true, true, true, false], [true, true], None),
+        (
+            [true, true, true, false],
+            [false, true],
+            Some(Broken::Refinement(0)),
+        ),
+        (
+            [false, true, true, false],
+            [true, true],
+            Some(Broken::Refinement(0)),
+        ),
+        (
+            [true, true, true, false],
+            [true, false],
+            Some(Broken::Refinement(1)),
+        ),
+        (
+            [true, false, false, false],
+            [false, false],
+            Some(Broken::Element(0)),
+        ),
+        (
+            [false, true, false, false],
+            [false, false],
+            Some(Broken::Element(1)),
+        ),
+        (
+            [false, false, false, false],
+            [false, false],
+            Some(Broken::Must(0)),
+        ),
+        (
+            [true, true, true, true],
+            [true, true],
+            Some(Broken::Assert(0)),
+        ),
+    ];
+    for (elements, refinements, broken) in rows {
+        let a = assignment(rt.alloc(), &elements, &refinements, &[])?;
+        assert_eq!(rt;
+            broken_by(&rt, &m, &a),
+            broken,
+            "at {elements:?} and {refinements:?}"
+        );
+    }
+    Ok(())
+}
+
+/// The first rule that is broken where G, T and R have one truth value, and H, U and S another,
+/// and the model has these lines too.
+fn broken_in_two_trees(
+    rt: &impl Abort,
+    alloc: Global,
+    lines: &str,
+    left: bool,
+    right: bool,
+) -> Result<Option<Broken>, Fail> {
+    let text = format!(in alloc;
+        "cgm 1\ngoal G\ngoal H\ntask T\ntask U\nrefine R G : T\nrefine S H : U\n{lines}\n"
+    )?;
+    let m = model_of(alloc, text.as_str())?;
+    let a = assignment(alloc, &[left, right, left, right], &[left, right], &[])?;
+    Ok(broken_by(rt, &m, &a))
+}
+
+/// A line, the rule that is broken by it if one is, and whether it holds where both trees are
+/// true, the first, the second, none.
+type Row<'s> = (&'s str, Broken, (bool, bool, bool, bool));
+
+fn all_hold_as_said(rt: &impl Abort, alloc: Global, rows: &[Row<'_>]) -> Result<(), Fail> {
+    for (line, broken, (both, first, second, none)) in rows {
+        let cases = [
+            (true, true, *both),
+            (true, false, *first),
+            (false, true, *second),
+            (false, false, *none),
+        ];
+        for (left, right, holds) in cases {
+            let wanted = if holds { None } else { Some(*broken) };
+            let answer = broken_in_two_trees(rt, alloc, line, left, right)?;
+            assert_eq!(rt; answer, wanted, "at {line} with {left} and {right}");
+        }
+    }
+    Ok(())
+}
+
+#[test]
+fn edges_and_assertions(rt: HostRuntime) -> Result<(), Fail> {
+    let rows = [
+        ("contrib T U", Broken::Contrib(0), (true, false, true, true)),
+        ("contrib T T", Broken::Contrib(0), (true, true, true, true)),
+        (
+            "conflict T U",
+            Broken::Conflict(0),
+            (false, true, true, true),
+        ),
+        (
+            "conflict T T",
+            Broken::Conflict(0),
+            (false, false, true, true),
+        ),
+        ("bind R S", Broken::Bind(0), (true, true, true, true)),
+        (
+            "assert T true",
+            Broken::Assert(0),
+            (true, true, false, false),
+        ),
+        (
+            "assert U false",
+            Broken::Assert(0),
+            (false, true, false, true),
+        ),
+    ];
+    all_hold_as_said(&rt, rt.alloc(), &rows)
+}
+
+#[test]
+fn conditions_of_rules(rt: HostRuntime) -> Result<(), Fail> {
+    let rows = [
+        ("pre+ T U", Broken::Rule(0), (true, false, true, true)),
+        ("pre+ R H", Broken::Rule(0), (true, false, true, true)),
+        ("pre- T U", Broken::Rule(0), (true, true, true, false)),
+        ("pre- R H", Broken::Rule(0), (true, true, true, false)),
+        ("require U", Broken::Rule(0), (true, false, true, false)),
+        ("require S", Broken::Rule(0), (true, false, true, false)),
+    ];
+    all_hold_as_said(&rt, rt.alloc(), &rows)
+}
+
+#[test]
+fn connectives(rt: HostRuntime) -> Result<(), Fail> {
+    let rows = [
+        (
+            "require (not T)",
+            Broken::Rule(0),
+            (false, false, true, true),
+        ),
+        (
+            "require (and T U)",
+            Broken::Rule(0),
+            (true, false, false, false),
+        ),
+        (
+            "require (and U)",
+            Broken::Rule(0),
+            (true, false, true, false),
+        ),
+        (
+            "require (or T U)",
+            Broken::Rule(0),
+            (true, true, true, false),
+        ),
+        (
+            "require (or T)",
+            Broken::Rule(0),
+            (true, true, false, false),
+        ),
+        (
+            "require (=> T U)",
+            Broken::Rule(0),
+            (true, false, true, true),
+        ),
+        (
+            "require (iff T U)",
+            Broken::Rule(0),
+            (true, false, false, true),
+        ),
+        (
+            "require (iff T (not (and G (or H U))))",
+            Broken::Rule(0),
+            (false, true, false, false),
+        ),
+    ];
+    all_hold_as_said(&rt, rt.alloc(), &rows)
+}
+
+#[test]
+fn first_of_several_broken_rules(rt: HostRuntime) -> Result<(), Fail> {
+    let rows = [
+        (
+            "require U\nassert T false\nconflict T G\ncontrib G T\ncontrib T U",
+            Broken::Contrib(1),
+        ),
+        (
+            "require U\nassert T false\nconflict U U\nconflict T G",
+            Broken::Conflict(1),
+        ),
+        (
+            "require U\nassert T true\nassert T false",
+            Broken::Assert(1),
+        ),
+        ("require T\nrequire T\nrequire U\npre+ T U", Broken::Rule(2)),
+    ];
+    for (lines, broken) in rows {
+        let answer = broken_in_two_trees(&rt, rt.alloc(), lines, true, false)?;
+        assert_eq!(rt; answer, Some(broken), "at {lines}");
+    }
+    Ok(())
+}
+
+// A binding speaks only where both targets are true.
+#[test]
+fn bindings(rt: HostRuntime) -> Result<(), Fail> {
+    let text =
+        "cgm 1\ngoal G\ngoal H\ntask T\ntask U\ntask V\nrefine R G : T\nrefine S H : U\nrefine S2 H : V\nbind R S\n";
+    let m = model_of(rt.alloc(), text)?;
+    let rows = [
+        (true, true, true, None),
+        (true, true, false, None),
+        (true, false, true, Some(Broken::Bind(0))),
+        (true, false, false, None),
+        (false, true, true, None),
+    ];
+    for (t, u, v, broken) in rows {
+        let a = assignment(rt.alloc(), &[t, u || v, t, u, v], &[t, u, v], &[])?;
+        assert_eq!(rt; broken_by(&rt, &m, &a), broken, "at {t}, {u} and {v}");
+    }
+    Ok(())
+}
+
+#[test]
+fn comparisons(rt: HostRuntime) -> Result<(), Fail> {
+    let rows = [
+        ("(<= X 3)", 3, 0, true),
+        ("(<= X 3)", 4, 0, false),
+        ("(>= X 3)", 3, 0, true),
+        ("(>= X 3)", 2, 0, false),
+        ("(= X 3)", 3, 0, true),
+        ("(= X 3)", -3, 0, false),
+        ("(>= (* -2 X) 5)", -3, 0, true),
+        ("(>= (* -2 X) 5)", -2, 0, false),
+        ("(= (+ X (* -2 Y)) 1)", 5, 2, true),
+        ("(= (+ X (* -2 Y)) 1)", 2, 5, false),
+        ("(<= (+ (* 1000000 X) (* 1000000 Y)) -1)", 9, -9, false),
+        ("(<= (+ (* 1000000 X) (* 1000000 Y)) -1)", 8, -9, true),
+        ("(<= X 9223372036854775807)", 9, 0, true),
+        ("(not (or (<= X 3) (>= Y 1)))", 4, 0, true),
+    ];
+    for (formula, x, y, holds) in rows {
+        let text = format!(in rt.alloc(); "cgm 1\nvar X -9 9\nvar Y -9 9\nrequire {formula}\n")?;
+        let m = model_of(rt.alloc(), text.as_str())?;
+        let a = assignment(rt.alloc(), &[], &[], &[x, y])?;
+        let broken = if holds { None } else { Some(Broken::Rule(0)) };
+        assert_eq!(rt;
+            broken_by(&rt, &m, &a),
+            broken,
+            "at {formula} with {x} and {y}"
+        );
+    }
+    Ok(())
+}
+
+/// A requirement that so many variables of 1000000000, each times 1000000, are at most the greatest
+/// number of 64 bits.
+fn text_of_a_great_sum(alloc: Global, count: u32) -> Result<String, AllocError> {
+    let mut text = String::from_str(alloc, "cgm 1\n")?;
+    let mut terms = String::new(alloc);
+    for number in 1..=count {
+        let line = format!(in alloc; "var X{number} 0 1000000000\n")?;
+        text.push_str(line.as_str())?;
+        let term = format!(in alloc; " (* 1000000 X{number})")?;
+        terms.push_str(term.as_str())?;
+    }
+    let rule = format!(in alloc; "require (<= (+{terms}) 9223372036854775807)\n")?;
+    text.push_str(rule.as_str())?;
+    Ok(text)
+}
+
+// Terms are added up exactly past 64 bits.
+#[test]
+fn great_sums(rt: HostRuntime) -> Result<(), Fail> {
+    let alloc = rt.alloc();
+    let rows = [(9223_u32, None), (9224, Some(Broken::Rule(0)))];
+    for (count, broken) in rows {
+        let text = text_of_a_great_sum(alloc, count)?;
+        let m = model_of(alloc, text.as_str())?;
+        let numbers = vec![in alloc; 1_000_000_000; count as usize]?;
+        let a = assignment(alloc, &[], &[], numbers.as_slice())?;
+        assert_eq!(rt; broken_by(&rt, &m, &a), broken, "at {count}");
+    }
+    Ok(())
+}
+
+#[test]
+fn assignments_that_do_not_fit(rt: HostRuntime) -> Result<(), Fail> {
+    let m = model_of(
+        rt.alloc(),
+        "cgm 1\ntask T\ngoal G\nvar X -1 2\nrefine R G : T\n",
+    )?;
+    let rows: &[(&[bool], &[bool], &[i64], bool)] = &[
+        (&[true, true], &[true], &[-1], true),
+        (&[false, true], &[true], &[2], true),
+        (&[true, true], &[true], &[-2], false),
+        (&[true, true], &[true], &[3], false),
+        (&[true, true], &[true], &[], false),
+        (&[true, true], &[true], &[0, 0], false),
+        (&[true, true], &[], &[0], false),
+        (&[true, true], &[true, true], &[0], false),
+        (&[true], &[true], &[0], false),
+        (&[true, true, true], &[true], &[0], false),
+    ];
+    for (elements, refinements, vars, answer) in rows {
+        let a = assignment(rt.alloc(), elements, refinements, vars)?;
+        assert_eq!(rt;
+            fits(&m, &a),
+            *answer,
+            "at {elements:?}, {refinements:?} and {vars:?}"
+        );
+    }
+    Ok(())
+}

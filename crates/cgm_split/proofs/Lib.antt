@@ -1,0 +1,5 @@
+pub mod Choosing
+pub mod Finding
+pub mod Leading
+pub mod Raising
+pub mod Shuffling

@@ -1,0 +1,4 @@
+pub mod Drawing
+pub mod Halving
+pub mod Preferring
+pub mod Weighing

@@ -1,0 +1,6 @@
+use Rattle.cgm_atom.proofs.RowLimits.{IsRowOf-inside}
+use Rattle.cgm_step.proofs.narrowing.narrow_by.Goals as goal
+
+pub narrow_by_row-requires-clause-row : goal.narrow_by_row-requires-clause-row
+narrow_by_row-requires-clause-row c =
+    IsRowOf-inside c.args.p.now.bounds c.args.b.now c.in-Row.row.now c.requires.in_box (rw c.in-Row.is at c.requires.known)

@@ -1,7 +1,0 @@
-use Rattle.std.proofs.Common.{drop}
-use Rattle.cgm_step.proofs.RowTightening.{IsTightenedSoFar}
-use Rattle.cgm_step.proofs.rows.tighten_by_terms.Given as goal
-
-abbrev pub invariant-loop-term : goal.invariant-loop-term
-invariant-loop-term l =
-    IsTightenedSoFar l.fn.b l.room l.terms (drop l.term-index l.terms) l.b l.outcome

@@ -1,0 +1,29 @@
+use Rattle.std.proofs.Common.{List, Result, Ok, sym, ap, ◌∙◌}
+use Rattle.std.specs.Option.{option_map}
+use Rattle.cgm_lex.specs.declared.token.Flaw.{Flaw}
+use Rattle.cgm_lex.specs.declared.token.Token.{Token}
+use Rattle.cgm_lex.specs.Lexemes.{Lexeme}
+use Rattle.cgm_lex.proofs.Plain.{line_is_plain}
+use Rattle.cgm_text.specs.Text.{model_of}
+use Rattle.cgm_text.specs.Trees.{seen_all}
+use Rattle.cgm_text.proofs.Drafts.{line_steps, line_stopped}
+use Rattle.cgm_text.proofs.draft.Draft.add_line.Goals as goal
+
+pub add_tokens-requires : goal.add_tokens-requires
+add_tokens-requires c =
+    let line = c.args.line.now in
+    record { plain = line_is_plain line (seen_all line c.as_slice.result.now) (c.in-Ok.ensures.lexemes ∙ ap (λ (ts : List Token). Ok (seen_all line ts)) (sym c.as_slice.ensures.value)) }
+
+pub returns-in-Ok-clause-step : goal.returns-in-Ok-clause-step
+returns-in-Ok-clause-step c =
+    let line = c.args.line.now in
+    line_steps line (seen_all line c.as_slice.result.now) c.args.number c.args.self.now c.add_tokens.new.self c.add_tokens.result (c.in-Ok.ensures.lexemes ∙ ap (λ (ts : List Token). Ok (seen_all line ts)) (sym c.as_slice.ensures.value)) c.add_tokens.ensures.step
+
+pub returns-in-Ok-clause-stop : goal.returns-in-Ok-clause-stop
+returns-in-Ok-clause-stop c =
+    let line = c.args.line.now in
+    line_stopped line (seen_all line c.as_slice.result.now) c.args.self.now c.add_tokens.result (c.in-Ok.ensures.lexemes ∙ ap (λ (ts : List Token). Ok (seen_all line ts)) (sym c.as_slice.ensures.value)) c.add_tokens.ensures.stop
+
+pub returns-in-Err-clause-stop : goal.returns-in-Err-clause-stop
+returns-in-Err-clause-stop c = λ so_far is.
+    c.lex_stop.ensures c.args.number c.args.line.now c.in-Err.ensures.stop (option_map model_of so_far)

@@ -1,0 +1,76 @@
+-- What it says that the written form of a formula is read back after lists: the formula itself, with no fault in its names, in plain words, and not too deep.
+use Rattle.std.specs.Prelude.{◌≡◌, ℕ, ℤ, ◌+◌, ◌<◌, ◌≤◌, true, false, List, length, FitsSigned, Option, None, Some}
+use Rattle.std.specs.Int.{w64}
+use Rattle.std.specs.List.{AllByRecursion}
+use Rattle.cgm_formula.specs.declared.formula.Formula.{Formula}
+use Rattle.cgm_formula.specs.declared.formula.Linear.{Linear}
+use Rattle.cgm_formula.specs.declared.formula.Number.{Number}
+use Rattle.cgm_formula.specs.declared.formula.Number.TheVariants as numbers_of
+use Rattle.cgm_formula.specs.Nodes.{names, comparisons, is_full, depth}
+use Rattle.cgm_lex.specs.Lexemes.{Lexeme, word}
+use Rattle.cgm_lex.specs.Spelling.{IsPlain}
+use Rattle.cgm_model.specs.declared.lists.Lists.{Lists}
+use Rattle.cgm_model.specs.declared.lists.Statement.{Statement}
+use Rattle.cgm_model.specs.declared.lists.Statement.TheVariants as statements
+use Rattle.cgm_model.specs.declared.lists.Thing.TheVariants as things
+use Rattle.cgm_model.specs.Formulas.{IsKnownTruth, IsKnownNumber, formula_of as formula_of_rule}
+use Rattle.cgm_model.specs.Named.{thing_named}
+use Rattle.cgm_text.specs.Canonical.{element_name, refinement_name, number_name}
+use Rattle.cgm_text.specs.Line.{nests_too_deep}
+use Rattle.cgm_text.specs.Meaning.{formula_of, is_read, statement_of}
+use Rattle.cgm_text.specs.Statements.{WrittenStatement, sort_of, statement_tokens}
+use Rattle.cgm_text.specs.Trees.{is_deeper}
+use Rattle.cgm_text.specs.Uses.{NameUse, formula_uses, first_fault, statement_uses}
+use Rattle.cgm_text.specs.Written.{WrittenFormula, spelled}
+
+abbrev pub ArePlain : List Lexeme → Type 0
+ArePlain ts = AllByRecursion IsPlain ts
+
+-- the lists have the names that these other lists give to what is there, and those are words
+pub record Knows (p m : Lists) : Type 0 where
+  pub elements : (k : ℕ) → k < length p.elements → thing_named p (element_name m k) ≡ Some (things.Element k)
+  pub refinements : (k : ℕ) → k < length p.refinements → thing_named p (refinement_name m k) ≡ Some (things.Refinement k)
+  pub vars : (k : ℕ) → k < length p.vars → thing_named p (number_name m (numbers_of.Var k)) ≡ Some (things.Var k)
+  pub plain_elements : (k : ℕ) → k < length p.elements → IsPlain (word (element_name m k))
+  pub plain_refinements : (k : ℕ) → k < length p.refinements → IsPlain (word (refinement_name m k))
+  pub plain_vars : (k : ℕ) → k < length p.vars → IsPlain (word (number_name m (numbers_of.Var k)))
+
+-- a term whose number is there and whose coefficient has 64 bits
+abbrev pub IsTerm : Lists → ℤ × Number → Type 0
+IsTerm p t = IsKnownNumber p t.1 × FitsSigned w64 t.0
+
+-- names and numbers are there, nothing is empty, and numbers have 64 bits
+pub record IsSide (p : Lists) (c : Linear × ℤ) : Type 0 where
+  pub terms : AllByRecursion (IsTerm p) c.0.terms
+  pub fits : FitsSigned w64 c.1
+
+pub record Given (p : Lists) (f : Formula) : Type 0 where
+  pub known : AllByRecursion (IsKnownTruth p) (names f)
+  pub sides : AllByRecursion (IsSide p) (comparisons f)
+  pub full : is_full f ≡ true
+
+pub record Back (p m : Lists) (f : Formula) (w : WrittenFormula) : Type 0 where
+  pub meaning : formula_of p w ≡ f
+  pub uses : (after : List NameUse) → first_fault p (formula_uses w after) ≡ first_fault p after
+  pub words : (after : List Lexeme) → ArePlain after → ArePlain (spelled w after)
+  pub shallow : (most count : ℕ) (after : List Lexeme) → count + depth f ≤ most → is_deeper most count (spelled w after) ≡ is_deeper most count after
+
+pub record StatementBack (p : Lists) (s : Statement) (w : WrittenStatement) : Type 0 where
+  pub read : is_read (sort_of w) ≡ true
+  pub meaning : statement_of p w ≡ Some s
+  pub names : first_fault p (statement_uses w) ≡ None
+  pub words : ArePlain (statement_tokens w)
+  pub shallow : nests_too_deep (statement_tokens w) ≡ false
+
+-- what is declared is a word, and numbers have 64 bits
+abbrev pub Fitting : Lists → Statement → Type 0
+Fitting p (statements.Element e) = IsPlain (word e.name)
+Fitting p (statements.Refine r) = IsPlain (word r.name)
+Fitting p (statements.Variable v) = IsPlain (word v.name) × (FitsSigned w64 v.lo × FitsSigned w64 v.hi)
+Fitting p (statements.Rule r) = Given p (formula_of_rule r)
+Fitting p s = Unit {0}
+
+-- the numbers of its comparisons have 64 bits
+abbrev pub HasWidth : Statement → Type 0
+HasWidth (statements.Rule r) = AllByRecursion (λ c. FitsSigned w64 c.1) (comparisons (formula_of_rule r))
+HasWidth s = Unit {0}

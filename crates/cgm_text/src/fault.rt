@@ -1,0 +1,39 @@
+ghost use Rattle.std.specs.Prelude.{◌≡◌};
+ghost use Rattle.cgm_text.specs.Line.{flaw_kind, refusal_kind};
+
+use cgm_base::{BadKind, Which};
+use cgm_lex::LexFault;
+use cgm_model::Fault;
+
+/// What is wrong with a line.
+#[derive(Clone, Copy, Debug, PartialEq, Eq)]
+pub enum LineFault {
+    Bad(BadKind),
+    /// A quantity that passes its limit.
+    Limit(Which),
+}
+
+/// Why a line isn't added to those before it.
+#[derive(Clone, Copy, Debug)]
+pub(crate) enum LineStop {
+    Faulty(LineFault),
+    /// There is no memory for it.
+    Memory,
+}
+
+/// The kind of a refused statement.
+pub(crate) fn refusal_kind(fault: Fault) -> BadKind
+    ensures { result ≡ refusal_kind fault }
+{
+    match fault {
+        Fault::Name => BadKind::Name,
+        Fault::DoubleName => BadKind::DoubleName,
+        Fault::CrossedBounds => BadKind::CrossedBounds,
+        Fault::DoubleSource => BadKind::DoubleSource,
+        Fault::DoubleTerm => BadKind::DoubleTerm,
+        Fault::DoubleInterest => BadKind::DoubleInterest,
+        Fault::TaskRefined => BadKind::TaskRefined,
+        Fault::AssumptionRefined => BadKind::AssumptionRefined,
+        Fault::Cycle => BadKind::Cycle,
+    }
+}

@@ -1,0 +1,177 @@
+ghost use Rattle.std.specs.Prelude.{◌≡◌, ◌≢◌, Bool, IfSome, IfNone};
+ghost use Rattle.cgm_text.specs.declared.written.ConditionWord.{ConditionWord};
+ghost use Rattle.cgm_text.specs.declared.written.Connective.{Connective};
+ghost use Rattle.cgm_text.specs.declared.written.Direction.{Direction};
+ghost use Rattle.cgm_text.specs.declared.written.NameWord.{NameWord};
+ghost use Rattle.cgm_text.specs.declared.written.PairWord.{PairWord};
+ghost use Rattle.cgm_text.specs.declared.written.Sort.{Sort};
+ghost use Rattle.cgm_text.specs.declared.written.WeightWord.{WeightWord};
+ghost use Rattle.cgm_text.specs.Statements.{IsNoSingle, condition_word, direction_word, name_word, pair_word, sort_word, truth_word, weight_word};
+ghost use Rattle.cgm_text.specs.Written.{connective_word};
+
+use crate::word::is;
+use crate::written::{
+    Comparison, ConditionWord, Connective, Direction, Joint, NameWord, PairWord, Pairing, Sort,
+    WeightWord,
+};
+
+/// The connective with this word.
+pub(crate) fn connective_of(word: &[u8]) -> Option<Connective>
+    ensures found { IfSome result (λ c. word.now ≡ connective_word c) }
+    ensures none { IfNone result ((c : Connective) → word.now ≢ connective_word c) }
+{
+    if is(word, "and") {
+        Some(Connective::Join(Joint::And))
+    } else if is(word, "or") {
+        Some(Connective::Join(Joint::Or))
+    } else if is(word, "not") {
+        Some(Connective::Not)
+    } else if is(word, "=>") {
+        Some(Connective::Pair(Pairing::Implies))
+    } else if is(word, "iff") {
+        Some(Connective::Pair(Pairing::Iff))
+    } else if is(word, "<=") {
+        Some(Connective::Compare(Comparison::AtMost))
+    } else if is(word, ">=") {
+        Some(Connective::Compare(Comparison::AtLeast))
+    } else if is(word, "=") {
+        Some(Connective::Compare(Comparison::Equal))
+    } else {
+        None
+    }
+}
+
+fn name_word_of(word: &[u8]) -> Option<NameWord>
+    ensures found { IfSome result (λ w. word.now ≡ name_word w) }
+    ensures none { IfNone result ((w : NameWord) → word.now ≢ name_word w) }
+{
+    if is(word, "task") {
+        Some(NameWord::Task)
+    } else if is(word, "assume") {
+        Some(NameWord::Assume)
+    } else if is(word, "sum") {
+        Some(NameWord::Sum)
+    } else if is(word, "interest") {
+        Some(NameWord::Interest)
+    } else {
+        None
+    }
+}
+
+fn pair_word_of(word: &[u8]) -> Option<PairWord>
+    ensures found { IfSome result (λ w. word.now ≡ pair_word w) }
+    ensures none { IfNone result ((w : PairWord) → word.now ≢ pair_word w) }
+{
+    if is(word, "contrib") {
+        Some(PairWord::Contrib)
+    } else if is(word, "conflict") {
+        Some(PairWord::Conflict)
+    } else if is(word, "bind") {
+        Some(PairWord::Bind)
+    } else if is(word, "prefer") {
+        Some(PairWord::Prefer)
+    } else {
+        None
+    }
+}
+
+fn weight_word_of(word: &[u8]) -> Option<WeightWord>
+    ensures found { IfSome result (λ w. word.now ≡ weight_word w) }
+    ensures none { IfNone result ((w : WeightWord) → word.now ≢ weight_word w) }
+{
+    if is(word, "reward") {
+        Some(WeightWord::Reward)
+    } else if is(word, "penalty") {
+        Some(WeightWord::Penalty)
+    } else {
+        None
+    }
+}
+
+fn condition_word_of(word: &[u8]) -> Option<ConditionWord>
+    ensures found { IfSome result (λ w. word.now ≡ condition_word w) }
+    ensures none { IfNone result ((w : ConditionWord) → word.now ≢ condition_word w) }
+{
+    if is(word, "pre+") {
+        Some(ConditionWord::Positive)
+    } else if is(word, "pre-") {
+        Some(ConditionWord::Negative)
+    } else {
+        None
+    }
+}
+
+/// The sort whose word stands alone in its group.
+fn single_sort_of(word: &[u8]) -> Option<Sort>
+    ensures found { IfSome result (λ sort. word.now ≡ sort_word sort) }
+    ensures none { IfNone result (IsNoSingle word.now) }
+{
+    if is(word, "goal") {
+        Some(Sort::Goal)
+    } else if is(word, "refine") {
+        Some(Sort::Refine)
+    } else if is(word, "assert") {
+        Some(Sort::Assert)
+    } else if is(word, "var") {
+        Some(Sort::Var)
+    } else if is(word, "value") {
+        Some(Sort::Value)
+    } else if is(word, "require") {
+        Some(Sort::Require)
+    } else if is(word, "objective") {
+        Some(Sort::Objective)
+    } else {
+        None
+    }
+}
+
+/// The sort of statement with this word.
+pub(crate) fn sort_of_word(word: &[u8]) -> Option<Sort>
+    ensures found { IfSome result (λ sort. word.now ≡ sort_word sort) }
+    ensures none { IfNone result ((sort : Sort) → word.now ≢ sort_word sort) }
+{
+    match single_sort_of(word) {
+        Some(sort) => Some(sort),
+        None => match name_word_of(word) {
+            Some(what) => Some(Sort::Name(what)),
+            None => match pair_word_of(word) {
+                Some(what) => Some(Sort::Pair(what)),
+                None => match weight_word_of(word) {
+                    Some(what) => Some(Sort::Weight(what)),
+                    None => match condition_word_of(word) {
+                        Some(what) => Some(Sort::Condition(what)),
+                        None => None,
+                    },
+                },
+            },
+        },
+    }
+}
+
+/// The truth value with this word.
+pub(crate) fn truth_of_word(word: &[u8]) -> Option<bool>
+    ensures found { IfSome result (λ truth. word.now ≡ truth_word truth) }
+    ensures none { IfNone result ((truth : Bool) → word.now ≢ truth_word truth) }
+{
+    if is(word, "true") {
+        Some(true)
+    } else if is(word, "false") {
+        Some(false)
+    } else {
+        None
+    }
+}
+
+/// The direction with this word.
+pub(crate) fn direction_of_word(word: &[u8]) -> Option<Direction>
+    ensures found { IfSome result (λ direction. word.now ≡ direction_word direction) }
+    ensures none { IfNone result ((direction : Direction) → word.now ≢ direction_word direction) }
+{
+    if is(word, "min") {
+        Some(Direction::Min)
+    } else if is(word, "max") {
+        Some(Direction::Max)
+    } else {
+        None
+    }
+}

@@ -1,0 +1,324 @@
+ghost use Rattle.std.specs.Prelude.{◌≡◌, ◌∷◌, map, All, IfOk};
+ghost use Rattle.std.specs.Str.{IsUtf8};
+ghost use Rattle.cgm_text.specs.Meaning.{compared_as, condition_of, declared_by, declared_words, each_formula_of, element_named, formula_of, joined_as, linear_of, number_named, pair_of, paired_as, refinement_named, statement_of, term_of, truth_named};
+ghost use Rattle.cgm_text.specs.Statements.{statement_in};
+ghost use Rattle.cgm_text.specs.Trees.{formula_in, formulas_of, linear_in, term_in, word_in};
+
+use crate::take::bytes_in;
+use crate::word::name_of;
+use crate::written;
+use crate::written::{
+    Comparison, ConditionWord, Joint, NameWord, PairWord, Pairing, Term, Tree, Word, Written,
+};
+use cgm_model::{
+    Assertion, Edge, Element, ElementKind, Formula, Linear, ModelBuilder, Number, Parts,
+    Refinement, Rule, Statement, Thing, Truth, Variable,
+};
+use sqlite_items::Boxed;
+use std::alloc::{AllocError as OutOfMemory, Global};
+
+/// The number of the element with this name; 0 where there is none, here and below.
+fn element(builder: &ModelBuilder, line: &[u8], w: Word) -> u32
+    ensures { result ≡ element_named builder.now (word_in line.now w) }
+{
+    match builder.find(bytes_in(line, w)) {
+        Some(Thing::Element(k)) => k,
+        _ => 0,
+    }
+}
+
+fn refinement(builder: &ModelBuilder, line: &[u8], w: Word) -> u32
+    ensures { result ≡ refinement_named builder.now (word_in line.now w) }
+{
+    match builder.find(bytes_in(line, w)) {
+        Some(Thing::Refinement(k)) => k,
+        _ => 0,
+    }
+}
+
+fn truth(builder: &ModelBuilder, line: &[u8], w: Word) -> Truth
+    ensures { result ≡ truth_named builder.now (word_in line.now w) }
+{
+    match builder.find(bytes_in(line, w)) {
+        Some(Thing::Element(k)) => Truth::Element(k),
+        Some(Thing::Refinement(k)) => Truth::Refinement(k),
+        _ => Truth::Element(0),
+    }
+}
+
+fn number(builder: &ModelBuilder, line: &[u8], w: Word) -> Number
+    ensures { result ≡ number_named builder.now (word_in line.now w) }
+{
+    match builder.find(bytes_in(line, w)) {
+        Some(Thing::Var(k)) => Number::Var(k),
+        _ => Number::Var(0),
+    }
+}
+
+fn term(builder: &ModelBuilder, line: &[u8], term: &Term) -> (i64, Number)
+    ensures { result ≡ term_of builder.now (term_in line.now term.now) }
+{
+    match term {
+        Term::Plain(w) => (1, number(builder, line, *w)),
+        Term::Scaled(k, w) => (*k, number(builder, line, *w)),
+    }
+}
+
+/// The elements with these names.
+fn elements(
+    alloc: Global,
+    builder: &ModelBuilder,
+    line: &[u8],
+    first: Word,
+    others: &[Word],
+) -> Result<Parts<u32>, OutOfMemory>
+    ensures { IfOk result (λ numbers. numbers ≡ map (element_named builder.now) (word_in line.now first ∷ map (word_in line.now) others.now)) }
+{
+    let mut numbers = Vec::new(alloc);
+    numbers.push(element(builder, line, first))?;
+    for w in others {
+        numbers.push(element(builder, line, *w))?;
+    }
+    Ok(Parts::of(numbers))
+}
+
+fn terms(
+    alloc: Global,
+    builder: &ModelBuilder,
+    line: &[u8],
+    first: &Term,
+    others: &[Term],
+) -> Result<Linear, OutOfMemory>
+    ensures { IfOk result (λ l. l.terms ≡ term_of builder.now (term_in line.now first.now) ∷ map (term_of builder.now) (map (term_in line.now) others.now)) }
+{
+    let mut terms = Vec::new(alloc);
+    terms.push(term(builder, line, first))?;
+    for other in others {
+        terms.push(term(builder, line, other))?;
+    }
+    Ok(Linear {
+        terms: Parts::of(terms),
+    })
+}
+
+fn linear(
+    alloc: Global,
+    builder: &ModelBuilder,
+    line: &[u8],
+    linear: &written::Linear,
+) -> Result<Linear, OutOfMemory>
+    ensures { IfOk result (λ l. l ≡ linear_of builder.now (linear_in line.now linear.now)) }
+{
+    match linear {
+        written::Linear::Single(term) => terms(alloc, builder, line, term, &[]),
+        written::Linear::Total(term, others) => {
+            terms(alloc, builder, line, term, others.as_slice())
+        }
+    }
+}
+
+fn joined(joint: Joint, parts: Parts<Formula>) -> Formula
+    ensures { result ≡ joined_as joint parts }
+{
+    match joint {
+        Joint::And => Formula::And(parts),
+        Joint::Or => Formula::Or(parts),
+    }
+}
+
+fn paired(
+    alloc: Global,
+    pairing: Pairing,
+    one: Formula,
+    other: Formula,
+) -> Result<Formula, OutOfMemory>
+    ensures { IfOk result (λ f. f ≡ paired_as pairing one other) }
+{
+    let one = Boxed::new(alloc, one)?;
+    let other = Boxed::new(alloc, other)?;
+    match pairing {
+        Pairing::Implies => Ok(Formula::Implies(one, other)),
+        Pairing::Iff => Ok(Formula::Iff(one, other)),
+    }
+}
+
+fn compared(comparison: Comparison, linear: Linear, k: i64) -> Formula
+    ensures { result ≡ compared_as comparison linear k }
+{
+    match comparison {
+        Comparison::AtMost => Formula::AtMost(linear, k),
+        Comparison::AtLeast => Formula::AtLeast(linear, k),
+        Comparison::Equal => Formula::Equal(linear, k),
+    }
+}
+
+/// The formula that a written one stands for.
+#[cycle(meaning)]
+fn formula(
+    alloc: Global,
+    builder: &ModelBuilder,
+    line: &[u8],
+    tree: &Tree,
+) -> Result<Formula, OutOfMemory>
+    ensures { IfOk result (λ f. f ≡ formula_of builder.now (formula_in line.now tree.now)) }
+{
+    match tree {
+        Tree::Name(w) => Ok(Formula::Name(truth(builder, line, *w))),
+        Tree::Not(part) => {
+            let part = formula(alloc, builder, line, part.get())?;
+            Ok(Formula::Not(Boxed::new(alloc, part)?))
+        }
+        Tree::Join(joint, part, parts) => {
+            let first = formula(alloc, builder, line, part.get())?;
+            let parts = formulas(alloc, builder, line, parts.as_slice(), first)?;
+            Ok(joined(*joint, parts))
+        }
+        Tree::Pair(pairing, one, other) => {
+            let one = formula(alloc, builder, line, one.get())?;
+            let other = formula(alloc, builder, line, other.get())?;
+            paired(alloc, *pairing, one, other)
+        }
+        Tree::Compare(comparison, left, k) => {
+            Ok(compared(*comparison, linear(alloc, builder, line, left)?, *k))
+        }
+    }
+}
+
+/// The first formula and those that the trees stand for.
+#[cycle(meaning)]
+fn formulas(
+    alloc: Global,
+    builder: &ModelBuilder,
+    line: &[u8],
+    trees: &[Tree],
+    first: Formula,
+) -> Result<Parts<Formula>, OutOfMemory>
+    ensures { IfOk result (λ fs. fs ≡ first ∷ each_formula_of builder.now (formulas_of (map (formula_in line.now) trees.now))) }
+{
+    let mut formulas = Vec::new(alloc);
+    formulas.push(first)?;
+    for tree in trees {
+        let part = formula(alloc, builder, line, tree)?;
+        formulas.push(part)?;
+    }
+    Ok(Parts::of(formulas))
+}
+
+fn declared(
+    alloc: Global,
+    name: &[u8],
+    kind: ElementKind,
+    must: bool,
+) -> Result<Statement, OutOfMemory>
+    requires text { IsUtf8 name.now }
+    ensures { IfOk result (λ s. s ≡ Statement.Element (record { name = name.now; kind = kind; must = must })) }
+{
+    Ok(Statement::Element(Element {
+        name: name_of(alloc, name)?,
+        kind,
+        must,
+    }))
+}
+
+fn named(alloc: Global, what: NameWord, name: &[u8]) -> Result<Option<Statement>, OutOfMemory>
+    requires text { IsUtf8 name.now }
+    ensures { IfOk result (λ s. s ≡ declared_by what name.now) }
+{
+    match what {
+        NameWord::Task => Ok(Some(declared(alloc, name, ElementKind::Task, false)?)),
+        NameWord::Assume => Ok(Some(declared(alloc, name, ElementKind::Assume, false)?)),
+        NameWord::Sum => Ok(None),
+        NameWord::Interest => Ok(None),
+    }
+}
+
+fn pair(
+    builder: &ModelBuilder,
+    line: &[u8],
+    what: PairWord,
+    one: Word,
+    other: Word,
+) -> Option<Statement>
+    ensures { result ≡ pair_of builder.now what (word_in line.now one) (word_in line.now other) }
+{
+    match what {
+        PairWord::Contrib => Some(Statement::Contrib(element_edge(builder, line, one, other))),
+        PairWord::Conflict => Some(Statement::Conflict(element_edge(builder, line, one, other))),
+        PairWord::Bind => Some(Statement::Bind(Edge {
+            from: refinement(builder, line, one),
+            to: refinement(builder, line, other),
+        })),
+        PairWord::Prefer => None,
+    }
+}
+
+fn element_edge(builder: &ModelBuilder, line: &[u8], one: Word, other: Word) -> Edge
+    ensures { result ≡ record { from = element_named builder.now (word_in line.now one); to = element_named builder.now (word_in line.now other) } }
+{
+    Edge {
+        from: element(builder, line, one),
+        to: element(builder, line, other),
+    }
+}
+
+fn condition(what: ConditionWord, name: Truth, formula: Formula) -> Rule
+    ensures { result ≡ condition_of what name formula }
+{
+    match what {
+        ConditionWord::Positive => Rule::Positive(name, formula),
+        ConditionWord::Negative => Rule::Negative(name, formula),
+    }
+}
+
+/// The statement that a written one makes after those of the builder; none where it isn't read.
+pub(crate) fn statement(
+    alloc: Global,
+    builder: &ModelBuilder,
+    line: &[u8],
+    written: &Written,
+) -> Result<Option<Statement>, OutOfMemory>
+    requires texts { All IsUtf8 (declared_words (statement_in line.now written.now)) }
+    ensures { IfOk result (λ s. s ≡ statement_of builder.now (statement_in line.now written.now)) }
+{
+    match written {
+        Written::Goal { name, must } => {
+            let goal = declared(alloc, bytes_in(line, *name), ElementKind::Goal, *must)?;
+            Ok(Some(goal))
+        }
+        Written::Name { what, name } => named(alloc, *what, bytes_in(line, *name)),
+        Written::Refine {
+            name,
+            target,
+            first,
+            others,
+        } => Ok(Some(Statement::Refine(Refinement {
+            name: name_of(alloc, bytes_in(line, *name))?,
+            target: element(builder, line, *target),
+            sources: elements(alloc, builder, line, *first, others.as_slice())?,
+        }))),
+        Written::Pair { what, one, other } => Ok(pair(builder, line, *what, *one, *other)),
+        Written::Assert { name, truth } => Ok(Some(Statement::Assert(Assertion {
+            element: element(builder, line, *name),
+            truth: *truth,
+        }))),
+        Written::Var { name, lo, hi } => Ok(Some(Statement::Variable(Variable {
+            name: name_of(alloc, bytes_in(line, *name))?,
+            lo: *lo,
+            hi: *hi,
+        }))),
+        Written::Condition {
+            what,
+            name,
+            formula: tree,
+        } => {
+            let formula = formula(alloc, builder, line, tree)?;
+            let name = truth(builder, line, *name);
+            Ok(Some(Statement::Rule(condition(*what, name, formula))))
+        }
+        Written::Require { formula: tree } => {
+            let formula = formula(alloc, builder, line, tree)?;
+            Ok(Some(Statement::Rule(Rule::Require(formula))))
+        }
+        _ => Ok(None),
+    }
+}

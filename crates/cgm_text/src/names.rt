@@ -1,0 +1,210 @@
+ghost use Rattle.std.specs.Prelude.{◌≡◌, List, [], ◌∷◌, map};
+ghost use Rattle.std.specs.Option.{option_or};
+ghost use Rattle.cgm_model.specs.Named.{thing_named};
+ghost use Rattle.cgm_text.specs.declared.names.Wanted.TheVariants as wants;
+ghost use Rattle.cgm_text.specs.Statements.{statement_in};
+ghost use Rattle.cgm_text.specs.Trees.{formula_in, formulas_of, linear_in, term_in, word_in};
+ghost use Rattle.cgm_text.specs.Uses.{NameUse, end_of, first_fault, formula_uses, formulas_uses, linear_uses, statement_uses, suits, terms_uses, thing_fault, use_as};
+
+use crate::take::bytes_in;
+use crate::written::{Linear, PairWord, Term, Tree, Word, Written};
+use cgm_base::BadKind;
+use cgm_model::{ModelBuilder, Thing};
+
+/// What the place of a name wants.
+#[derive(Clone, Copy, Debug)]
+pub(crate) enum Wanted {
+    Element,
+    Refinement,
+    /// An element or a refinement.
+    Truth,
+    /// A variable.
+    Number,
+}
+
+fn suits(wanted: Wanted, thing: Thing) -> bool
+    ensures { result ≡ suits wanted thing }
+{
+    match thing {
+        Thing::Element(_) => match wanted {
+            Wanted::Element => true,
+            Wanted::Refinement => false,
+            Wanted::Truth => true,
+            Wanted::Number => false,
+        },
+        Thing::Refinement(_) => match wanted {
+            Wanted::Element => false,
+            Wanted::Refinement => true,
+            Wanted::Truth => true,
+            Wanted::Number => false,
+        },
+        Thing::Var(_) => match wanted {
+            Wanted::Element => false,
+            Wanted::Refinement => false,
+            Wanted::Truth => false,
+            Wanted::Number => true,
+        },
+    }
+}
+
+fn thing_fault(wanted: Wanted, thing: Option<Thing>) -> Option<BadKind>
+    ensures { result ≡ thing_fault wanted thing }
+{
+    match thing {
+        None => Some(BadKind::UnknownName),
+        Some(thing) => {
+            if suits(wanted, thing) {
+                None
+            } else {
+                Some(BadKind::WrongKind)
+            }
+        }
+    }
+}
+
+/// What is wrong with a name in this place, if anything is.
+fn word_fault(builder: &ModelBuilder, line: &[u8], wanted: Wanted, w: Word) -> Option<BadKind>
+    ensures { result ≡ thing_fault wanted (thing_named builder.now (word_in line.now w)) }
+{
+    thing_fault(wanted, builder.find(bytes_in(line, w)))
+}
+
+fn two_words_fault(
+    builder: &ModelBuilder,
+    line: &[u8],
+    wanted: Wanted,
+    one: Word,
+    other: Word,
+) -> Option<BadKind>
+    ensures { result ≡ first_fault builder.now (use_as wanted (word_in line.now one) ∷ use_as wanted (word_in line.now other) ∷ []) }
+{
+    match word_fault(builder, line, wanted, one) {
+        Some(kind) => Some(kind),
+        None => word_fault(builder, line, wanted, other),
+    }
+}
+
+/// What is wrong with the first name that is none of an element.
+fn elements_fault(builder: &ModelBuilder, line: &[u8], words: &[Word]) -> Option<BadKind>
+    ensures { result ≡ first_fault builder.now (map (use_as wants.Element) (map (word_in line.now) words.now)) }
+{
+    for w in words {
+        match word_fault(builder, line, Wanted::Element, *w) {
+            Some(kind) => return Some(kind),
+            None => {}
+        }
+    }
+    None
+}
+
+fn term_fault(builder: &ModelBuilder, line: &[u8], term: &Term) -> Option<BadKind>
+    ensures { (after : List NameUse) → first_fault builder.now (terms_uses (term_in line.now term.now ∷ []) after) ≡ option_or result (first_fault builder.now after) }
+{
+    match term {
+        Term::Plain(w) => word_fault(builder, line, Wanted::Number, *w),
+        Term::Scaled(_, w) => word_fault(builder, line, Wanted::Number, *w),
+    }
+}
+
+fn terms_fault(builder: &ModelBuilder, line: &[u8], terms: &[Term]) -> Option<BadKind>
+    ensures { (after : List NameUse) → first_fault builder.now (terms_uses (map (term_in line.now) terms.now) after) ≡ option_or result (first_fault builder.now after) }
+{
+    for term in terms {
+        match term_fault(builder, line, term) {
+            Some(kind) => return Some(kind),
+            None => {}
+        }
+    }
+    None
+}
+
+fn linear_fault(builder: &ModelBuilder, line: &[u8], linear: &Linear) -> Option<BadKind>
+    ensures { (after : List NameUse) → first_fault builder.now (linear_uses (linear_in line.now linear.now) after) ≡ option_or result (first_fault builder.now after) }
+{
+    match linear {
+        Linear::Single(term) => term_fault(builder, line, term),
+        Linear::Total(term, others) => match term_fault(builder, line, term) {
+            Some(kind) => Some(kind),
+            None => terms_fault(builder, line, others.as_slice()),
+        },
+    }
+}
+
+/// What is wrong with the first bad name of a formula.
+#[cycle(fault)]
+fn formula_fault(builder: &ModelBuilder, line: &[u8], tree: &Tree) -> Option<BadKind>
+    ensures { (after : List NameUse) → first_fault builder.now (formula_uses (formula_in line.now tree.now) after) ≡ option_or result (first_fault builder.now after) }
+{
+    match tree {
+        Tree::Name(w) => word_fault(builder, line, Wanted::Truth, *w),
+        Tree::Not(part) => formula_fault(builder, line, part.get()),
+        Tree::Join(_, part, parts) => match formula_fault(builder, line, part.get()) {
+            Some(kind) => Some(kind),
+            None => formulas_fault(builder, line, parts.as_slice()),
+        },
+        Tree::Pair(_, one, other) => match formula_fault(builder, line, one.get()) {
+            Some(kind) => Some(kind),
+            None => formula_fault(builder, line, other.get()),
+        },
+        Tree::Compare(_, linear, _) => linear_fault(builder, line, linear),
+    }
+}
+
+#[cycle(fault)]
+fn formulas_fault(builder: &ModelBuilder, line: &[u8], trees: &[Tree]) -> Option<BadKind>
+    ensures { (after : List NameUse) → first_fault builder.now (formulas_uses (formulas_of (map (formula_in line.now) trees.now)) after) ≡ option_or result (first_fault builder.now after) }
+{
+    for tree in trees {
+        match formula_fault(builder, line, tree) {
+            Some(kind) => return Some(kind),
+            None => {}
+        }
+    }
+    None
+}
+
+fn end_of(what: PairWord) -> Wanted
+    ensures { result ≡ end_of what }
+{
+    match what {
+        PairWord::Contrib => Wanted::Element,
+        PairWord::Conflict => Wanted::Element,
+        PairWord::Bind => Wanted::Refinement,
+        PairWord::Prefer => Wanted::Truth,
+    }
+}
+
+/// What is wrong with the first bad name that a statement uses.
+pub(crate) fn statement_fault(
+    builder: &ModelBuilder,
+    line: &[u8],
+    written: &Written,
+) -> Option<BadKind>
+    ensures { result ≡ first_fault builder.now (statement_uses (statement_in line.now written.now)) }
+{
+    match written {
+        Written::Refine {
+            name: _,
+            target,
+            first,
+            others,
+        } => match two_words_fault(builder, line, Wanted::Element, *target, *first) {
+            Some(kind) => Some(kind),
+            None => elements_fault(builder, line, others.as_slice()),
+        },
+        Written::Pair { what, one, other } => {
+            two_words_fault(builder, line, end_of(*what), *one, *other)
+        }
+        Written::Assert { name, truth: _ } => word_fault(builder, line, Wanted::Element, *name),
+        Written::Condition {
+            what: _,
+            name,
+            formula,
+        } => match word_fault(builder, line, Wanted::Truth, *name) {
+            Some(kind) => Some(kind),
+            None => formula_fault(builder, line, formula),
+        },
+        Written::Require { formula } => formula_fault(builder, line, formula),
+        _ => None,
+    }
+}

@@ -1,0 +1,186 @@
+use sqlite_items::{Boxed, Items};
+
+/// Why tokens make no part of a statement.
+#[derive(Clone, Copy, Debug)]
+pub(crate) enum FormStop {
+    /// They don't have the form.
+    Form,
+    /// There is no memory.
+    Memory,
+}
+
+/// The places of a word in its line.
+#[derive(Clone, Copy, Debug)]
+pub(crate) struct Word {
+    pub(crate) from: u32,
+    pub(crate) to: u32,
+}
+
+/// A word that takes one or more formulas.
+#[derive(Clone, Copy, Debug)]
+pub(crate) enum Joint {
+    And,
+    Or,
+}
+
+/// A word that takes two formulas.
+#[derive(Clone, Copy, Debug)]
+pub(crate) enum Pairing {
+    Implies,
+    Iff,
+}
+
+/// A word that takes a linear expression and a number.
+#[derive(Clone, Copy, Debug)]
+pub(crate) enum Comparison {
+    AtMost,
+    AtLeast,
+    Equal,
+}
+
+/// The first word in the brackets of a formula.
+#[derive(Clone, Copy, Debug)]
+pub(crate) enum Connective {
+    Not,
+    Join(Joint),
+    Pair(Pairing),
+    Compare(Comparison),
+}
+
+/// A term of a linear expression.
+#[derive(Clone, Copy, Debug)]
+pub(crate) enum Term {
+    /// A name alone.
+    Plain(Word),
+    /// A number times a name, in brackets.
+    Scaled(i64, Word),
+}
+
+/// A linear expression.
+#[derive(Debug, Drop)]
+pub(crate) enum Linear {
+    /// A term alone.
+    Single(Term),
+    /// A total of one or more terms, in brackets.
+    Total(Term, Items<Term>),
+}
+
+/// A formula.
+#[derive(Debug, Drop)]
+pub(crate) enum Tree {
+    Name(Word),
+    Not(Boxed<Tree>),
+    Join(Joint, Boxed<Tree>, Items<Tree>),
+    Pair(Pairing, Boxed<Tree>, Boxed<Tree>),
+    Compare(Comparison, Linear, i64),
+}
+
+/// A statement word that takes one name and nothing else.
+#[derive(Clone, Copy, Debug)]
+pub(crate) enum NameWord {
+    Task,
+    Assume,
+    Sum,
+    Interest,
+}
+
+/// A statement word that takes two names.
+#[derive(Clone, Copy, Debug)]
+pub(crate) enum PairWord {
+    Contrib,
+    Conflict,
+    Bind,
+    Prefer,
+}
+
+/// A statement word that takes a name and a number.
+#[derive(Clone, Copy, Debug)]
+pub(crate) enum WeightWord {
+    Reward,
+    Penalty,
+}
+
+/// A statement word that takes a name and a formula.
+#[derive(Clone, Copy, Debug)]
+pub(crate) enum ConditionWord {
+    Positive,
+    Negative,
+}
+
+/// A statement word.
+#[derive(Clone, Copy, Debug)]
+pub(crate) enum Sort {
+    Goal,
+    Name(NameWord),
+    Refine,
+    Pair(PairWord),
+    Assert,
+    Var,
+    Value,
+    Weight(WeightWord),
+    Condition(ConditionWord),
+    Require,
+    Objective,
+}
+
+/// Which vectors an objective prefers.
+#[derive(Clone, Copy, Debug)]
+pub(crate) enum Direction {
+    Min,
+    Max,
+}
+
+/// A statement as it is written.
+#[derive(Debug, Drop)]
+pub(crate) enum Written {
+    Goal {
+        name: Word,
+        must: bool,
+    },
+    Name {
+        what: NameWord,
+        name: Word,
+    },
+    Refine {
+        name: Word,
+        target: Word,
+        first: Word,
+        others: Items<Word>,
+    },
+    Pair {
+        what: PairWord,
+        one: Word,
+        other: Word,
+    },
+    Assert {
+        name: Word,
+        truth: bool,
+    },
+    Var {
+        name: Word,
+        lo: i64,
+        hi: i64,
+    },
+    Value {
+        sum: Word,
+        of: Word,
+        k: i64,
+    },
+    Weight {
+        what: WeightWord,
+        name: Word,
+        k: i64,
+    },
+    Condition {
+        what: ConditionWord,
+        name: Word,
+        formula: Tree,
+    },
+    Require {
+        formula: Tree,
+    },
+    Objective {
+        direction: Direction,
+        quantity: Word,
+    },
+}

@@ -1,0 +1,9 @@
+pub mod Cuts
+pub mod LandedPlaces
+pub mod Leading
+pub mod LevelLists
+pub mod Propagating
+pub mod Ranking
+pub mod Renaming
+pub mod Replaying
+pub mod Slacks

@@ -1,0 +1,9 @@
+pub mod Earlier
+pub mod Landing
+pub mod Laws
+pub mod PathParts
+pub mod Rank
+pub mod Steps
+pub mod TrailParts
+pub mod TrailState
+pub mod WorkParts

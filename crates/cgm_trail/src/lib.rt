@@ -1,0 +1,26 @@
+//! The trail of a search: which bounds were tightened, in which order, and for what reason.
+#![tactic(auto)]
+
+mod changes;
+mod landing;
+pub mod laws;
+mod paths;
+mod stepping;
+mod trails;
+mod works;
+
+pub use cgm_atom::OutOfMemory;
+pub use changes::{Change, Reason, Swept};
+pub use landing::landed;
+use std::marker::Send;
+pub use stepping::step;
+pub use trails::Trail;
+pub use works::Work;
+
+// A trail and a work can be moved to a thread.
+fn cross_threads(t: &Trail, w: &Work) {
+    can_be_moved(t);
+    can_be_moved(w);
+}
+
+fn can_be_moved<T: Send>(_: &T) {}

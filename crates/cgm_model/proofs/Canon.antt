@@ -1,5 +1,5 @@
 -- Each statement of a well-formed model, in canonical order, is allowed after those before it.
-use Rattle.std.proofs.Common.{◌≡◌, ◌≢◌, ℕ, zero, suc, ◌+◌, ◌<◌, ◌≤◌, ◌++◌, ◌==◌, Bool, true, not, nat_le, nat_lt, IsTrue, List, [], ◌∷◌, Option, None, Some, length, map, slice_get, refl, sym, ◌∙◌, ap, subst, All, arith, ◌≤ℤ◌, ℤ}
+use Rattle.std.proofs.Common.{◌≡◌, ◌≢◌, ℕ, zero, suc, ◌+◌, ◌<◌, ◌≤◌, ◌++◌, ◌==◌, true, not, nat_le, nat_lt, IsTrue, List, [], ◌∷◌, Option, None, Some, length, map, slice_get, refl, sym, ◌∙◌, ap, subst, All, arith, ◌≤ℤ◌, ℤ}
 use Rattle.std.specs.Prelude.{unsigned_abs, int_le}
 use Rattle.std.specs.List.{list_all}
 use Rattle.std.specs.Option.{is_some}

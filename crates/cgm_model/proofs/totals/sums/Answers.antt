@@ -1,4 +1,4 @@
-use Rattle.std.proofs.Common.{◌≡◌, pos, length, get_or, ap, sym, ◌∙◌, arith}
+use Rattle.std.proofs.Common.{pos, length, get_or, ap, ◌∙◌, arith}
 use Rattle.std.proofs.lemmas.List.{get_or_default}
 use Rattle.cgm_formula.specs.declared.formula.Truth.TheVariants.{Element}
 use Rattle.cgm_model.specs.declared.lists.SumValue.{SumValue}

@@ -7,6 +7,7 @@ pub mod Formulas
 pub mod Judging
 pub mod Known
 pub mod Meanings
+pub mod Names
 pub mod Outcomes
 pub mod Printed
 pub mod Proper

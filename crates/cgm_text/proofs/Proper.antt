@@ -26,8 +26,10 @@ use Rattle.cgm_text.specs.Written.{WrittenFormula, spelled}
 use Rattle.cgm_text.proofs.Depths.{shallow_after}
 use Rattle.cgm_text.proofs.Known.{first_right, element_known, refinement_known, truth_known, formula_proper}
 
-same_some : {X : Type 0} (x y : X) → Some x ≡ Some y → x ≡ y
-same_some x y e = cc
+two_right : (m : Lists) (u v : NameUse) → first_fault m (u ∷ v ∷ []) ≡ None → (thing_fault u.wanted (thing_named m u.used) ≡ None) × (thing_fault v.wanted (thing_named m v.used) ≡ None)
+two_right m u v e =
+    let first = first_right m u (v ∷ []) e in
+    (first.0, (first_right m v [] first.1).0)
 
 elements_known : (m : Lists) (xs : List (List ℕ)) → first_fault m (map (use_as wants.Element) xs) ≡ None → AllByRecursion (λ k. k < length m.elements) (map (element_named m) xs)
 elements_known m [] e = tt
@@ -49,44 +51,44 @@ rule_proper m what x f right shallow =
     let inside = shallow_after limit x (spelled f []) rest in
     condition_proper m what (truth_named m x) (formula_of m f) (truth_known m x rights.0) (formula_proper m f rights.1 inside)
 
--- what holds of the statement that is made holds of the one that this is
-made : {one other : Statement} (m : Lists) → Some one ≡ Some other → IsProper m one → IsProper m other
-made {one} {other} m e proper = subst (IsProper m) (same_some one other e) proper
+quantity_proper : (m : Lists) (x : List ℕ) (built : Option Quantity) → first_fault m (quantity_uses built x) ≡ None → IsKnownQuantity m (quantity_of built (number_named m x))
+quantity_proper m x (Some quantities.Weight) right = ?
+quantity_proper m x None right = ?
 
-pub statement_proper : (m : Lists) (w : WrittenStatement) (s : Statement) → first_fault m (statement_uses w) ≡ None → nests_too_deep (statement_tokens w) ≡ false → statement_of m w ≡ Some s → IsProper m s
-statement_proper m (goal x must) s right shallow e = made m e (λ _. refl)
-statement_proper m (named name_words.Task x) s right shallow e = made m e (λ must. absurd (true≢false (sym must)))
-statement_proper m (named name_words.Assume x) s right shallow e = made m e (λ must. absurd (true≢false (sym must)))
-statement_proper m (named name_words.Sum x) s right shallow e = cc
-statement_proper m (named name_words.Interest x) s right shallow e = cc
-statement_proper m (refinement r target first others) s right shallow e =
+pub statement_proper : (m : Lists) (w : WrittenStatement) → first_fault m (statement_uses w) ≡ None → nests_too_deep (statement_tokens w) ≡ false → IsProper m (statement_of m w)
+statement_proper m (goal x must) right shallow = λ _. refl
+statement_proper m (named name_words.Task x) right shallow = λ must. absurd (true≢false (sym must))
+statement_proper m (named name_words.Assume x) right shallow = λ must. absurd (true≢false (sym must))
+statement_proper m (named name_words.Sum x) right shallow = tt
+statement_proper m (named name_words.Interest x) right shallow = element_known m x (first_right m (use_as wants.Element x) [] right).0
+statement_proper m (refinement r target first others) right shallow =
     let known = elements_known m (target ∷ first ∷ others) right in
-    made m e (known.0, omega arith, All-from_recursion (λ k. k < length m.elements) (map (element_named m) (first ∷ others)) known.1)
-statement_proper m (pair pair_words.Contrib one other) s right shallow e =
-    let first = first_right m (use_as wants.Element one) (use_as wants.Element other ∷ []) right in
-    let second = first_right m (use_as wants.Element other) [] first.1 in
-    made m e (element_known m one first.0, element_known m other second.0)
-statement_proper m (pair pair_words.Conflict one other) s right shallow e =
-    let first = first_right m (use_as wants.Element one) (use_as wants.Element other ∷ []) right in
-    let second = first_right m (use_as wants.Element other) [] first.1 in
-    made m e (element_known m one first.0, element_known m other second.0)
-statement_proper m (pair pair_words.Bind one other) s right shallow e =
-    let first = first_right m (use_as wants.Refinement one) (use_as wants.Refinement other ∷ []) right in
-    let second = first_right m (use_as wants.Refinement other) [] first.1 in
-    made m e (refinement_known m one first.0, refinement_known m other second.0)
-statement_proper m (pair pair_words.Prefer one other) s right shallow e = cc
-statement_proper m (assertion x truth) s right shallow e =
-    let first = first_right m (use_as wants.Element x) [] right in
-    made m e (element_known m x first.0)
-statement_proper m (variable x lo hi) s right shallow e = made m e tt
-statement_proper m (value t x k) s right shallow e = cc
-statement_proper m (weight what x k) s right shallow e = cc
-statement_proper m (condition what x f) s right shallow e = made m e (rule_proper m what x f right shallow)
-statement_proper m (requirement f) s right shallow e =
+    (known.0, omega arith, All-from_recursion (λ k. k < length m.elements) (map (element_named m) (first ∷ others)) known.1)
+statement_proper m (pair pair_words.Contrib one other) right shallow =
+    let both = two_right m (use_as wants.Element one) (use_as wants.Element other) right in
+    (element_known m one both.0, element_known m other both.1)
+statement_proper m (pair pair_words.Conflict one other) right shallow =
+    let both = two_right m (use_as wants.Element one) (use_as wants.Element other) right in
+    (element_known m one both.0, element_known m other both.1)
+statement_proper m (pair pair_words.Bind one other) right shallow =
+    let both = two_right m (use_as wants.Refinement one) (use_as wants.Refinement other) right in
+    (refinement_known m one both.0, refinement_known m other both.1)
+statement_proper m (pair pair_words.Prefer one other) right shallow =
+    let both = two_right m (use_as wants.Truth one) (use_as wants.Truth other) right in
+    (truth_known m one both.0, truth_known m other both.1)
+statement_proper m (assertion x truth) right shallow = element_known m x (first_right m (use_as wants.Element x) [] right).0
+statement_proper m (variable x lo hi) right shallow = tt
+statement_proper m (value t x k) right shallow =
+    let both = two_right m (use_as wants.Sum t) (use_as wants.Truth x) right in
+    (sum_known m t both.0, truth_known m x both.1)
+statement_proper m (weight weight_words.Reward x k) right shallow = element_known m x (first_right m (use_as wants.Element x) [] right).0
+statement_proper m (weight weight_words.Penalty x k) right shallow = element_known m x (first_right m (use_as wants.Element x) [] right).0
+statement_proper m (condition what x f) right shallow = rule_proper m what x f right shallow
+statement_proper m (requirement f) right shallow =
     let inside = shallow_after (limit_number limits.FormulaDepth) (codes "require") (spelled f []) shallow in
-    made m e (record { condition = All-from_recursion (IsKnownTruth m) [] tt; formula = formula_proper m f right inside })
-statement_proper m (objective direction quantity) s right shallow e = cc
+    record { condition = All-from_recursion (IsKnownTruth m) [] tt; formula = formula_proper m f right inside }
+statement_proper m (objective direction x) right shallow = quantity_proper m x (built_in x) right
 
 pub made_proper : (m : Lists) (tokens : List Lexeme) (s : Statement) → IsMade m tokens s → nests_too_deep tokens ≡ false → IsProper m s
 made_proper m tokens s made shallow =
-    statement_proper m made.source s made.names (subst (λ ts. nests_too_deep ts ≡ false) made.spelled shallow) made.meaning
+    subst (IsProper m) made.meaning (statement_proper m made.source made.names (subst (λ ts. nests_too_deep ts ≡ false) made.spelled shallow))

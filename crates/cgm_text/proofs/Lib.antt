@@ -7,12 +7,12 @@ pub mod Formulas
 pub mod Judging
 pub mod Known
 pub mod Meanings
-pub mod Names
 pub mod Outcomes
 pub mod Printed
 pub mod Proper
 pub mod Right
 pub mod Spaces
+pub mod Spellings
 pub mod Splits
 pub mod StatementsBack
 pub mod Terms

@@ -47,7 +47,7 @@ use Rattle.cgm_text.specs.Statements.{built_in, condition, condition_word, direc
 use Rattle.cgm_text.specs.Trees.{is_deeper}
 use Rattle.cgm_text.specs.Uses.{end_of, first_fault, formula_uses, quantity_uses, thing_fault, use_as}
 use Rattle.cgm_text.specs.Written.{spelled}
-use Rattle.cgm_text.proofs.Names.{name_free}
+use Rattle.cgm_text.proofs.Spellings.{name_free}
 use Rattle.cgm_text.proofs.WrittenBack.{formula_back, number_meaning, number_use, pass, passes, thing_plain, truth_meaning, truth_plain, truth_use}
 
 -- ---- tokens without brackets

@@ -1,7 +1,6 @@
 -- The canonical text of a well-formed model is the text of this model.
 use Rattle.std.proofs.Common.{◌≡◌, ◌≢◌, ℕ, zero, suc, ◌+◌, ◌<◌, ◌≤◌, ◌==◌, ℤ, pos, negsuc, Bool, true, false, ◌&&◌, ◌||◌, not, nat_le, IsTrue, List, [], ◌∷◌, ◌++◌, length, map, get_or, slice_get, FitsSigned, Option, None, Some, Result, Ok, Err, refl, sym, ap, ◌∙◌, subst, arith, append_assoc, append-nil, true≢false, w64}
 use Rattle.std.specs.Prelude.{unsigned_abs}
-use Rattle.std.specs.Char.{is_ascii_digit}
 use Rattle.std.specs.List.{All, AllByRecursion, list_all}
 use Rattle.std.proofs.lemmas.Bool.{and_parts, ne_eqb}
 use Rattle.std.proofs.lemmas.Bool.Decides.{nat_tests}
@@ -14,42 +13,39 @@ use Rattle.cgm_base.specs.Words.{limit_number}
 use Rattle.cgm_formula.specs.declared.formula.Formula.{Formula}
 use Rattle.cgm_formula.specs.declared.formula.Linear.{Linear}
 use Rattle.cgm_formula.specs.declared.formula.Number.{Number}
-use Rattle.cgm_formula.specs.declared.formula.Number.TheVariants as numbers_of
 use Rattle.cgm_formula.specs.Nodes.{names as names_in, comparisons}
 use Rattle.cgm_lex.specs.Lexemes.{Lexeme, line_lexemes, number, word}
 use Rattle.cgm_lex.specs.Lines.{lines}
-use Rattle.cgm_lex.specs.Pieces.{is_run_byte}
-use Rattle.cgm_lex.specs.Numbers.{begins_number}
 use Rattle.cgm_lex.specs.Spelling.{IsPlain, spelled_line}
 use Rattle.cgm_lex.proofs.Printing.{line_is_read, line_has_no_feed}
-use Rattle.cgm_model.specs.declared.lists.Edge.{Edge}
 use Rattle.cgm_model.specs.declared.lists.Element.{Element}
 use Rattle.cgm_model.specs.declared.lists.Lists.{Lists}
 use Rattle.cgm_model.specs.declared.lists.Refinement.{Refinement}
-use Rattle.cgm_model.specs.declared.lists.Rule.{Rule}
 use Rattle.cgm_model.specs.declared.lists.Statement.{Statement}
 use Rattle.cgm_model.specs.declared.lists.Statement.TheVariants as statements
+use Rattle.cgm_model.specs.declared.lists.Sum.{Sum}
 use Rattle.cgm_model.specs.declared.lists.Thing.{Thing}
 use Rattle.cgm_model.specs.declared.lists.Thing.TheVariants as things
 use Rattle.cgm_model.specs.declared.lists.Variable.{Variable}
 use Rattle.cgm_model.specs.Canonical.{statements_of, after, StandInOrder}
 use Rattle.cgm_model.specs.Formulas.{IsKnownNumber, IsKnownTruth, IsProperFormula, every_linear, formula_of as formula_of_rule, has_small_terms}
 use Rattle.cgm_model.specs.Lists.{added, no_lists}
-use Rattle.cgm_model.specs.Name.{continues_name, is_name, is_reserved, is_spelled, starts_name}
-use Rattle.cgm_model.specs.Named.{element_names, names, refinement_names, variable_names, IsNamed, thing_named}
+use Rattle.cgm_model.specs.Name.{is_name}
+use Rattle.cgm_model.specs.Named.{element_names, refinement_names, sum_names, variable_names, IsNamed, thing_named}
 use Rattle.cgm_model.specs.Statement.{IsAllowed, IsProper}
-use Rattle.cgm_model.specs.WellFormed.{IsRule, IsVariable, IsWellFormed}
+use Rattle.cgm_model.specs.WellFormed.{IsRule, IsValue, IsVariable, IsWeighing, IsWellFormed}
 use Rattle.cgm_model.proofs.Canon.{after_all, stands_in_order}
 use Rattle.cgm_model.proofs.Keeping.{IsWellFormed-added, IsWellFormed-none}
 use Rattle.cgm_model.proofs.Lookups.{place, placed, thing_named-from_named}
-use Rattle.cgm_text.specs.Back.{ArePlain, Fitting, Given, HasWidth, IsSide, IsTerm, Knows, StatementBack}
-use Rattle.cgm_text.specs.Canonical.{canonical_text, element_name, refinement_name, number_name, name_at, statement_lines, whole_line, written}
+use Rattle.cgm_text.specs.Back.{ArePlain, Fitting, Given, HasWidth, IsSide, IsTerm, IsThere, thing_name, Knows, StatementBack}
+use Rattle.cgm_text.specs.Canonical.{canonical_text, name_at, statement_lines, whole_line, written}
 use Rattle.cgm_text.specs.Line.{ComesTo, AreLexemesJudged, AreShallowJudged, IsNamedJudged, IsJudged, HasForm, Form, header_tokens, nests_too_deep, nothing, header, says, written as form_written}
-use Rattle.cgm_text.specs.Meaning.{is_read, statement_of}
-use Rattle.cgm_text.specs.Statements.{WrittenStatement, sort_of, sort_word, body, statement_tokens}
+use Rattle.cgm_text.specs.Meaning.{statement_of}
+use Rattle.cgm_text.specs.Statements.{WrittenStatement, statement_tokens}
 use Rattle.cgm_text.specs.Text.{HasStatements, IsOutcome, IsTextOf, Lead, LineStatement, Outcome, after_line, all_added, gives, model_of, on_line}
 use Rattle.cgm_text.specs.Uses.{first_fault, statement_uses}
 use Rattle.cgm_text.proofs.Drafts.{all_added_push}
+use Rattle.cgm_text.proofs.Spellings.{name_plain}
 use Rattle.cgm_text.proofs.StatementsBack.{statement_back}
 
 -- ---- names that stay
@@ -173,8 +169,11 @@ bound_fits : (k : ℤ) → unsigned_abs k ≤ 1000000000 → FitsSigned w64 k
 bound_fits (pos n) h = record { sfits = omega arith }
 bound_fits (negsuc n) h = record { sfits = omega arith }
 
+number_fits : (k : ℤ) → unsigned_abs k ≤ 1000000 → FitsSigned w64 k
+number_fits k h = bound_fits k (omega (arith, h))
+
 coefficient_fits : (k : ℤ) → nat_le (unsigned_abs k) 1000000 ≡ true → FitsSigned w64 k
-coefficient_fits k e = let h : unsigned_abs k ≤ 1000000 = grind (arith, nat_tests) in bound_fits k (omega (arith, h))
+coefficient_fits k e = let h : unsigned_abs k ≤ 1000000 = grind (arith, nat_tests) in number_fits k h
 
 terms_fit : (p : Lists) (ts : List (ℤ × Number)) → AllByRecursion (λ (t : ℤ × Number). IsKnownNumber p t.1) ts → list_all (λ (t : ℤ × Number). nat_le (unsigned_abs t.0) (limit_number limits.Coefficient)) ts ≡ true → AllByRecursion (IsTerm p) ts
 terms_fit p [] known small = tt
@@ -210,9 +209,15 @@ fitting p (statements.Contrib e) w proper wide = tt
 fitting p (statements.Conflict e) w proper wide = tt
 fitting p (statements.Bind e) w proper wide = tt
 fitting p (statements.Assert a) w proper wide = tt
-fitting p (statements.Value v) w proper wide = ?
-fitting p (statements.Reward v) w proper wide = ?
-fitting p (statements.Penalty v) w proper wide = ?
+fitting p (statements.Value v) w proper wide =
+    let is : IsValue (added p (statements.Value v)) v = last_holds (IsValue (added p (statements.Value v))) p.values v w.values in
+    number_fits v.k is.small
+fitting p (statements.Reward v) w proper wide =
+    let is : IsWeighing (added p (statements.Reward v)) v = last_holds (IsWeighing (added p (statements.Reward v))) p.rewards v w.rewards in
+    number_fits v.k is.small
+fitting p (statements.Penalty v) w proper wide =
+    let is : IsWeighing (added p (statements.Penalty v)) v = last_holds (IsWeighing (added p (statements.Penalty v))) p.penalties v w.penalties in
+    number_fits v.k is.small
 fitting p (statements.Prefer x) w proper wide = tt
 fitting p (statements.Rule r) w proper wide =
     let is : IsRule (added p (statements.Rule r)) r = last_holds (IsRule (added p (statements.Rule r))) p.rules r w.rules in

@@ -36,7 +36,7 @@ use Rattle.cgm_text.specs.Meaning.{truth_named, truth_of, number_named, number_o
 use Rattle.cgm_text.specs.Trees.{count_after, formulas_of, is_deeper}
 use Rattle.cgm_text.specs.Uses.{NameUse, use_as, term_name, terms_uses, linear_uses, formula_uses, formulas_uses, suits, thing_fault, first_fault}
 use Rattle.cgm_text.specs.Written.{WrittenTerm, plain, scaled, WrittenLinear, single, total, WrittenFormula, name, negation, joined, paired, compared, WrittenFormulas, no_formulas, more_formulas, joint_word, pairing_word, comparison_word, spelled_term, spelled_terms, spelled_linear, spelled, spelled_each}
-use Rattle.cgm_text.proofs.Names.{name_plain}
+use Rattle.cgm_text.proofs.Spellings.{name_plain}
 
 -- ---- names
 

@@ -44,7 +44,7 @@ name_plain (b ∷ bs) e =
     (omega arith, (rw (start_runs b parts.0) (continues_run bs parts.1), no_number b bs parts.0))
 
 -- the built-in quantity of the first test that holds
-abbrev chosen : Bool → Bool → Bool → Bool → Bool → Bool → Option Quantity
+abbrev pub chosen : Bool → Bool → Bool → Bool → Bool → Bool → Option Quantity
 chosen a b c d e f =
     if a then Some quantities.Weight
     else if b then Some quantities.UnsatPrefs

@@ -96,10 +96,10 @@ pub four_groups : (m : Lists) (xs ys zs ws : List Statement) (t a b c d : List �
 four_groups m xs ys zs ws t a b c d a_is b_is c_is d_is =
     two_groups m xs (ys ++ (zs ++ ws)) t a d a_is (three_groups m ys zs ws a b c d b_is c_is d_is)
 
-four_first : (as bs cs ds rest : List Statement) → (as ++ (bs ++ (cs ++ ds))) ++ rest ≡ as ++ (bs ++ (cs ++ (ds ++ rest)))
-four_first as bs cs ds rest =
-    append_assoc as (bs ++ (cs ++ ds)) rest
-    ∙ ap (λ (xs : List Statement). as ++ xs) (append_assoc bs (cs ++ ds) rest ∙ ap (λ (xs : List Statement). bs ++ xs) (append_assoc cs ds rest))
+four_first : (ws xs ys zs rest : List Statement) → (ws ++ (xs ++ (ys ++ zs))) ++ rest ≡ ws ++ (xs ++ (ys ++ (zs ++ rest)))
+four_first ws xs ys zs rest =
+    append_assoc ws (xs ++ (ys ++ zs)) rest
+    ∙ ap (λ (more : List Statement). ws ++ more) (append_assoc xs (ys ++ zs) rest ∙ ap (λ (more : List Statement). xs ++ more) (append_assoc ys zs rest))
 
 parts_are : (m : Lists) → declaring m ++ (relating m ++ (weighing m ++ demanding m)) ≡ statements_of m
 parts_are m =

@@ -149,28 +149,6 @@ form_some tokens none =
     none no_word (λ sort after begins.
     none no_form (record { sort = sort; after = after; begins = begins }, λ s is. none (written s) is))
 
-judged_some : (m : Lists) (tokens : List Lexeme) (form : Form) → HasForm tokens form → Never (IsFormJudged m form) → ⊥
-form_judged_some m tokens no_word has none = none (faulty (line_faults.Bad kinds.Statement)) refl
-form_judged_some m tokens not_read has none = none (faulty (line_faults.Bad kinds.NotYet)) refl
-form_judged_some m tokens no_form has none = none (faulty (line_faults.Bad kinds.Form)) refl
-form_judged_some m tokens (written s) has none =
-    let makes = read_makes m s has.1 in
-    named_some (first_fault m (statement_uses s)) m (statement_of m s) makes.0 makes.1 none
-
-begins_some : (tokens after : List Lexeme) (sort : Sort) (reads : Bool) → is_read sort ≡ reads → tokens ≡ word (sort_word sort) ∷ after → ((form : Form) → ¬ HasForm tokens form) → ⊥
-begins_some tokens after sort false e begins none =
-    none not_read (record { sort = sort; after = after; begins = begins; reads_it = e })
-begins_some tokens after sort true e begins none =
-    none no_form (
-      record { sort = sort; after = after; begins = begins; reads_it = e },
-      λ s is.
-          let words : sort_word (sort_of s) ≡ sort_word sort = cc in
-          none (written s) (is, ap is_read (sort_is (sort_of s) sort words) ∙ e),
-    )
-
-form_some : (tokens : List Lexeme) → ((form : Form) → ¬ HasForm tokens form) → ⊥
-form_some tokens none = none no_word (λ sort after begins. begins_some tokens after sort (is_read sort) refl begins none)
-
 judged_some : (m : Lists) (tokens : List Lexeme) → Never (AreJudged m tokens) → ⊥
 judged_some m tokens none =
     form_some tokens (λ form has. form_judged_some m form (λ v judged. none v (form, (has, judged))))

@@ -15,7 +15,7 @@ use Rattle.cgm_model.specs.declared.stop.AddStop.{AddStop}
 use Rattle.cgm_model.specs.declared.stop.AddStop.TheVariants as add_stops
 use Rattle.cgm_model.specs.Lists.{no_lists, added}
 use Rattle.cgm_model.specs.Model.{lists_of}
-use Rattle.cgm_model.specs.Statement.{IsAllowed, IsNotAdded}
+use Rattle.cgm_model.specs.Statement.{IsNotAdded}
 use Rattle.cgm_text.specs.declared.draft.Draft.{Draft}
 use Rattle.cgm_text.specs.declared.fault.LineFault.{LineFault}
 use Rattle.cgm_text.specs.declared.fault.LineFault.TheVariants as line_faults
@@ -23,13 +23,10 @@ use Rattle.cgm_text.specs.declared.fault.LineStop.{LineStop}
 use Rattle.cgm_text.specs.declared.fault.LineStop.TheVariants as line_stops
 use Rattle.cgm_text.specs.declared.reader.Reading.{Reading}
 use Rattle.cgm_text.specs.declared.reader.TextStop.{TextStop}
-use Rattle.cgm_text.specs.declared.reader.TextStop.TheVariants as stops
-use Rattle.cgm_text.specs.Line.{Verdict, nothing, header, says, faulty, header_tokens, Form, no_word, no_form, written, HasForm, IsFormJudged, IsNamedJudged, IsJudged, AreFirst, AreJudged, AreShallowJudged, AreLexemesJudged, ComesTo, nests_too_deep}
+use Rattle.cgm_text.specs.Line.{Verdict, nothing, header, says, faulty, header_tokens, written, IsFormJudged, IsNamedJudged, IsJudged, AreFirst, AreJudged, AreShallowJudged, AreLexemesJudged, ComesTo, nests_too_deep}
 use Rattle.cgm_text.specs.Meaning.{statement_of}
-use Rattle.cgm_text.specs.Progress.{IsAdded, IsBegun, IsDraft, IsEmpty, IsFinished, IsFinishStop, IsMade, IsNoFault, IsPut, IsStep, IsStop, IsStopAfter, Steps, line_stop, stop_at, tokens_come_to}
-use Rattle.cgm_text.specs.Statements.{WrittenStatement}
+use Rattle.cgm_text.specs.Progress.{IsAdded, IsDraft, IsFinished, IsFinishStop, IsMade, IsNoFault, IsPut, IsStep, IsStop, IsStopAfter, line_stop, stop_at, tokens_come_to}
 use Rattle.cgm_text.specs.Text.{LineStatement, on_line, all_added, model_of, rule_line, rule_lines, Outcome, gives, fails, after_line, IsOutcome, Lead, HasStatements, HasFault, IsReading, IsNotRead}
-use Rattle.cgm_text.specs.Uses.{first_fault, statement_uses}
 
 -- lists
 

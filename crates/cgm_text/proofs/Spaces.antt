@@ -2,7 +2,7 @@
 use Rattle.std.proofs.Common.{◌≡◌, ℕ, zero, suc, ◌+◌, ◌<◌, ◌≤◌, arith, Bool, true, false, not, ◌&&◌, ◌||◌, if◌then◌else◌, List, [], ◌∷◌, ◌++◌, drop, get_or, length, map, codes, refl, ap, sym, ◌∙◌, append_assoc, append-nil}
 use Rattle.std.proofs.lemmas.List.{drop_more}
 use Rattle.cgm_lex.specs.Lexemes.{Lexeme, colon, word}
-use Rattle.cgm_lex.specs.Spelling.{gap, is_closing, is_opening, spelled_line, text_of}
+use Rattle.cgm_lex.specs.Spelling.{is_closing, is_opening, spelled_line, text_of}
 use Rattle.cgm_model.specs.declared.lists.Lists.{Lists}
 use Rattle.cgm_model.specs.declared.lists.Statement.{Statement}
 use Rattle.cgm_model.specs.declared.lists.Assertion.{Assertion}

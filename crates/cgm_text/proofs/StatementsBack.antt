@@ -1,6 +1,6 @@
 -- The written form of a statement, read back after lists that know its names, is the statement.
-use Rattle.std.proofs.Common.{◌≡◌, ◌≢◌, ℕ, zero, suc, ◌+◌, ◌<◌, ◌≤◌, ℤ, Bool, true, false, IsTrue, List, [], ◌∷◌, length, map, codes, FitsSigned, Option, None, Some, refl, sym, ap, ◌∙◌, subst, arith, w64}
-use Rattle.std.specs.List.{All, AllByRecursion}
+use Rattle.std.proofs.Common.{◌≡◌, ℕ, ◌<◌, ◌≤◌, Bool, true, false, List, [], ◌∷◌, length, map, codes, FitsSigned, None, refl, sym, ap, ◌∙◌, subst, arith, w64}
+use Rattle.std.specs.List.{AllByRecursion}
 use Rattle.std.proofs.lemmas.List.Elements.{recursion_from_All}
 use Rattle.cgm_base.specs.declared.limit.Which.TheVariants as limits
 use Rattle.cgm_base.specs.Words.{limit_number}
@@ -31,7 +31,6 @@ use Rattle.cgm_model.specs.Formulas.{IsKnownNumber, IsKnownTruth, formula_of as 
 use Rattle.cgm_model.specs.Name.{is_name}
 use Rattle.cgm_model.specs.Named.{thing_named}
 use Rattle.cgm_model.specs.Statement.{IsEdgeOf, IsKnownQuantity, IsProper}
-use Rattle.cgm_text.specs.declared.names.Wanted.{Wanted}
 use Rattle.cgm_text.specs.declared.names.Wanted.TheVariants as wants
 use Rattle.cgm_text.specs.declared.written.ConditionWord.{ConditionWord}
 use Rattle.cgm_text.specs.declared.written.ConditionWord.TheVariants as condition_words

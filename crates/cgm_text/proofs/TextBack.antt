@@ -1,20 +1,20 @@
 -- The canonical text of a well-formed model is the text of this model.
-use Rattle.std.proofs.Common.{◌≡◌, ◌≢◌, ℕ, zero, suc, ◌+◌, ◌<◌, ◌≤◌, ◌==◌, ℤ, pos, negsuc, Bool, true, false, ◌&&◌, ◌||◌, not, nat_le, IsTrue, List, [], ◌∷◌, ◌++◌, length, map, get_or, slice_get, FitsSigned, Option, None, Some, Result, Ok, Err, refl, sym, ap, ◌∙◌, subst, arith, append_assoc, append-nil, true≢false, w64}
+use Rattle.std.proofs.Common.{◌≡◌, ◌≢◌, ℕ, zero, suc, ◌+◌, ◌<◌, ◌≤◌, ◌==◌, ℤ, pos, negsuc, Bool, true, false, nat_le, List, [], ◌∷◌, ◌++◌, length, map, get_or, slice_get, FitsSigned, None, Some, Result, Ok, refl, sym, ap, ◌∙◌, subst, arith, append_assoc, append-nil, w64}
 use Rattle.std.specs.Prelude.{unsigned_abs}
 use Rattle.std.specs.List.{All, AllByRecursion, list_all}
 use Rattle.std.proofs.lemmas.Bool.{and_parts, ne_eqb}
 use Rattle.std.proofs.lemmas.Bool.Decides.{nat_tests}
-use Rattle.std.proofs.lemmas.List.{length-append, length-map}
+use Rattle.std.proofs.lemmas.List.{length-map}
 use Rattle.std.proofs.lemmas.List.Elements.{All-from_recursion, recursion_from_All}
 use Rattle.std.proofs.lemmas.List.Splits.{slice_split_at}
-use Rattle.std.proofs.lemmas.Option.{none-some, same_Some, get_or_from_slice_get}
+use Rattle.std.proofs.lemmas.Option.{none-some, get_or_from_slice_get}
 use Rattle.cgm_base.specs.declared.limit.Which.TheVariants as limits
 use Rattle.cgm_base.specs.Words.{limit_number}
 use Rattle.cgm_formula.specs.declared.formula.Formula.{Formula}
 use Rattle.cgm_formula.specs.declared.formula.Linear.{Linear}
 use Rattle.cgm_formula.specs.declared.formula.Number.{Number}
 use Rattle.cgm_formula.specs.Nodes.{names as names_in, comparisons}
-use Rattle.cgm_lex.specs.Lexemes.{Lexeme, line_lexemes, number, word}
+use Rattle.cgm_lex.specs.Lexemes.{Lexeme, line_lexemes, word}
 use Rattle.cgm_lex.specs.Lines.{lines}
 use Rattle.cgm_lex.specs.Spelling.{IsPlain, spelled_line}
 use Rattle.cgm_lex.proofs.Printing.{line_is_read, line_has_no_feed}
@@ -39,10 +39,10 @@ use Rattle.cgm_model.proofs.Keeping.{IsWellFormed-added, IsWellFormed-none}
 use Rattle.cgm_model.proofs.Lookups.{place, placed, thing_named-from_named}
 use Rattle.cgm_text.specs.Back.{ArePlain, Fitting, Given, HasWidth, IsSide, IsTerm, IsThere, thing_name, Knows, StatementBack}
 use Rattle.cgm_text.specs.Canonical.{canonical_text, name_at, statement_lines, whole_line, written}
-use Rattle.cgm_text.specs.Line.{ComesTo, AreLexemesJudged, AreShallowJudged, IsNamedJudged, IsJudged, HasForm, Form, header_tokens, nests_too_deep, nothing, header, says, written as form_written}
+use Rattle.cgm_text.specs.Line.{ComesTo, AreLexemesJudged, AreShallowJudged, IsNamedJudged, header_tokens, nests_too_deep, nothing, header, says, written as form_written}
 use Rattle.cgm_text.specs.Meaning.{statement_of}
 use Rattle.cgm_text.specs.Statements.{WrittenStatement, statement_tokens}
-use Rattle.cgm_text.specs.Text.{HasStatements, IsOutcome, IsTextOf, Lead, LineStatement, Outcome, after_line, all_added, gives, model_of, on_line}
+use Rattle.cgm_text.specs.Text.{HasStatements, IsTextOf, Lead, LineStatement, all_added, gives, model_of, on_line}
 use Rattle.cgm_text.specs.Uses.{first_fault, statement_uses}
 use Rattle.cgm_text.proofs.Drafts.{all_added_push}
 use Rattle.cgm_text.proofs.Spellings.{name_plain}

@@ -1,8 +1,7 @@
 -- A line comes to one thing, and always to something.
-use Rattle.std.proofs.Common.{◌≡◌, ◌≢◌, ◌↔◌, ℕ, Bool, true, false, IsTrue, List, [], ◌∷◌, Option, None, Some, Result, Ok, Err, refl, sym, ap, ◌∙◌, subst, true≢false}
+use Rattle.std.proofs.Common.{◌≡◌, ◌↔◌, ℕ, Bool, true, false, IsTrue, List, [], ◌∷◌, Option, None, Some, Result, Ok, Err, refl, sym, ap, ◌∙◌, subst, true≢false}
 use Rattle.cgm_base.specs.declared.fault.BadKind.{BadKind}
 use Rattle.cgm_base.specs.declared.fault.BadKind.TheVariants as kinds
-use Rattle.cgm_base.specs.declared.limit.Which.{Which}
 use Rattle.cgm_base.specs.declared.limit.Which.TheVariants as limits
 use Rattle.cgm_lex.specs.declared.token.Flaw.{Flaw}
 use Rattle.cgm_lex.specs.Lexemes.{Lexeme, line_lexemes}
@@ -11,7 +10,6 @@ use Rattle.cgm_model.specs.declared.lists.Statement.{Statement}
 use Rattle.cgm_model.specs.declared.stop.AddStop.{AddStop}
 use Rattle.cgm_model.specs.declared.stop.AddStop.TheVariants as stops
 use Rattle.cgm_model.specs.declared.stop.Fault.{Fault}
-use Rattle.cgm_model.specs.declared.stop.Fault.TheVariants as faults
 use Rattle.cgm_model.specs.Graph.{IsAcyclic}
 use Rattle.cgm_model.specs.Lists.{added}
 use Rattle.cgm_model.specs.Statement.{IsAllowed, IsNotAdded, refusal}
@@ -19,7 +17,7 @@ use Rattle.cgm_model.proofs.Refusals.{IsAllowed-passed, IsNotAdded-refused}
 use Rattle.cgm_model.proofs.Verdicts.{refused_not_allowed, refused_once}
 use Rattle.cgm_text.specs.declared.fault.LineFault.{LineFault}
 use Rattle.cgm_text.specs.declared.fault.LineFault.TheVariants as line_faults
-use Rattle.cgm_text.specs.Line.{Verdict, nothing, header, says, faulty, refusal_kind, flaw_kind, header_tokens, Form, no_word, no_form, written, HasForm, IsRefusedAs, IsJudged, IsNamedJudged, IsFormJudged, AreJudged, AreFirst, AreShallowJudged, nests_too_deep, AreLexemesJudged, ComesTo}
+use Rattle.cgm_text.specs.Line.{Verdict, nothing, header, says, faulty, refusal_kind, flaw_kind, Form, no_word, no_form, written, HasForm, IsRefusedAs, IsJudged, IsNamedJudged, IsFormJudged, AreJudged, AreFirst, AreShallowJudged, nests_too_deep, AreLexemesJudged, ComesTo}
 use Rattle.cgm_text.specs.Meaning.{statement_of}
 use Rattle.cgm_text.specs.Statements.{sort_of, body}
 use Rattle.cgm_text.specs.Uses.{first_fault, statement_uses}

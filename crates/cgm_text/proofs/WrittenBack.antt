@@ -1,5 +1,5 @@
 -- The written form of a formula, read back after lists that know its names, is the formula.
-use Rattle.std.proofs.Common.{◌≡◌, ◌≢◌, ℕ, ◌+◌, ◌-◌, ◌<◌, ◌==◌, ◌≤◌, ℤ, pos, negsuc, max, Bool, true, false, ◌&&◌, nat_lt, IsTrue, List, [], ◌∷◌, ◌++◌, length, map, codes, FitsSigned, Option, None, Some, if◌then◌else◌, refl, sym, ap, ◌∙◌, subst, arith, true≢false, w64}
+use Rattle.std.proofs.Common.{◌≡◌, ◌≢◌, ℕ, ◌+◌, ◌-◌, ◌==◌, ◌≤◌, ℤ, pos, negsuc, max, Bool, true, false, ◌&&◌, nat_lt, List, [], ◌∷◌, ◌++◌, length, map, codes, FitsSigned, None, refl, sym, ap, ◌∙◌, subst, arith, true≢false, w64}
 use Rattle.std.specs.List.{AllByRecursion, list_all}
 use Rattle.std.specs.Ordering.{int_eq}
 use Rattle.std.proofs.lemmas.Bool.{and_parts, eqb-true}
@@ -15,7 +15,7 @@ use Rattle.cgm_formula.specs.declared.formula.Truth.TheVariants as truths
 use Rattle.cgm_formula.specs.Nodes.{names, names_step, comparisons, comparisons_step, is_full, full_step, depth, depth_step, greatest, linear_depth, term_depth, joined as concatenated}
 use Rattle.cgm_formula.proofs.Comparisons.{split}
 use Rattle.cgm_formula.proofs.Folds.{fold-Name, fold-Not, fold-And, fold-Or, fold-Implies, fold-Iff, fold-AtMost, fold-AtLeast, fold-Equal}
-use Rattle.cgm_formula.proofs.Induction.{Cases, by_cases}
+use Rattle.cgm_formula.proofs.Induction.{by_cases}
 use Rattle.cgm_lex.specs.Lexemes.{Lexeme, opening, closing, number, word}
 use Rattle.cgm_lex.specs.Spelling.{IsPlain}
 use Rattle.cgm_model.specs.declared.lists.Lists.{Lists}
@@ -34,8 +34,8 @@ use Rattle.cgm_text.specs.Back.{ArePlain, IsThere, thing_name, Knows, IsTerm, Is
 use Rattle.cgm_text.specs.Canonical.{truth_name, number_name, written_term, written_linear, written_step, written_formula}
 use Rattle.cgm_text.specs.Meaning.{truth_named, truth_of, number_named, number_of, term_of, linear_of, linear_with, formula_of, each_formula_of, joined_as, paired_as, compared_as}
 use Rattle.cgm_text.specs.Trees.{count_after, formulas_of, is_deeper}
-use Rattle.cgm_text.specs.Uses.{NameUse, use_as, term_name, terms_uses, linear_uses, formula_uses, formulas_uses, suits, thing_fault, first_fault}
-use Rattle.cgm_text.specs.Written.{WrittenTerm, plain, scaled, WrittenLinear, single, total, WrittenFormula, name, negation, joined, paired, compared, WrittenFormulas, no_formulas, more_formulas, joint_word, pairing_word, comparison_word, spelled_term, spelled_terms, spelled_linear, spelled, spelled_each}
+use Rattle.cgm_text.specs.Uses.{NameUse, use_as, term_name, terms_uses, linear_uses, formula_uses, formulas_uses, thing_fault, first_fault}
+use Rattle.cgm_text.specs.Written.{WrittenTerm, plain, scaled, WrittenLinear, WrittenFormula, name, negation, joined, paired, compared, WrittenFormulas, more_formulas, joint_word, pairing_word, comparison_word, spelled_term, spelled_terms, spelled_linear, spelled, spelled_each}
 use Rattle.cgm_text.proofs.Spellings.{name_plain}
 
 -- ---- names

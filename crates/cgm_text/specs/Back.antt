@@ -1,11 +1,10 @@
 -- What it says that the written form of a formula is read back after lists: the formula itself, with no fault in its names, in plain words, and not too deep.
-use Rattle.std.specs.Prelude.{◌≡◌, ℕ, ℤ, ◌+◌, ◌<◌, ◌≤◌, true, false, List, length, FitsSigned, Option, None, Some}
+use Rattle.std.specs.Prelude.{◌≡◌, ℕ, ℤ, ◌+◌, ◌<◌, ◌≤◌, true, false, List, length, FitsSigned, None, Some}
 use Rattle.std.specs.Int.{w64}
 use Rattle.std.specs.List.{AllByRecursion}
 use Rattle.cgm_formula.specs.declared.formula.Formula.{Formula}
 use Rattle.cgm_formula.specs.declared.formula.Linear.{Linear}
 use Rattle.cgm_formula.specs.declared.formula.Number.{Number}
-use Rattle.cgm_formula.specs.declared.formula.Number.TheVariants as numbers_of
 use Rattle.cgm_formula.specs.Nodes.{names, comparisons, is_full, depth}
 use Rattle.cgm_lex.specs.Lexemes.{Lexeme, word}
 use Rattle.cgm_lex.specs.Spelling.{IsPlain}

@@ -10,7 +10,6 @@ use Rattle.cgm_formula.specs.declared.formula.Truth.{Truth}
 use Rattle.cgm_formula.specs.declared.formula.Truth.TheVariants as truths
 use Rattle.cgm_lex.specs.Lexemes.{Lexeme}
 use Rattle.cgm_lex.specs.Spelling.{spelled_line}
-use Rattle.cgm_model.specs.declared.lists.Element.{Element}
 use Rattle.cgm_model.specs.declared.lists.ElementKind.{ElementKind}
 use Rattle.cgm_model.specs.declared.lists.ElementKind.TheVariants as element_kinds
 use Rattle.cgm_model.specs.declared.lists.Lists.{Lists}

@@ -2,7 +2,6 @@
 use Rattle.std.specs.Prelude.{◌≡◌, ◌≢◌, ℕ, pos, Bool, true, false, List, [], ◌∷◌, codes, Option, None, Some, Result, Ok, Err}
 use Rattle.cgm_base.specs.declared.fault.BadKind.{BadKind}
 use Rattle.cgm_base.specs.declared.fault.BadKind.TheVariants as kinds
-use Rattle.cgm_base.specs.declared.limit.Which.{Which}
 use Rattle.cgm_base.specs.declared.limit.Which.TheVariants as limits
 use Rattle.cgm_base.specs.Words.{limit_number}
 use Rattle.cgm_lex.specs.declared.token.Flaw.{Flaw}

@@ -1,5 +1,5 @@
 -- What the reader keeps of the lines so far, and what one more line makes of it.
-use Rattle.std.specs.Prelude.{◌≡◌, ℕ, true, false, List, [], ◌++◌, Option, None, Some, Result, Ok}
+use Rattle.std.specs.Prelude.{◌≡◌, ℕ, true, false, List, [], ◌++◌, Option, None, Some, Ok}
 use Rattle.std.specs.Option.{option_map}
 use Rattle.cgm_base.specs.declared.fault.BadKind.TheVariants as kinds
 use Rattle.cgm_base.specs.Words.{limit_number}

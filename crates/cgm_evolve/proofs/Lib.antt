@@ -1,0 +1,6 @@
+pub mod Drafts
+pub mod Giving
+pub mod Outcomes
+pub mod Pushing
+pub mod Spelled
+pub mod TextBack

@@ -1,0 +1,5 @@
+pub mod Index
+pub mod Line
+pub mod Pairs
+pub mod Progress
+pub mod Text

@@ -1,4 +1,6 @@
+pub mod Costs
 pub mod Index
+pub mod Leaves
 pub mod Line
 pub mod Pairs
 pub mod Progress

@@ -1,13 +1,9 @@
 -- What one more line makes of what the reader has so far.
-use Rattle.std.proofs.Common.{◌≡◌, ◌≢◌, ℕ, ◌+◌, ◌++◌, Bool, true, false, cond, List, [], ◌∷◌, length, Option, None, Some, Result, Ok, Err, OnOk, IfOk, IfErr, ◌⊎◌, inl, inr, refl, sym, ap, ◌∙◌, subst, arith, true≢false, append_assoc, append-nil}
+use Rattle.std.proofs.Common.{◌≡◌, ◌≢◌, ℕ, ◌+◌, ◌++◌, Bool, true, false, cond, List, [], ◌∷◌, length, Option, None, Some, Result, Ok, Err, OnOk, IfOk, IfErr, inl, inr, refl, sym, ap, ◌∙◌, subst, arith, true≢false, append_assoc}
 use Rattle.std.specs.Str.{bytes_eq}
 use Rattle.std.proofs.lemmas.List.{length_push}
-use Rattle.cgm_base.specs.declared.fault.BadKind.TheVariants as kinds
-use Rattle.cgm_base.specs.declared.limit.Which.TheVariants as limits
 use Rattle.cgm_lex.specs.declared.token.Flaw.{Flaw}
-use Rattle.cgm_lex.specs.declared.token.Flaw.TheVariants as flaws
-use Rattle.cgm_lex.specs.declared.token.LexFault.TheVariants as lex_faults
-use Rattle.cgm_lex.specs.Lexemes.{Lexeme, line_lexemes, IsFaultOf}
+use Rattle.cgm_lex.specs.Lexemes.{Lexeme, line_lexemes}
 use Rattle.cgm_lex.specs.Lines.{lines}
 use Rattle.cgm_evolve.specs.declared.draft.Draft.{Draft}
 use Rattle.cgm_evolve.specs.declared.earlier.Earlier.{Earlier}
@@ -16,12 +12,11 @@ use Rattle.cgm_evolve.specs.declared.fault.LineFault.TheVariants as line_faults
 use Rattle.cgm_evolve.specs.declared.fault.LineStop.{LineStop}
 use Rattle.cgm_evolve.specs.declared.fault.LineStop.TheVariants as line_stops
 use Rattle.cgm_evolve.specs.declared.reader.EarlierStop.{EarlierStop}
-use Rattle.cgm_evolve.specs.declared.reader.EarlierStop.TheVariants as stops
 use Rattle.cgm_evolve.specs.Index.{Indexes}
 use Rattle.cgm_evolve.specs.Line.{AreFaulty, ArePairFault, IsFaulty, SayPair, header_tokens, name_fault}
-use Rattle.cgm_evolve.specs.Pairs.{ArePairs, Pair, truth_in}
+use Rattle.cgm_evolve.specs.Pairs.{Pair}
 use Rattle.cgm_evolve.specs.Progress.{Follows, IsDraft, IsFinished, IsFinishStop, IsKept, IsPairAdded, IsPairStop, IsPassed, IsStep, IsStop, IsStopAfter, stop_at}
-use Rattle.cgm_evolve.specs.Text.{Give, HasFault, HasNoHeader, IsFirstFaulty, IsNotRead, IsTextOf, pairs_of}
+use Rattle.cgm_evolve.specs.Text.{Give, HasFault, IsNotRead, IsTextOf}
 use Rattle.cgm_evolve.proofs.Giving.{give_more, give_none}
 use Rattle.cgm_evolve.proofs.Pushing.{fits, truth_in-push}
 

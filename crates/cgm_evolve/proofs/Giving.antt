@@ -1,11 +1,11 @@
 -- Lines without a fault, and one line more.
-use Rattle.std.proofs.Common.{◌≡◌, ℕ, ◌++◌, Bool, true, false, cond, List, [], ◌∷◌, map, Option, None, Some, Result, Ok, refl, sym, ap, ◌∙◌, subst, append-nil}
+use Rattle.std.proofs.Common.{◌≡◌, ℕ, ◌++◌, List, [], ◌∷◌, map, Option, None, Some, Result, Ok, refl, sym, ap, ◌∙◌, subst, append-nil}
 use Rattle.std.specs.List.{filter}
 use Rattle.std.proofs.lemmas.List.{map_push}
 use Rattle.std.proofs.lemmas.List.Elements.{filter-append}
 use Rattle.cgm_lex.specs.declared.token.Flaw.{Flaw}
 use Rattle.cgm_lex.specs.Lexemes.{Lexeme, line_lexemes}
-use Rattle.cgm_evolve.specs.Line.{SayPair, header_tokens, name_fault, pair_tokens}
+use Rattle.cgm_evolve.specs.Line.{header_tokens, pair_tokens}
 use Rattle.cgm_evolve.specs.Pairs.{ArePairs, Pair}
 use Rattle.cgm_evolve.specs.Progress.{Follows, IsPassed}
 use Rattle.cgm_evolve.specs.Text.{Give, has_tokens, pairs_of, tokens_of}

@@ -1,17 +1,16 @@
 -- A text has one outcome, and always one: its pairs or its first fault.
-use Rattle.std.proofs.Common.{◌≡◌, ◌≢◌, ℕ, ◌+◌, ◌++◌, ◌⊎◌, inl, inr, Bool, true, false, IsTrue, List, [], ◌∷◌, length, map, get_or, codes, Option, None, Some, Result, Ok, Err, refl, sym, ap, ◌∙◌, subst, arith, append_assoc, append-nil}
+use Rattle.std.proofs.Common.{◌≡◌, ℕ, ◌+◌, ◌++◌, ◌⊎◌, inl, inr, Bool, true, false, List, [], ◌∷◌, length, map, Option, None, Some, Result, Ok, Err, refl, sym, ap, ◌∙◌, subst, append_assoc, append-nil}
 use Rattle.std.specs.List.{filter}
 use Rattle.std.proofs.lemmas.List.Elements.{filter-append}
 use Rattle.cgm_base.specs.declared.fault.BadKind.TheVariants as kinds
 use Rattle.cgm_lex.specs.declared.token.Flaw.{Flaw}
-use Rattle.cgm_lex.specs.Lexemes.{Lexeme, line_lexemes, word}
+use Rattle.cgm_lex.specs.Lexemes.{Lexeme, line_lexemes}
 use Rattle.cgm_lex.specs.Lines.{lines}
-use Rattle.cgm_model.specs.Name.{is_spelled}
 use Rattle.cgm_evolve.specs.declared.fault.LineFault.{LineFault}
 use Rattle.cgm_evolve.specs.declared.fault.LineFault.TheVariants as line_faults
 use Rattle.cgm_evolve.specs.Line.{AreFaulty, ArePairFault, IsFaulty, SayPair, flaw_kind, header_tokens, name_fault, pair_tokens, truth_word}
 use Rattle.cgm_evolve.specs.Pairs.{ArePairs, Pair}
-use Rattle.cgm_evolve.specs.Progress.{Follows, IsPassed}
+use Rattle.cgm_evolve.specs.Progress.{Follows}
 use Rattle.cgm_evolve.specs.Text.{Give, HasFault, HasNoHeader, IsFirstFaulty, IsTextOf, has_tokens, pairs_of, tokens_of}
 use Rattle.cgm_evolve.proofs.Giving.{give_more, give_none, good}
 use Rattle.cgm_evolve.proofs.Pushing.{proper_here}

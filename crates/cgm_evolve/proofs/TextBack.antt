@@ -1,11 +1,11 @@
 -- The canonical text of pairs is a text of these pairs.
-use Rattle.std.proofs.Common.{◌≡◌, ◌≢◌, ℕ, ◌<◌, ◌++◌, ◌==◌, Bool, true, false, List, [], ◌∷◌, get_or, codes, All, Option, None, Some, Result, Ok, Err, refl, sym, ap, ◌∙◌, subst, arith, append_assoc, append-nil}
+use Rattle.std.proofs.Common.{◌≡◌, ◌≢◌, ℕ, ◌++◌, ◌==◌, Bool, true, false, List, [], ◌∷◌, get_or, codes, All, None, Some, refl, sym, ap, ◌∙◌, subst, arith, append_assoc, append-nil}
 use Rattle.std.specs.List.{flat_map}
 use Rattle.std.specs.Fmt.{digits}
 use Rattle.std.proofs.lemmas.Bool.{ne_eqb}
 use Rattle.std.proofs.lemmas.List.Elements.{All-from_recursion}
 use Rattle.std.proofs.lemmas.List.Splits.{slice_split_at}
-use Rattle.cgm_lex.specs.Lexemes.{Lexeme, line_lexemes, word}
+use Rattle.cgm_lex.specs.Lexemes.{Lexeme, word}
 use Rattle.cgm_lex.specs.Lines.{lines}
 use Rattle.cgm_lex.specs.Spelling.{IsPlain, spelled_line}
 use Rattle.cgm_lex.proofs.Printing.{line_is_read, line_has_no_feed}

@@ -1,4 +1,4 @@
-use Rattle.std.proofs.Common.{inr, sym, ◌∙◌}
+use Rattle.std.proofs.Common.{inr, sym}
 use Rattle.cgm_evolve.proofs.draft.Draft.add_pair.Goals as goal
 
 pub returns-in-Some-name_fault-clause-stop : goal.returns-in-Some-name_fault-clause-stop

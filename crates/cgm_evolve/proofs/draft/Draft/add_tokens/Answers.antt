@@ -1,4 +1,4 @@
-use Rattle.std.proofs.Common.{◌≢◌, [], map, sym, ◌∙◌, true≢false}
+use Rattle.std.proofs.Common.{map, sym, ◌∙◌, true≢false}
 use Rattle.cgm_lex.specs.Lexemes.{seen}
 use Rattle.cgm_evolve.proofs.Drafts.{added_step, added_stop, begun_step}
 use Rattle.cgm_evolve.proofs.draft.Draft.add_tokens.Goals as goal

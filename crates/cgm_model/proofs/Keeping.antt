@@ -1,7 +1,7 @@
 -- Lists stay well formed where an allowed, proper statement is added.
-use Rattle.std.proofs.Common.{◌≡◌, ◌≢◌, ℕ, zero, suc, ◌<◌, ◌≤◌, ◌++◌, ◌+◌, ◌==◌, ℤ, Bool, true, false, cond, ◌&&◌, not, nat_le, nat_lt, IsTrue, List, [], ◌∷◌, None, Some, length, map, get_or, slice_get, refl, sym, ◌∙◌, ap, subst, All, arith}
+use Rattle.std.proofs.Common.{◌≡◌, ◌≢◌, ℕ, zero, suc, ◌<◌, ◌≤◌, ◌++◌, ◌+◌, ◌==◌, ℤ, Bool, true, false, cond, ◌&&◌, not, nat_le, IsTrue, List, [], ◌∷◌, Some, length, map, get_or, slice_get, refl, sym, ◌∙◌, ap, subst, All, arith}
 use Rattle.std.specs.Prelude.{unsigned_abs, int_le}
-use Rattle.std.specs.List.{AllPairs, list_any, list_all}
+use Rattle.std.specs.List.{AllPairs, list_any}
 use Rattle.std.specs.Str.{bytes_eq}
 use Rattle.std.proofs.lemmas.Bool.{and_parts, not-true, leb-true, ltb-true, both_ways}
 use Rattle.std.proofs.lemmas.Int.{ints}
@@ -39,7 +39,7 @@ use Rattle.cgm_model.specs.Graph.{IsAcyclic}
 use Rattle.cgm_model.specs.Lists.{added, statement_count, no_lists}
 use Rattle.cgm_model.specs.Name.{is_name}
 use Rattle.cgm_model.specs.Named.{names, element_names, refinement_names, variable_names, sum_names}
-use Rattle.cgm_model.specs.Statement.{IsProper, IsAllowed, IsEdgeOf, IsPreference, IsKnownQuantity, is_short, is_new, is_task, is_assumption, is_distinct}
+use Rattle.cgm_model.specs.Statement.{IsProper, IsAllowed, IsEdgeOf, IsPreference, IsKnownQuantity, is_short, is_task, is_assumption, is_distinct}
 use Rattle.cgm_model.specs.WellFormed.{AreNames, IsElement, IsRefinement, IsVariable, IsAssertion, IsValue, IsWeighing, IsRule, AreWithinLimits, IsWellFormed}
 use Rattle.cgm_model.proofs.Distinct.{distinct_push}
 use Rattle.cgm_model.proofs.Refusals.{Passes, Passes-none}

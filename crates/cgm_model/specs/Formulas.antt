@@ -51,7 +51,7 @@ pub record IsProperRule (m : Lists) (r : Rule) : Type 0 where
   pub condition : All (IsKnownTruth m) (condition_names r)
   pub formula : IsProperFormula m (formula_of r)
 
--- the number doesn't pass its limit
+-- the number of a term, a value, a reward or a penalty doesn't pass its limit
 abbrev pub is_small : ℤ → Bool
 is_small k = nat_le (unsigned_abs k) (limit_number limits.Coefficient)
 

@@ -36,7 +36,7 @@ pub struct Variable {
     pub hi: i64,
 }
 
-/// A number that value lines make up.
+/// A number that is added up from the value lines of what is true.
 #[derive(Debug, Drop)]
 pub struct Sum {
     pub name: Name,
@@ -64,7 +64,7 @@ pub struct SumValue {
     pub sum: u32,
     /// The element or refinement.
     pub of: Truth,
-    /// What it adds.
+    /// What it adds, in a model at most 1,000,000 in size.
     pub k: i64,
 }
 
@@ -73,6 +73,7 @@ pub struct SumValue {
 pub struct Weighing {
     /// The number of the element.
     pub element: u32,
+    /// How much, in a model at most 1,000,000 in size.
     pub k: i64,
 }
 

@@ -4,7 +4,6 @@ ghost use Rattle.cgm_base.specs.Words.{limit_number};
 ghost use Rattle.cgm_model.specs.Assignment.{Fits};
 ghost use Rattle.cgm_model.specs.Model.{lists_of};
 ghost use Rattle.cgm_model.specs.Sums.{sums_of, value_for};
-ghost use Rattle.cgm_model.specs.WellFormed.{IsValue};
 
 use crate::lists::SumValue;
 use crate::model::Model;
@@ -26,11 +25,11 @@ pub fn sums(alloc: Global, m: &Model, a: &Assignment) -> Result<Vec<i64>, AllocE
 }
 
 /// Adds what the value line adds to its sum.
-fn add(totals: &mut [i64], a: &Assignment, v: &SumValue)
-    requires there { v.now.sum < length totals.old }
-    requires small { (k : ℕ) → unsigned_abs (slice_index_or totals.old k (pos 0)) + unsigned_abs v.now.k < 2 ^ 63 }
-    ensures long { length totals.new ≡ length totals.old }
-    ensures added { (k : ℕ) → slice_index_or totals.new k (pos 0) ≡ slice_index_or totals.old k (pos 0) +ℤ value_for a.now k v.now }
+fn add(totals: &mut Vec<i64>, a: &Assignment, v: &SumValue)
+    requires there { v.now.sum < length totals.old.items }
+    requires small { (k : ℕ) → unsigned_abs (slice_index_or totals.old.items k (pos 0)) + unsigned_abs v.now.k < 2 ^ 63 }
+    ensures long { length totals.new.items ≡ length totals.old.items }
+    ensures added { (k : ℕ) → slice_index_or totals.new.items k (pos 0) ≡ slice_index_or totals.old.items k (pos 0) +ℤ value_for a.now k v.now }
 {
     if realization::name_is_true(a, v.of) {
         let place = v.sum as usize;
@@ -47,7 +46,8 @@ fn plus(x: i64, y: i64) -> i64
 
 fn values(m: &Model) -> &[SumValue]
     ensures items { result.now ≡ m.now.values }
-    ensures valid { All (IsValue (lists_of m.now)) result.now }
+    ensures there { All (λ v. v.sum < length m.now.sums) result.now }
+    ensures small { All (λ v. unsigned_abs v.k ≤ limit_number limits.Coefficient) result.now }
     ensures few { length result.now ≤ limit_number limits.Statements }
 {
     m.values.as_slice()

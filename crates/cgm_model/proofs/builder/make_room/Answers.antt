@@ -1,4 +1,4 @@
-use Rattle.std.proofs.Common.{◌≡◌, ◌++◌, ◌∷◌, [], Bool, false, true, is_ok, cond, List}
+use Rattle.std.proofs.Common.{is_ok}
 use Rattle.cgm_model.specs.declared.aids.Aids.{Aids}
 use Rattle.cgm_model.proofs.Aiding.{AreFor-graph, AreFor-marks}
 use Rattle.cgm_model.proofs.builder.make_room.Goals as goal

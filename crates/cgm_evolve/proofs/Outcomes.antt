@@ -73,6 +73,9 @@ record Rest (rest : List (List ℕ)) (front all : List (List Lexeme)) : Type 0 w
   parts : all ≡ front ++ tokens
   lexed : map line_lexemes rest ≡ map good tokens
 
+stripped : (t u : List Lexeme) (front all tokens : List (List Lexeme)) → t ≡ u → all ≡ front ++ tokens → u ∷ all ≡ t ∷ (front ++ tokens)
+stripped t u front all tokens same parts = cc
+
 strip : (ls rest : List (List ℕ)) (front all : List (List Lexeme)) → map line_lexemes ls ≡ map good front → map line_lexemes (ls ++ rest) ≡ map good all → Rest rest front all
 strip [] rest [] all e f = record { tokens = all; parts = refl; lexed = f }
 strip [] rest (t ∷ front) all e f = cc
@@ -84,8 +87,8 @@ strip (l ∷ ls) rest (t ∷ front) (u ∷ all) e f =
     let e' : map line_lexemes ls ≡ map good front = cc in
     let f' : map line_lexemes (ls ++ rest) ≡ map good all = cc in
     let later = strip ls rest front all e' f' in
-    let parts = later.parts in
-    record { tokens = later.tokens; parts = ap (λ x. x ∷ all) (sym same) ∙ ap (λ xs. t ∷ xs) parts; lexed = later.lexed }
+    let parts : u ∷ all ≡ t ∷ (front ++ later.tokens) = stripped t u front all later.tokens same later.parts in
+    record { tokens = later.tokens; parts = parts; lexed = later.lexed }
 
 -- the pair that these tokens are, after these pairs
 record Here (ps pairs : List Pair) (ts : List Lexeme) : Type 0 where

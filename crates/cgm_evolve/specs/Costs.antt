@@ -2,6 +2,8 @@
 use Rattle.std.specs.Prelude.{ℕ, Bool, true, false, ◌&&◌, not, List, [], ◌∷◌, Option, None, Some, count_by}
 use Rattle.std.specs.List.{slice_index_or}
 use Rattle.cgm_formula.specs.declared.assignment.Assignment.{Assignment}
+use Rattle.cgm_formula.specs.declared.formula.Truth.TheVariants.{Element}
+use Rattle.cgm_formula.specs.Reading.{name_in}
 use Rattle.cgm_model.specs.declared.lists.Lists.{Lists}
 use Rattle.cgm_model.specs.Named.{element_names}
 use Rattle.cgm_evolve.specs.Leaves.{is_leaf_task, leaf_tasks}
@@ -16,7 +18,7 @@ abbrev pub elements_of_interest : Lists → List ℕ
 elements_of_interest m = interests_or m.interests (leaf_tasks m)
 
 abbrev pub is_true : Assignment → ℕ → Bool
-is_true a element = slice_index_or a.elements element false
+is_true a element = name_in a (Element element)
 
 -- the truth that the element had, where its name is known
 abbrev pub earlier_truth : Lists → List Pair → ℕ → Option Bool

@@ -11,6 +11,9 @@ is_leaf m element = not (list_any (λ r. r.target == element) m.refinements)
 abbrev pub is_leaf_task : Lists → ℕ → Bool
 is_leaf_task m element = is_leaf m element && not (is_assumption (slice_get (map (λ e. e.kind) m.elements) element))
 
--- the leaf tasks, in order
+-- the elements, by number
+abbrev pub element_numbers : Lists → List ℕ
+element_numbers m = range_with_len 0 (length m.elements)
+
 abbrev pub leaf_tasks : Lists → List ℕ
-leaf_tasks m = filter (is_leaf_task m) (range_with_len 0 (length m.elements))
+leaf_tasks m = filter (is_leaf_task m) (element_numbers m)

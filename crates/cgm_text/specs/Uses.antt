@@ -51,7 +51,7 @@ abbrev mutual
   formulas_uses no_formulas after = after
   formulas_uses (more_formulas part parts) after = formula_uses part (formulas_uses parts after)
 
--- the name of a statement with this word and one name is used only where it doesn't declare it
+-- the name after such a word is declared or used
 abbrev pub named_uses : NameWord → List ℕ → List NameUse
 named_uses name_words.Task x = []
 named_uses name_words.Assume x = []

@@ -13,9 +13,9 @@ use crate::written::{
     WeightWord, Word, Written,
 };
 use cgm_model::{
-    Assertion, Edge, Element, ElementKind, Formula, Linear, ModelBuilder, Number, Objective,
-    Parts, Preference, Quantity, Refinement, Rule, Statement, Sum, SumValue, Thing, Truth,
-    Variable, Weighing,
+    Assertion, Edge, Element, ElementKind, Formula, Linear, ModelBuilder, Number, Objective, Parts,
+    Preference, Quantity, Refinement, Rule, Statement, Sum, SumValue, Thing, Truth, Variable,
+    Weighing,
 };
 use sqlite_items::Boxed;
 use std::alloc::{AllocError as OutOfMemory, Global};
@@ -253,13 +253,7 @@ fn named(
     }
 }
 
-fn pair(
-    builder: &ModelBuilder,
-    line: &[u8],
-    what: PairWord,
-    one: Word,
-    other: Word,
-) -> Statement
+fn pair(builder: &ModelBuilder, line: &[u8], what: PairWord, one: Word, other: Word) -> Statement
     ensures { result ≡ pair_of builder.now what (word_in line.now one) (word_in line.now other) }
 {
     match what {
@@ -386,7 +380,10 @@ pub(crate) fn statement(
             quantity: name,
         } => Ok(Statement::Objective(Objective {
             max: is_max(*direction),
-            of: quantity(built_in(bytes_in(line, *name)), number(builder, line, *name)),
+            of: quantity(
+                built_in(bytes_in(line, *name)),
+                number(builder, line, *name),
+            ),
         })),
     }
 }

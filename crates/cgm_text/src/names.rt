@@ -186,12 +186,7 @@ fn end_of(what: PairWord) -> Wanted
     }
 }
 
-fn named_fault(
-    builder: &ModelBuilder,
-    line: &[u8],
-    what: NameWord,
-    name: Word,
-) -> Option<BadKind>
+fn named_fault(builder: &ModelBuilder, line: &[u8], what: NameWord, name: Word) -> Option<BadKind>
     ensures { result ≡ first_fault builder.now (named_uses what (word_in line.now name)) }
 {
     match what {

@@ -1,5 +1,5 @@
 -- How large the quantities of a model can be.
-use Rattle.std.proofs.Common.{◌≡◌, ℕ, zero, suc, ◌+◌, ◌<◌, ◌≤◌, Bool, true, false, cond, List, [], ◌∷◌, ℤ, pos, neg_ℤ, ◌≤ℤ◌, length, get_or, map, All, count_by, ap, arith, subst, ⊎_elim}
+use Rattle.std.proofs.Common.{◌≡◌, ℕ, zero, suc, ◌+◌, ◌<◌, ◌≤◌, Bool, true, false, cond, not, List, [], ◌∷◌, ℤ, pos, neg_ℤ, ◌≤ℤ◌, length, get_or, All, ap, arith, subst, ⊎_elim}
 use Rattle.std.specs.Prelude.{unsigned_abs}
 use Rattle.std.proofs.lemmas.Bool.{cases_lt}
 use Rattle.std.proofs.lemmas.Int.{ints}
@@ -8,10 +8,9 @@ use Rattle.std.proofs.lemmas.List.Elements.{All-map}
 use Rattle.std.proofs.lemmas.List.Sums.{count_by-le-length}
 use Rattle.cgm_formula.specs.declared.assignment.Assignment.{Assignment}
 use Rattle.cgm_model.specs.declared.lists.Lists.{Lists}
-use Rattle.cgm_model.specs.declared.lists.Objective.{Objective}
+use Rattle.cgm_model.specs.declared.lists.Preference.{Preference}
 use Rattle.cgm_model.specs.declared.lists.Quantity.{Quantity}
 use Rattle.cgm_model.specs.declared.lists.Quantity.TheVariants as quantities
-use Rattle.cgm_model.specs.declared.lists.Variable.{Variable}
 use Rattle.cgm_model.specs.Assignment.{Fits, IsWithin}
 use Rattle.cgm_model.specs.Place.{EachFrom}
 use Rattle.cgm_model.specs.WellFormed.{IsVariable, IsWellFormed}
@@ -19,7 +18,7 @@ use Rattle.cgm_model.proofs.Sizes.{sums_size, weight_size}
 use Rattle.cgm_evolve.specs.Costs.{is_changed, is_new_work, is_true}
 use Rattle.cgm_evolve.specs.Pairs.{Pair}
 use Rattle.cgm_evolve.proofs.Counts.{elements_few, leaf_tasks_few, of_interest_few}
-use Rattle.cgm_obj.specs.Counts.{unsat_prefs, unsat_reqs, sat_tasks}
+use Rattle.cgm_obj.specs.Counts.{is_met, unsat_prefs, unsat_reqs, sat_tasks}
 use Rattle.cgm_obj.specs.Vector.{objective_number, quantity, vector_of}
 
 -- ---- variables
@@ -57,7 +56,7 @@ var_size m a k w fits =
 prefers_few : (m : Lists) → IsWellFormed m → (a : Assignment) → unsat_prefs m a ≤ 1000000
 prefers_few m w a =
     let few = w.limits.statements in
-    let most = count_by-le-length _ m.prefers in
+    let most = count_by-le-length (λ (p : Preference). not (is_met a p)) m.prefers in
     omega (arith, few, most)
 
 count_size : (n : ℕ) → n ≤ 1000000 → unsigned_abs (pos n) ≤ 1000000000000

@@ -1,7 +1,7 @@
 //! Atoms of elements and refinements, and clauses of them.
 ghost use Rattle.std.specs.Prelude.{◌≡◌, ◌++◌, ◌∷◌, [], map, OnOk};
 ghost use Rattle.cgm_enc_graph.specs.Adding.{CanTake, with_written};
-ghost use Rattle.cgm_enc_graph.specs.GraphClauses.{clause};
+ghost use Rattle.cgm_enc_graph.specs.GraphClauses.{clause, implication};
 ghost use Rattle.cgm_enc_graph.specs.Literals.{literal as literal_of, negated as negated_of};
 
 use cgm_atom::{Atom, Clause, OutOfMemory, ProblemBuilder, Seq, Var};
@@ -39,6 +39,19 @@ pub(crate) fn add(alloc: Global, b: &mut ProblemBuilder, atoms: &[Atom]) -> Resu
         atoms: Seq::of(atoms),
     })?;
     Ok(())
+}
+
+/// Adds the clause that the second is true where the first is.
+pub(crate) fn add_implication(
+    alloc: Global,
+    b: &mut ProblemBuilder,
+    first: u32,
+    second: u32,
+) -> Result<(), OutOfMemory>
+    requires { CanTake b.old (implication first second ∷ []) }
+    ensures { OnOk result (b.new ≡ with_written b.old (implication first second ∷ [])) }
+{
+    add(alloc, b, &[negated(first), literal(second)])
 }
 
 pub(crate) fn push_literals(atoms: &mut Vec<Atom>, variables: &[u32]) -> Result<(), OutOfMemory>

@@ -1,5 +1,5 @@
 //! The clauses of contributions, conflicts and bindings.
-ghost use Rattle.std.specs.Prelude.{◌≡◌, ◌<◌, length, map, flat_map, All, OnOk};
+ghost use Rattle.std.specs.Prelude.{◌≡◌, ◌<◌, ◌∷◌, [], length, map, flat_map, All, OnOk};
 ghost use Rattle.cgm_formula.specs.declared.formula.Truth.TheVariants as truth;
 ghost use Rattle.cgm_model.specs.Model.{lists_of};
 ghost use Rattle.cgm_model.specs.Statement.{IsEdgeOf};
@@ -7,7 +7,7 @@ ghost use Rattle.cgm_enc_graph.specs.Adding.{CanTake, with_written};
 ghost use Rattle.cgm_enc_graph.specs.GraphClauses.{bind_clauses, conflict_clause, contrib_clause, target_of as target_in};
 ghost use Rattle.cgm_enc_graph.specs.Literals.{variable_of};
 
-use crate::adding::{add, literal, negated};
+use crate::adding::{add, add_implication, literal, negated};
 use cgm_atom::{OutOfMemory, ProblemBuilder};
 use cgm_model::{Edge, Model};
 use std::alloc::Global;
@@ -22,7 +22,7 @@ pub(crate) fn add_contribs(
     ensures { OnOk result (b.new ≡ with_written b.old (map contrib_clause contribs.now)) }
 {
     for e in contribs {
-        add(alloc, b, &[negated(e.from), literal(e.to)])?;
+        add_implication(alloc, b, e.from, e.to)?;
     }
     Ok(())
 }
@@ -37,9 +37,16 @@ pub(crate) fn add_conflicts(
     ensures { OnOk result (b.new ≡ with_written b.old (map conflict_clause conflicts.now)) }
 {
     for e in conflicts {
-        add(alloc, b, &[negated(e.from), negated(e.to)])?;
+        add_conflict(alloc, b, e)?;
     }
     Ok(())
+}
+
+fn add_conflict(alloc: Global, b: &mut ProblemBuilder, e: &Edge) -> Result<(), OutOfMemory>
+    requires { CanTake b.old (conflict_clause e.now ∷ []) }
+    ensures { OnOk result (b.new ≡ with_written b.old (conflict_clause e.now ∷ [])) }
+{
+    add(alloc, b, &[negated(e.from), negated(e.to)])
 }
 
 /// Where both targets are true, both refinements are true or neither is.

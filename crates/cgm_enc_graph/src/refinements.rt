@@ -5,7 +5,7 @@ ghost use Rattle.cgm_enc_graph.specs.Adding.{CanTake, with_written};
 ghost use Rattle.cgm_enc_graph.specs.GraphClauses.{clause, element_clauses, implication, refinement_clauses};
 ghost use Rattle.cgm_enc_graph.specs.Literals.{literal as literal_of, negated as negated_of};
 
-use crate::adding::{add, literal, negated, push_literals, push_negated};
+use crate::adding::{add, add_implication, literal, negated, push_literals, push_negated};
 use cgm_atom::{OutOfMemory, ProblemBuilder};
 use cgm_formula::Parts;
 use cgm_model::Refinement;
@@ -37,9 +37,10 @@ fn add_refinement(
     requires { CanTake b.old (refinement_clauses (x, r.now)) }
     ensures { OnOk result (b.new ≡ with_written b.old (refinement_clauses (x, r.now))) }
 {
-    add_sources(alloc, b, x, r.sources.as_slice())?;
-    add_converse(alloc, b, x, r.sources.as_slice())?;
-    add(alloc, b, &[negated(x), literal(r.target)])
+    let sources = r.sources.as_slice();
+    add_sources(alloc, b, x, sources)?;
+    add_converse(alloc, b, x, sources)?;
+    add_implication(alloc, b, x, r.target)
 }
 
 /// Where the refinement is true, so is each source.
@@ -53,7 +54,7 @@ fn add_sources(
     ensures { OnOk result (b.new ≡ with_written b.old (map (implication x) sources.now)) }
 {
     for source in sources {
-        add(alloc, b, &[negated(x), literal(*source)])?;
+        add_implication(alloc, b, x, *source)?;
     }
     Ok(())
 }

@@ -1,2 +1,7 @@
 pub mod Additions
+pub mod ClauseTruths
+pub mod GraphTruths
+pub mod Groups
+pub mod KnownNames
+pub mod RuleTruths
 pub mod VariableLists

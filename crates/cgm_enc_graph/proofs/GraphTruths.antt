@@ -1,4 +1,4 @@
--- All clauses of a graph: what they mean, which variables they have and how many they are, group by group.
+-- All clauses of a graph and what they mean, group by group.
 use Rattle.std.proofs.Common.{◌≡◌, ℕ, ◌+◌, ◌*◌, ◌<◌, ◌≤◌, ◌↔◌, Bool, true, cond, IsTrue, List, [], ◌∷◌, ◌++◌, length, map, refl, sym, ap, ◌∙◌, subst, Decides, arith}
 use Rattle.std.specs.Prelude.{ℤ, pos, unsigned_abs}
 use Rattle.std.specs.List.{All, enumerate_from, flat_map, list_all}
@@ -81,24 +81,23 @@ module _ (m : Lists) (values : List ℤ) (a : Assignment) (known : HasKnownNames
       let binds : Mean values bs B = flattened_means (bind_clauses m) (IsEdgeOf (length m.refinements)) (KeepsBind m a) m.binds known.binds (λ k e is. bind_means m values a stand k e known.refinements is) in
       let musts : Mean values ms M = elements_means must_clauses (KeepsMust a) (must_means m values a stand) in
       let asserts : Mean values xs A = mapped_means assertion_clause (IsAssertion m) (KeepsAssertion a) m.asserts known.asserts (assertion_means m values a stand) in
-      let from_musts = Mean-append values ms xs M A musts asserts in
-      let from_binds = Mean-append values bs (ms ++ xs) B (M × A) binds from_musts in
-      let from_conflicts = Mean-append values fs (bs ++ (ms ++ xs)) F (B × (M × A)) conflicts from_binds in
-      let from_contribs = Mean-append values cs (fs ++ (bs ++ (ms ++ xs))) C (F × (B × (M × A))) contribs from_conflicts in
-      let from_elements = Mean-append values es (cs ++ (fs ++ (bs ++ (ms ++ xs)))) E (C × (F × (B × (M × A)))) elements from_contribs in
-      let from_refinements = Mean-append values rs (es ++ (cs ++ (fs ++ (bs ++ (ms ++ xs))))) R (E × (C × (F × (B × (M × A))))) refinements from_elements in
+      let first = Mean-append values rs es R E refinements elements in
+      let from_conflicts = Mean-append values fs bs F B conflicts binds in
+      let second = Mean-append values cs (fs ++ bs) C (F × B) contribs from_conflicts in
+      let third = Mean-append values ms xs M A musts asserts in
+      let from_second = Mean-append values (cs ++ (fs ++ bs)) (ms ++ xs) (C × (F × B)) (M × A) second third in
       Decides-like (list_all (clause_true values) (written_clauses m))
       (λ h. record {
-        refinements = h.0;
-        elements = h.1.0;
-        contribs = h.1.1.0;
-        conflicts = h.1.1.1.0;
-        binds = h.1.1.1.1.0;
-        musts = h.1.1.1.1.1.0;
-        asserts = h.1.1.1.1.1.1;
+        refinements = h.0.0;
+        elements = h.0.1;
+        contribs = h.1.0.0;
+        conflicts = h.1.0.1.0;
+        binds = h.1.0.1.1;
+        musts = h.1.1.0;
+        asserts = h.1.1.1;
       })
-      (λ h. (h.refinements, (h.elements, (h.contribs, (h.conflicts, (h.binds, (h.musts, h.asserts)))))))
-      from_refinements
+      (λ h. ((h.refinements, h.elements), ((h.contribs, (h.conflicts, h.binds)), (h.musts, h.asserts))))
+      (Mean-append values (rs ++ es) ((cs ++ (fs ++ bs)) ++ (ms ++ xs)) (R × E) ((C × (F × B)) × (M × A)) first from_second)
 
 -- each clause is true exactly where the graph is kept
 pub graph_means : (m : Lists) (values : List ℤ) (a : Assignment) → ∥ IsWellFormed m ∥₁ → StandFor m values a → All (λ c. IsTrue (clause_true values c)) (graph_clauses m) ↔ KeepsGraph m a

@@ -1,5 +1,6 @@
 pub mod Additions
 pub mod ClauseTruths
+pub mod GraphSizes
 pub mod GraphTruths
 pub mod Groups
 pub mod KnownNames

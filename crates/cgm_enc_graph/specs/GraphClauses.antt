@@ -74,16 +74,23 @@ must_clauses e = if e.1.must then clause (literal e.0 ∷ []) ∷ [] else []
 abbrev pub assertion_clause : Assertion → Clause
 assertion_clause a = clause (cond a.truth (literal a.element) (negated a.element) ∷ [])
 
--- all of them, as they are written
-abbrev pub written_clauses : Lists → List Clause
-written_clauses m =
+-- refinements and the elements that they refine
+abbrev pub refinement_group : Lists → List Clause
+refinement_group m =
     flat_map refinement_clauses (numbered_refinements m)
-    ++ (flat_map (λ e. element_clauses e.0 (variables_for (numbered_refinements m) e.0)) (numbered_elements m)
-    ++ (map contrib_clause m.contribs
-    ++ (map conflict_clause m.conflicts
-    ++ (flat_map (bind_clauses m) m.binds
-    ++ (flat_map must_clauses (numbered_elements m)
-    ++ map assertion_clause m.asserts)))))
+    ++ flat_map (λ e. element_clauses e.0 (variables_for (numbered_refinements m) e.0)) (numbered_elements m)
+
+-- contributions, conflicts and bindings
+abbrev pub edge_group : Lists → List Clause
+edge_group m = map contrib_clause m.contribs ++ (map conflict_clause m.conflicts ++ flat_map (bind_clauses m) m.binds)
+
+-- goals with `must` and assertions
+abbrev pub fact_group : Lists → List Clause
+fact_group m = flat_map must_clauses (numbered_elements m) ++ map assertion_clause m.asserts
+
+-- all of them in order, as they are written
+abbrev pub written_clauses : Lists → List Clause
+written_clauses m = refinement_group m ++ (edge_group m ++ fact_group m)
 
 -- a later equal atom of a clause is dropped
 unfoldable pub graph_clauses : Lists → List Clause

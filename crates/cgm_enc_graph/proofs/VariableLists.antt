@@ -1,10 +1,13 @@
 -- The variables of the refinements of each element, as far as a loop over the refinements has come.
-use Rattle.std.proofs.Common.{◌≡◌, ◌≢◌, ℕ, ◌+◌, ◌==◌, ◌<◌, ◌≤◌, ◌⊎◌, Bool, true, false, cond, List, [], ◌∷◌, ◌++◌, length, get_or, set, map, drop, refl, sym, ap, ◌∙◌, subst, arith, ⊎_elim}
-use Rattle.std.specs.List.{enumerate_from, filter}
+use Rattle.std.proofs.Common.{◌≡◌, ◌≢◌, ℕ, suc, ◌+◌, ◌==◌, ◌<◌, ◌≤◌, ◌⊎◌, Bool, true, false, cond, List, [], ◌∷◌, ◌++◌, length, get_or, set, map, drop, refl, sym, ap, ◌∙◌, subst, arith, ⊎_elim}
+use Rattle.std.specs.List.{enumerate_from, filter, flat_map}
 use Rattle.std.proofs.lemmas.Bool.{cases_eq, eq-eqb, ne_eqb}
 use Rattle.std.proofs.lemmas.List.{append-nil, append_assoc, drop_all, drop_more, get_or-set_other, get_or-set_same, length-set}
+use Rattle.cgm_atom.specs.declared.constraints.Clause.{Clause}
+use Rattle.cgm_model.specs.declared.lists.Element.{Element}
+use Rattle.cgm_model.specs.declared.lists.Lists.{Lists}
 use Rattle.cgm_model.specs.declared.lists.Refinement.{Refinement}
-use Rattle.cgm_enc_graph.specs.GraphClauses.{variables_for}
+use Rattle.cgm_enc_graph.specs.GraphClauses.{element_clauses, numbered_elements, numbered_refinements, variables_for}
 
 -- for each element what it has, with what the refinements from place i on give it, is all
 pub record AreSoFar (count first : ℕ) (refinements : List Refinement) (lists : List (List ℕ)) (i : ℕ) : Type 0 where
@@ -72,3 +75,30 @@ all_so_far count first refinements lists i past far e within =
     sym (append-nil (get_or lists e []))
     ∙ ap (λ (rs : List Refinement). get_or lists e [] ++ variables_for (enumerate_from (first + i) rs) e) (sym (drop_all i refinements past))
     ∙ far.left e within
+
+-- ---- the clauses of elements by their lists
+
+pub listed_elements : (first : ℕ) (lists : List (List ℕ)) (elements : List Element) (own : ℕ → List ℕ) → length lists ≡ length elements → ((e : ℕ) → e < length lists → get_or lists e [] ≡ own (first + e)) → flat_map (λ (e : ℕ × List ℕ). element_clauses e.0 e.1) (enumerate_from first lists) ≡ flat_map (λ (e : ℕ × Element). element_clauses e.0 (own e.0)) (enumerate_from first elements)
+listed_elements first [] [] own same h = refl
+listed_elements first [] (y ∷ elements) own same h = absurd (omega arith)
+listed_elements first (xs ∷ lists) [] own same h = absurd (omega arith)
+listed_elements first (xs ∷ lists) (y ∷ elements) own same h =
+    let here : first + 0 ≡ first = omega arith in
+    let is : xs ≡ own first = h 0 (omega arith) ∙ ap own here in
+    let rest = listed_elements (first + 1) lists elements own (omega arith)
+        (λ e within. let there : first + suc e ≡ first + 1 + e = omega arith in h (suc e) (omega arith) ∙ ap own there) in
+    ap (λ (ys : List ℕ). element_clauses first ys ++ flat_map (λ (e : ℕ × List ℕ). element_clauses e.0 e.1) (enumerate_from (first + 1) lists)) is
+    ∙ ap (λ (clauses : List Clause). element_clauses first (own first) ++ clauses) rest
+
+-- the lists that one pass made are those of the model
+pub listed_model : (m : Lists) (lists : List (List ℕ)) (elements : List Element) (refinements : List Refinement) → elements ≡ m.elements → refinements ≡ m.refinements → length lists ≡ length elements → ((e : ℕ) → e < length elements → get_or lists e [] ≡ variables_for (enumerate_from (length elements) refinements) e) → flat_map (λ (e : ℕ × List ℕ). element_clauses e.0 e.1) (enumerate_from 0 lists) ≡ flat_map (λ (e : ℕ × Element). element_clauses e.0 (variables_for (numbered_refinements m) e.0)) (numbered_elements m)
+listed_model m lists elements refinements same_elements same_refinements count h =
+    let all : length elements ≡ length m.elements = ap (λ (xs : List Element). length xs) same_elements in
+    let numbered : enumerate_from (length elements) refinements ≡ numbered_refinements m =
+    ap (λ (first : ℕ). enumerate_from first refinements) all ∙ ap (λ (rs : List Refinement). enumerate_from (length m.elements) rs) same_refinements in
+    listed_elements 0 lists m.elements (variables_for (numbered_refinements m)) (omega arith)
+    (λ e within.
+    let start : 0 + e ≡ e = omega arith in
+    h e (omega arith)
+    ∙ ap (λ (rs : List (ℕ × Refinement)). variables_for rs e) numbered
+    ∙ ap (λ (k : ℕ). variables_for (numbered_refinements m) k) (sym start))

@@ -2,8 +2,8 @@
 ghost use Rattle.std.specs.Prelude.{◌≡◌, ◌≤◌, ◌^◌, length, OnOk};
 ghost use Rattle.cgm_atom.specs.Instance.{var_count};
 ghost use Rattle.cgm_model.specs.Model.{lists_of};
-ghost use Rattle.cgm_enc_graph.specs.Adding.{with_clauses};
-ghost use Rattle.cgm_enc_graph.specs.GraphClauses.{graph_clauses};
+ghost use Rattle.cgm_enc_graph.specs.Adding.{CanTake, with_clauses, with_written};
+ghost use Rattle.cgm_enc_graph.specs.GraphClauses.{edge_group, fact_group, graph_clauses, refinement_group};
 ghost use Rattle.cgm_enc_graph.specs.Literals.{truth_variables};
 
 use crate::edges::{add_binds, add_conflicts, add_contribs};
@@ -33,15 +33,43 @@ pub fn add_graph(alloc: Global, m: &Model, b: &mut ProblemBuilder) -> Result<(),
     requires room { length b.old.clauses ≤ 2 ^ 31 }
     ensures { OnOk result (b.new ≡ with_clauses b.old (graph_clauses (lists_of m.now))) }
 {
-    let elements = m.elements.as_slice();
+    add_refinement_group(alloc, b, m)?;
+    add_edge_group(alloc, b, m)?;
+    add_fact_group(alloc, b, m)
+}
+
+/// The clauses of refinements and of refined elements.
+fn add_refinement_group(
+    alloc: Global,
+    b: &mut ProblemBuilder,
+    m: &Model,
+) -> Result<(), OutOfMemory>
+    requires { CanTake b.old (refinement_group (lists_of m.now)) }
+    ensures { OnOk result (b.new ≡ with_written b.old (refinement_group (lists_of m.now))) }
+{
     let refinements = m.refinements.as_slice();
-    let first = elements.len() as u32;
+    let count = m.elements.as_slice().len();
+    let first = count as u32;
     add_refinements(alloc, b, first, refinements)?;
-    let lists = by_target(alloc, elements.len(), first, refinements)?;
-    add_elements(alloc, b, lists.as_slice())?;
+    let lists = by_target(alloc, count, first, refinements)?;
+    add_elements(alloc, b, lists.as_slice())
+}
+
+/// The clauses of contributions, conflicts and bindings.
+fn add_edge_group(alloc: Global, b: &mut ProblemBuilder, m: &Model) -> Result<(), OutOfMemory>
+    requires { CanTake b.old (edge_group (lists_of m.now)) }
+    ensures { OnOk result (b.new ≡ with_written b.old (edge_group (lists_of m.now))) }
+{
     add_contribs(alloc, b, m.contribs.as_slice())?;
     add_conflicts(alloc, b, m.conflicts.as_slice())?;
-    add_binds(alloc, b, m, m.binds.as_slice())?;
-    add_musts(alloc, b, elements)?;
+    add_binds(alloc, b, m, m.binds.as_slice())
+}
+
+/// The clauses of goals with `must` and of assertions.
+fn add_fact_group(alloc: Global, b: &mut ProblemBuilder, m: &Model) -> Result<(), OutOfMemory>
+    requires { CanTake b.old (fact_group (lists_of m.now)) }
+    ensures { OnOk result (b.new ≡ with_written b.old (fact_group (lists_of m.now))) }
+{
+    add_musts(alloc, b, m.elements.as_slice())?;
     add_asserts(alloc, b, m.asserts.as_slice())
 }

@@ -1,6 +1,6 @@
 -- What a clause of literals says of values, as a truth value.
-use Rattle.std.proofs.Common.{◌≡◌, ℕ, zero, suc, ◌<◌, ◌==◌, Bool, true, false, not, ◌&&◌, ◌||◌, List, [], ◌∷◌, ◌++◌, map, refl, sym, ap, ◌∙◌, cond, arith}
-use Rattle.std.specs.Prelude.{ℤ, pos, negsuc, int_le, if◌then◌else◌}
+use Rattle.std.proofs.Common.{◌≡◌, ℕ, ◌==◌, Bool, true, false, not, ◌&&◌, ◌||◌, List, [], ◌∷◌, ◌++◌, map, refl, sym, ap, ◌∙◌, cond, arith}
+use Rattle.std.specs.Prelude.{ℤ, pos, int_le, if◌then◌else◌}
 use Rattle.std.specs.Bool.{beq}
 use Rattle.std.specs.List.{list_all, list_any}
 use Rattle.std.specs.Ordering.{int_eq}
@@ -13,7 +13,7 @@ use Rattle.cgm_atom.specs.Atoms.{atom_true, clause_true}
 use Rattle.cgm_atom.specs.Bounds.{value_of}
 use Rattle.cgm_atom.specs.Building.{first_atoms, is_same_atom, without_repeats}
 use Rattle.cgm_enc_graph.specs.Assignments.{truth_at}
-use Rattle.cgm_enc_graph.specs.GraphClauses.{clause, implication}
+use Rattle.cgm_enc_graph.specs.GraphClauses.{implication}
 use Rattle.cgm_enc_graph.specs.Literals.{literal, negated}
 
 -- ---- literals
@@ -78,17 +78,17 @@ was_true : (values : List ℤ) (a : Atom) (before : List Atom) → list_any (is_
 was_true values a [] h is = absurd (cc)
 was_true values a (b ∷ before) h is = was_true_by values a b before (is_same_atom a b) refl h is (was_true values a before)
   where
-  was_true_by : (values : List ℤ) (a b : Atom) (before : List Atom) (t : Bool) → is_same_atom a b ≡ t → (t || list_any (is_same_atom a) before) ≡ true → atom_true values a ≡ true → (list_any (is_same_atom a) before ≡ true → atom_true values a ≡ true → list_any (atom_true values) before ≡ true) → (atom_true values b || list_any (atom_true values) before) ≡ true
-  was_true_by values a b before true e h is rest = any_of_true (atom_true values b) (list_any (atom_true values) before) (sym (same_atom values a b e) ∙ is)
-  was_true_by values a b before false e h is rest = or_later (atom_true values b) (list_any (atom_true values) before) (rest h is)
+    was_true_by : (values : List ℤ) (a b : Atom) (before : List Atom) (t : Bool) → is_same_atom a b ≡ t → (t || list_any (is_same_atom a) before) ≡ true → atom_true values a ≡ true → (list_any (is_same_atom a) before ≡ true → atom_true values a ≡ true → list_any (atom_true values) before ≡ true) → (atom_true values b || list_any (atom_true values) before) ≡ true
+    was_true_by values a b before true e h is rest = any_of_true (atom_true values b) (list_any (atom_true values) before) (sym (same_atom values a b e) ∙ is)
+    was_true_by values a b before false e h is rest = or_later (atom_true values b) (list_any (atom_true values) before) (rest h is)
 
 any_push : (f : Atom → Bool) (xs : List Atom) (a : Atom) → list_any f (xs ++ a ∷ []) ≡ (list_any f xs || f a)
 any_push f [] a = or_false (f a)
 any_push f (x ∷ xs) a = ap (λ (t : Bool). f x || t) (any_push f xs a) ∙ or_grouped (f x) (list_any f xs) (f a)
   where
-  or_grouped : (s t u : Bool) → (s || (t || u)) ≡ ((s || t) || u)
-  or_grouped true t u = refl
-  or_grouped false t u = refl
+    or_grouped : (s t u : Bool) → (s || (t || u)) ≡ ((s || t) || u)
+    or_grouped true t u = refl
+    or_grouped false t u = refl
 
 -- an atom that is kept
 keep : (before a some all : Bool) → ((before || a) || some) ≡ ((before || a) || all) → (before || (a || some)) ≡ (before || (a || all))
@@ -112,11 +112,11 @@ first_atoms-any values before (a ∷ atoms) =
     ∙ ap (λ (t : Bool). t || list_any f atoms) (any_push f before a) in
     one_atom values a before kept atoms (list_any (is_same_atom a) before) refl later
   where
-  one_atom : (values : List ℤ) (a : Atom) (before kept atoms : List Atom) (t : Bool) → list_any (is_same_atom a) before ≡ t → ((list_any (atom_true values) before || atom_true values a) || list_any (atom_true values) kept) ≡ ((list_any (atom_true values) before || atom_true values a) || list_any (atom_true values) atoms) → (list_any (atom_true values) before || list_any (atom_true values) (if t then kept else a ∷ kept)) ≡ (list_any (atom_true values) before || (atom_true values a || list_any (atom_true values) atoms))
-  one_atom values a before kept atoms true e later =
-      skip (list_any (atom_true values) before) (atom_true values a) (list_any (atom_true values) kept) (list_any (atom_true values) atoms) (was_true values a before e) later
-  one_atom values a before kept atoms false e later =
-      keep (list_any (atom_true values) before) (atom_true values a) (list_any (atom_true values) kept) (list_any (atom_true values) atoms) later
+    one_atom : (values : List ℤ) (a : Atom) (before kept atoms : List Atom) (t : Bool) → list_any (is_same_atom a) before ≡ t → ((list_any (atom_true values) before || atom_true values a) || list_any (atom_true values) kept) ≡ ((list_any (atom_true values) before || atom_true values a) || list_any (atom_true values) atoms) → (list_any (atom_true values) before || list_any (atom_true values) (if t then kept else a ∷ kept)) ≡ (list_any (atom_true values) before || (atom_true values a || list_any (atom_true values) atoms))
+    one_atom values a before kept atoms true e later =
+        skip (list_any (atom_true values) before) (atom_true values a) (list_any (atom_true values) kept) (list_any (atom_true values) atoms) (was_true values a before e) later
+    one_atom values a before kept atoms false e later =
+        keep (list_any (atom_true values) before) (atom_true values a) (list_any (atom_true values) kept) (list_any (atom_true values) atoms) later
 
 pub repeats-true : (values : List ℤ) (c : Clause) → clause_true values (without_repeats c) ≡ clause_true values c
 repeats-true values c = first_atoms-any values [] c.atoms

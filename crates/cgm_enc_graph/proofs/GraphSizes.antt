@@ -1,6 +1,5 @@
 -- All clauses of a graph: which variables they have, and how many they are.
-use Rattle.std.proofs.Common.{◌≡◌, ℕ, ◌+◌, ◌-◌, ◌*◌, ◌^◌, ◌<◌, ◌≤◌, ◌==◌, Bool, true, false, cond, List, [], ◌∷◌, ◌++◌, length, get_or, map, refl, sym, ap, ◌∙◌, subst, arith}
-use Rattle.std.specs.Prelude.{ℤ, pos, unsigned_abs}
+use Rattle.std.proofs.Common.{◌≡◌, ℕ, ◌+◌, ◌*◌, ◌^◌, ◌<◌, ◌≤◌, ◌==◌, Bool, true, false, cond, List, [], ◌∷◌, ◌++◌, length, get_or, map, refl, sym, subst, arith}
 use Rattle.std.specs.List.{All, enumerate_from, filter, flat_map}
 use Rattle.std.proofs.lemmas.List.{length-append, length-map}
 use Rattle.std.proofs.lemmas.List.Elements.{All-append, All-cons, All-filter, All-map, All-nil, All-weaker}
@@ -13,7 +12,6 @@ use Rattle.cgm_atom.specs.Limits.{IsAtomOf, IsClauseOf}
 use Rattle.cgm_atom.proofs.Fresh.{All-first_atoms}
 use Rattle.cgm_base.specs.declared.limit.Which.TheVariants as limits
 use Rattle.cgm_base.specs.Words.{limit_number}
-use Rattle.cgm_model.specs.declared.lists.Assertion.{Assertion}
 use Rattle.cgm_model.specs.declared.lists.Edge.{Edge}
 use Rattle.cgm_model.specs.declared.lists.Element.{Element}
 use Rattle.cgm_model.specs.declared.lists.Lists.{Lists}
@@ -25,7 +23,7 @@ use Rattle.cgm_enc_graph.specs.Adding.{CanTake}
 use Rattle.cgm_enc_graph.specs.GraphClauses.{assertion_clause, bind_clauses, clause, conflict_clause, contrib_clause, edge_group, element_clauses, fact_group, graph_clauses, implication, must_clauses, numbered_elements, numbered_refinements, refinement_clauses, refinement_group, target_of, variables_for, written_clauses}
 use Rattle.cgm_enc_graph.specs.Laws.{max_graph_clauses}
 use Rattle.cgm_enc_graph.specs.Literals.{literal, negated, truth_variables}
-use Rattle.cgm_enc_graph.proofs.Additions.{all_at, all_of, flattened, flattened-steps, mapped, mapped-steps, numbered, numbered-all, numbered-steps, one_of}
+use Rattle.cgm_enc_graph.proofs.Additions.{all_at, all_of, flattened, flattened-steps, numbered, numbered-all, numbered-steps}
 use Rattle.cgm_enc_graph.proofs.Groups.{each_from, whole_all, whole_few}
 use Rattle.cgm_enc_graph.proofs.KnownNames.{HasKnownNames, known_names}
 
@@ -157,24 +155,24 @@ module _ (m : Lists) (known : HasKnownNames m) where
       (λ e is. (let from = is.0 in let to = is.1 in of_two count (negated e.from) (negated e.to) (negated_known count e.from (omega arith)) (negated_known count e.to (omega arith)))) m.conflicts known.conflicts))
       (flattened_all (IsClauseOf count) (bind_clauses m) (IsEdgeOf (length m.refinements)) m.binds known.binds (λ e is. bind_known e is)))
     where
-    bind_known : (e : Edge) → IsEdgeOf (length m.refinements) e → All (IsClauseOf (truth_variables m)) (bind_clauses m e)
-    bind_known e is =
-        let count = truth_variables m in
-        let from = is.0 in
-        let to = is.1 in
-        let one = target_below m e.from known from in
-        let other = target_below m e.to known to in
-        let e1 = target_of m e.from in
-        let e2 = target_of m e.to in
-        let r1 = length m.elements + e.from in
-        let r2 = length m.elements + e.to in
-        let h : e1 < count = omega arith in
-        let k : e2 < count = omega arith in
-        let p : r1 < count = omega arith in
-        let q : r2 < count = omega arith in
-        two_clauses count (clause (negated e1 ∷ negated e2 ∷ negated r1 ∷ literal r2 ∷ [])) (clause (negated e1 ∷ negated e2 ∷ literal r1 ∷ negated r2 ∷ []))
-        (of_four count (negated e1) (negated e2) (negated r1) (literal r2) (negated_known count e1 h) (negated_known count e2 k) (negated_known count r1 p) (literal_known count r2 q))
-        (of_four count (negated e1) (negated e2) (literal r1) (negated r2) (negated_known count e1 h) (negated_known count e2 k) (literal_known count r1 p) (negated_known count r2 q))
+      bind_known : (e : Edge) → IsEdgeOf (length m.refinements) e → All (IsClauseOf (truth_variables m)) (bind_clauses m e)
+      bind_known e is =
+          let count = truth_variables m in
+          let from = is.0 in
+          let to = is.1 in
+          let one = target_below m e.from known from in
+          let other = target_below m e.to known to in
+          let e1 = target_of m e.from in
+          let e2 = target_of m e.to in
+          let r1 = length m.elements + e.from in
+          let r2 = length m.elements + e.to in
+          let h : e1 < count = omega arith in
+          let k : e2 < count = omega arith in
+          let p : r1 < count = omega arith in
+          let q : r2 < count = omega arith in
+          two_clauses count (clause (negated e1 ∷ negated e2 ∷ negated r1 ∷ literal r2 ∷ [])) (clause (negated e1 ∷ negated e2 ∷ literal r1 ∷ negated r2 ∷ []))
+          (of_four count (negated e1) (negated e2) (negated r1) (literal r2) (negated_known count e1 h) (negated_known count e2 k) (negated_known count r1 p) (literal_known count r2 q))
+          (of_four count (negated e1) (negated e2) (literal r1) (negated r2) (negated_known count e1 h) (negated_known count e2 k) (literal_known count r1 p) (negated_known count r2 q))
 
   facts_are_known : All (IsClauseOf (truth_variables m)) (fact_group m)
   facts_are_known =

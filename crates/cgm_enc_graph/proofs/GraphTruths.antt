@@ -1,24 +1,16 @@
 -- All clauses of a graph and what they mean, group by group.
-use Rattle.std.proofs.Common.{◌≡◌, ℕ, ◌+◌, ◌*◌, ◌<◌, ◌≤◌, ◌↔◌, Bool, true, cond, IsTrue, List, [], ◌∷◌, ◌++◌, length, map, refl, sym, ap, ◌∙◌, subst, Decides, arith}
-use Rattle.std.specs.Prelude.{ℤ, pos, unsigned_abs}
+use Rattle.std.proofs.Common.{◌≡◌, ℕ, ◌+◌, ◌<◌, ◌↔◌, IsTrue, List, [], ◌∷◌, ◌++◌, length, map, refl, sym, ◌∙◌, subst, arith}
+use Rattle.std.specs.Prelude.{ℤ}
 use Rattle.std.specs.List.{All, enumerate_from, flat_map, list_all}
-use Rattle.std.proofs.lemmas.Bool.Decides.{Decides-at, Decides-like}
-use Rattle.std.proofs.lemmas.List.{length-append, length-map}
-use Rattle.std.proofs.lemmas.List.Elements.{All-append, All-cons, All-map, All-nil}
+use Rattle.std.proofs.lemmas.Bool.Decides.{Decides-like}
 use Rattle.std.proofs.lemmas.List.Sums.{AllPass-from_list_all, list_all-from_AllPass}
 use Rattle.cgm_atom.specs.declared.constraints.Clause.{Clause}
 use Rattle.cgm_atom.specs.Atoms.{clause_true}
-use Rattle.cgm_atom.specs.Building.{without_repeats}
-use Rattle.cgm_atom.specs.Limits.{IsAtomOf, IsClauseOf}
-use Rattle.cgm_atom.proofs.Fresh.{All-first_atoms}
 use Rattle.cgm_formula.specs.declared.assignment.Assignment.{Assignment}
-use Rattle.cgm_model.specs.declared.lists.Assertion.{Assertion}
-use Rattle.cgm_model.specs.declared.lists.Edge.{Edge}
 use Rattle.cgm_model.specs.declared.lists.Element.{Element}
 use Rattle.cgm_model.specs.declared.lists.Lists.{Lists}
-use Rattle.cgm_model.specs.declared.lists.Refinement.{Refinement}
 use Rattle.cgm_model.specs.Graph.{IsKnown}
-use Rattle.cgm_model.specs.Place.{Each, EachFrom}
+use Rattle.cgm_model.specs.Place.{Each}
 use Rattle.cgm_model.specs.Realization.{IsRealization, KeepsAssertion, KeepsBind, KeepsConflict, KeepsContrib, KeepsElement, KeepsMust, KeepsRefinement, KeepsRule}
 use Rattle.cgm_model.specs.Statement.{IsEdgeOf}
 use Rattle.cgm_model.specs.WellFormed.{IsAssertion, IsWellFormed}
@@ -26,7 +18,7 @@ use Rattle.cgm_enc_graph.specs.Assignments.{KeepsGraph, StandFor}
 use Rattle.cgm_enc_graph.specs.GraphClauses.{assertion_clause, bind_clauses, conflict_clause, contrib_clause, element_clauses, graph_clauses, must_clauses, numbered_elements, numbered_refinements, refinement_clauses, variables_for, written_clauses}
 use Rattle.cgm_enc_graph.proofs.Additions.{all_at, all_of, flattened, flattened-steps, mapped, mapped-steps, numbered, numbered-all, numbered-steps, one_of}
 use Rattle.cgm_enc_graph.proofs.ClauseTruths.{all_repeats-true}
-use Rattle.cgm_enc_graph.proofs.Groups.{Mean, Mean-append, each_from, whole_all, whole_few, whole_means}
+use Rattle.cgm_enc_graph.proofs.Groups.{Mean, Mean-append, each_from, whole_means}
 use Rattle.cgm_enc_graph.proofs.KnownNames.{HasKnownNames, known_names}
 use Rattle.cgm_enc_graph.proofs.RuleTruths.{assertion_means, bind_means, conflict_means, contrib_means, element_means, must_means, refinement_means}
 
@@ -104,8 +96,7 @@ pub graph_means : (m : Lists) (values : List ℤ) (a : Assignment) → ∥ IsWel
 unfolding graph_clauses
 graph_means m values a well stand =
     let means = written_mean m values a (known_names m well) stand in
-    let same = all_repeats-true values (written_clauses m) in
-    (
+    let same = all_repeats-true values (written_clauses m) in (
       λ h. means.0 (sym same ∙ list_all-from_AllPass (clause_true values) (graph_clauses m) h),
       λ keeps. AllPass-from_list_all (clause_true values) (graph_clauses m) (same ∙ means.1 keeps),
     )

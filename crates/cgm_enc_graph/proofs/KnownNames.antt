@@ -1,5 +1,5 @@
 -- What a well-formed model says of the names in its graph, and of how many statements it has.
-use Rattle.std.proofs.Common.{◌≡◌, ℕ, ◌+◌, ◌<◌, ◌≤◌, List, length, get_or, map, Some, All, ◌∙◌, arith}
+use Rattle.std.proofs.Common.{◌≤◌, length, get_or, map, All, arith}
 use Rattle.std.proofs.Math.Logic.{∥∥₁_elim}
 use Rattle.std.proofs.Props.{props}
 use Rattle.std.proofs.lemmas.List.{length-map}

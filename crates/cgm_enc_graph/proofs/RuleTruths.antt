@@ -1,6 +1,6 @@
 -- What the clauses of one refinement, element, edge, goal or assertion mean, for an assignment that the values stand for.
 use Rattle.std.proofs.Common.{◌≡◌, ℕ, zero, suc, ◌+◌, ◌<◌, ◌≤◌, ◌==◌, ◌↔◌, ◌⊎◌, Bool, true, false, cond, not, ◌&&◌, ◌||◌, IsTrue, List, [], ◌∷◌, ◌++◌, None, Some, length, get_or, map, slice_get, refl, sym, ap, ◌∙◌, subst, inl, inr, ⊎_elim, Decides, arith}
-use Rattle.std.specs.Prelude.{ℤ, slice_index, slice_index_or}
+use Rattle.std.specs.Prelude.{ℤ, slice_index_or}
 use Rattle.std.specs.List.{All, enumerate_from, filter, list_all, list_any}
 use Rattle.std.proofs.lemmas.Bool.{false≢true, eqb-true, eq-eqb, or_cases, or_left, or_right}
 use Rattle.std.proofs.lemmas.Bool.Decides.{Decides-and, Decides-at, Decides-like, Decides-not}
@@ -10,7 +10,6 @@ use Rattle.std.proofs.lemmas.Option.{none-some, same_Some, slice_get_cases, slic
 use Rattle.cgm_atom.specs.declared.constraints.Clause.{Clause}
 use Rattle.cgm_atom.specs.Atoms.{atom_true, clause_true}
 use Rattle.cgm_formula.specs.declared.assignment.Assignment.{Assignment}
-use Rattle.cgm_formula.specs.declared.formula.Truth.TheVariants as truth
 use Rattle.cgm_model.specs.declared.lists.Assertion.{Assertion}
 use Rattle.cgm_model.specs.declared.lists.Edge.{Edge}
 use Rattle.cgm_model.specs.declared.lists.Element.{Element}
@@ -22,7 +21,7 @@ use Rattle.cgm_model.specs.Realization.{KeepsAssertion, KeepsBind, KeepsConflict
 use Rattle.cgm_model.specs.Statement.{IsEdgeOf}
 use Rattle.cgm_enc_graph.specs.Assignments.{StandFor, truth_at}
 use Rattle.cgm_enc_graph.specs.GraphClauses.{assertion_clause, bind_clauses, clause, conflict_clause, contrib_clause, element_clauses, implication, must_clauses, numbered_refinements, refinement_clauses, target_of, variables_for}
-use Rattle.cgm_enc_graph.specs.Literals.{literal, negated, variable_of}
+use Rattle.cgm_enc_graph.specs.Literals.{literal, negated}
 use Rattle.cgm_enc_graph.proofs.ClauseTruths.{implication-true, literals-any, negated-any, negated-true}
 use Rattle.cgm_enc_graph.proofs.Groups.{Mean, Mean-append}
 
@@ -213,17 +212,17 @@ module _ (m : Lists) (values : List ℤ) (a : Assignment) (stand : StandFor m va
   target_truth : (k : ℕ) → All (IsKnown (length m.elements)) m.refinements → k < length m.refinements → Decides (truth_at values (target_of m k)) (TargetIsTrue m a k)
   target_truth k known within = by_place (slice_get_cases m.refinements k).1
     where
-    by_place : ((r : Refinement) × (k < length m.refinements) × (slice_get m.refinements k ≡ Some r) × (get_or m.refinements k r ≡ r)) ⊎ ((length m.refinements ≤ k) × (slice_get m.refinements k ≡ None)) → Decides (truth_at values (target_of m k)) (TargetIsTrue m a k)
-    by_place (inl there) =
-        let r = there.0 in
-        let is : IsKnown (length m.elements) r = subst (λ (q : Refinement). IsKnown (length m.elements) q) there.3 (known k r within) in
-        let target : target_of m k ≡ r.target = get_or-map (λ (q : Refinement). q.target) m.refinements k r 0 within ∙ ap (λ (q : Refinement). q.target) there.3 in
-        Decides-at (truth_at values (target_of m k)) (truth_at values r.target) (ap (λ (x : ℕ). truth_at values x) target)
-        (Decides-like (truth_at values r.target)
-        (λ h. (r, there.2, h))
-        (λ w. subst (λ (q : Refinement). ElementIsTrue a q.target) (same_Some w.0 r (sym w.1 ∙ there.2)) w.2)
-        (element_truth r.target is.target))
-    by_place (inr past) = absurd (let beyond = past.0 in omega arith)
+      by_place : ((r : Refinement) × (k < length m.refinements) × (slice_get m.refinements k ≡ Some r) × (get_or m.refinements k r ≡ r)) ⊎ ((length m.refinements ≤ k) × (slice_get m.refinements k ≡ None)) → Decides (truth_at values (target_of m k)) (TargetIsTrue m a k)
+      by_place (inl there) =
+          let r = there.0 in
+          let is : IsKnown (length m.elements) r = subst (λ (q : Refinement). IsKnown (length m.elements) q) there.3 (known k r within) in
+          let target : target_of m k ≡ r.target = get_or-map (λ (q : Refinement). q.target) m.refinements k r 0 within ∙ ap (λ (q : Refinement). q.target) there.3 in
+          Decides-at (truth_at values (target_of m k)) (truth_at values r.target) (ap (λ (x : ℕ). truth_at values x) target)
+          (Decides-like (truth_at values r.target)
+          (λ h. (r, there.2, h))
+          (λ w. subst (λ (q : Refinement). ElementIsTrue a q.target) (same_Some w.0 r (sym w.1 ∙ there.2)) w.2)
+          (element_truth r.target is.target))
+      by_place (inr past) = absurd (let beyond = past.0 in omega arith)
 
   four : (e1 e2 r1 r2 : ℕ) → (atom_true values (negated e1) || (atom_true values (negated e2) || (atom_true values (negated r1) || (truth_at values r2 || false)))) ≡ (not (truth_at values e1) || (not (truth_at values e2) || (not (truth_at values r1) || truth_at values r2)))
   four e1 e2 r1 r2 =

@@ -1,5 +1,5 @@
 -- The variables of the refinements of each element, as far as a loop over the refinements has come.
-use Rattle.std.proofs.Common.{◌≡◌, ◌≢◌, ℕ, suc, ◌+◌, ◌==◌, ◌<◌, ◌≤◌, ◌⊎◌, Bool, true, false, cond, List, [], ◌∷◌, ◌++◌, length, get_or, set, map, drop, refl, sym, ap, ◌∙◌, subst, arith, ⊎_elim}
+use Rattle.std.proofs.Common.{◌≡◌, ◌≢◌, ℕ, suc, ◌+◌, ◌==◌, ◌<◌, ◌≤◌, Bool, true, false, cond, List, [], ◌∷◌, ◌++◌, length, get_or, set, map, drop, refl, sym, ap, ◌∙◌, arith, ⊎_elim}
 use Rattle.std.specs.List.{enumerate_from, filter, flat_map}
 use Rattle.std.proofs.lemmas.Bool.{cases_eq, eq-eqb, ne_eqb}
 use Rattle.std.proofs.lemmas.List.{append-nil, append_assoc, drop_all, drop_more, get_or-set_other, get_or-set_same, length-set}
@@ -86,7 +86,7 @@ listed_elements first (xs ∷ lists) (y ∷ elements) own same h =
     let here : first + 0 ≡ first = omega arith in
     let is : xs ≡ own first = h 0 (omega arith) ∙ ap own here in
     let rest = listed_elements (first + 1) lists elements own (omega arith)
-        (λ e within. let there : first + suc e ≡ first + 1 + e = omega arith in h (suc e) (omega arith) ∙ ap own there) in
+    (λ e within. let there : first + suc e ≡ first + 1 + e = omega arith in h (suc e) (omega arith) ∙ ap own there) in
     ap (λ (ys : List ℕ). element_clauses first ys ++ flat_map (λ (e : ℕ × List ℕ). element_clauses e.0 e.1) (enumerate_from (first + 1) lists)) is
     ∙ ap (λ (clauses : List Clause). element_clauses first (own first) ++ clauses) rest
 

@@ -1,5 +1,5 @@
 -- What it is to add clauses to a problem, and when there is room for them.
-use Rattle.std.specs.Prelude.{ℕ, ◌+◌, ◌-◌, ◌^◌, ◌≤◌, List, ◌++◌, map, length}
+use Rattle.std.specs.Prelude.{◌+◌, ◌-◌, ◌^◌, ◌≤◌, List, ◌++◌, map, length}
 use Rattle.std.specs.List.{All}
 use Rattle.cgm_atom.specs.declared.constraints.Clause.{Clause}
 use Rattle.cgm_atom.specs.Building.{without_repeats}

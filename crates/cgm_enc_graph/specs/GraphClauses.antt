@@ -1,5 +1,5 @@
 -- The clauses of a goal graph, by group in their order. In comments a name stands for its literal, and `~` is negation.
-use Rattle.std.specs.Prelude.{ℕ, ◌+◌, ◌==◌, cond, if◌then◌else◌, List, [], ◌∷◌, ◌++◌, length, map, filter, flat_map, slice_index}
+use Rattle.std.specs.Prelude.{ℕ, ◌==◌, cond, if◌then◌else◌, List, [], ◌∷◌, ◌++◌, length, map, filter, flat_map, slice_index}
 use Rattle.std.specs.List.{enumerate_from}
 use Rattle.cgm_atom.specs.declared.constraints.Atom.{Atom}
 use Rattle.cgm_atom.specs.declared.constraints.Clause.{Clause}

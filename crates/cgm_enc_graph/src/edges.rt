@@ -66,12 +66,7 @@ pub(crate) fn add_binds(
     Ok(())
 }
 
-fn add_bind(
-    alloc: Global,
-    b: &mut ProblemBuilder,
-    m: &Model,
-    e: &Edge,
-) -> Result<(), OutOfMemory>
+fn add_bind(alloc: Global, b: &mut ProblemBuilder, m: &Model, e: &Edge) -> Result<(), OutOfMemory>
     requires room { CanTake b.old (bind_clauses (lists_of m.now) e.now) }
     requires known { IsEdgeOf (length m.now.refinements) e.now }
     ensures { OnOk result (b.new ≡ with_written b.old (bind_clauses (lists_of m.now) e.now)) }

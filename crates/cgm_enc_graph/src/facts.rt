@@ -55,11 +55,7 @@ pub(crate) fn add_asserts(
     Ok(())
 }
 
-fn add_assertion(
-    alloc: Global,
-    b: &mut ProblemBuilder,
-    a: &Assertion,
-) -> Result<(), OutOfMemory>
+fn add_assertion(alloc: Global, b: &mut ProblemBuilder, a: &Assertion) -> Result<(), OutOfMemory>
     requires { CanTake b.old (assertion_clause a.now ∷ []) }
     ensures { OnOk result (b.new ≡ with_written b.old (assertion_clause a.now ∷ [])) }
 {

@@ -39,11 +39,7 @@ pub fn add_graph(alloc: Global, m: &Model, b: &mut ProblemBuilder) -> Result<(),
 }
 
 /// The clauses of refinements and of refined elements.
-fn add_refinement_group(
-    alloc: Global,
-    b: &mut ProblemBuilder,
-    m: &Model,
-) -> Result<(), OutOfMemory>
+fn add_refinement_group(alloc: Global, b: &mut ProblemBuilder, m: &Model) -> Result<(), OutOfMemory>
     requires { CanTake b.old (refinement_group (lists_of m.now)) }
     ensures { OnOk result (b.new ≡ with_written b.old (refinement_group (lists_of m.now))) }
 {

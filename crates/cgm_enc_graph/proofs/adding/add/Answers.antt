@@ -1,5 +1,4 @@
 use Rattle.std.proofs.Common.{◌≡◌, ◌∙◌, rules}
-use Rattle.std.specs.List.{All}
 use Rattle.std.proofs.lemmas.List.Elements.{All-same}
 use Rattle.cgm_atom.specs.Instance.{var_count}
 use Rattle.cgm_atom.specs.Limits.{IsAtomOf}

@@ -1,4 +1,4 @@
-use Rattle.std.proofs.Common.{◌≡◌, ◌++◌, List, map, ap, ◌∙◌, subst, sym}
+use Rattle.std.proofs.Common.{◌++◌}
 use Rattle.std.proofs.lemmas.Result.{on_ok_weaker}
 use Rattle.cgm_model.specs.Model.{lists_of}
 use Rattle.cgm_enc_graph.specs.GraphClauses.{edge_group, fact_group, graph_clauses, refinement_group, written_clauses}

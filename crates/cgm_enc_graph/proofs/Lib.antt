@@ -1,0 +1,8 @@
+pub mod Additions
+pub mod ClauseTruths
+pub mod GraphSizes
+pub mod GraphTruths
+pub mod Groups
+pub mod KnownNames
+pub mod RuleTruths
+pub mod VariableLists

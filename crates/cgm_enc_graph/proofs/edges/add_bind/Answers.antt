@@ -1,0 +1,41 @@
+use Rattle.std.proofs.Common.{◌≡◌, ◌∷◌, [], ap, ◌∙◌, subst, sym}
+use Rattle.cgm_atom.specs.declared.constraints.Clause.{Clause}
+use Rattle.cgm_formula.specs.declared.formula.Truth.TheVariants as truth
+use Rattle.cgm_model.specs.Model.{lists_of}
+use Rattle.cgm_enc_graph.specs.Adding.{CanTake, with_written}
+use Rattle.cgm_enc_graph.specs.GraphClauses.{bind_clauses, clause, target_of}
+use Rattle.cgm_enc_graph.specs.Literals.{literal, negated, variable_of}
+use Rattle.cgm_enc_graph.proofs.Additions.{first_left, left_all, left_more}
+use Rattle.cgm_enc_graph.proofs.edges.add_bind.Goals as goal
+
+pub add-requires : goal.add-requires
+add-requires c =
+    let m = lists_of c.args.m.now in
+    let e = c.args.e.now in
+    let b = c.args.b.now in
+    let one = negated (target_of m e.from) in
+    let other = negated (target_of m e.to) in
+    let from = variable_of m (truth.Refinement e.from) in
+    let to = variable_of m (truth.Refinement e.to) in
+    let first : Clause = clause (one ∷ other ∷ negated from ∷ literal to ∷ []) in
+    let second : Clause = clause (one ∷ other ∷ literal from ∷ negated to ∷ []) in
+    let same : clause (c.negated.result ∷ c.negated-2.result ∷ c.negated-3.result ∷ c.literal.result ∷ []) ≡ first = cc in
+    subst (λ (added : Clause). CanTake b (added ∷ [])) (sym same)
+    (first_left b b (bind_clauses m e) (first ∷ []) (second ∷ []) (left_all b (bind_clauses m e) c.requires.room))
+
+pub add-requires-2 : goal.add-requires-2
+add-requires-2 c =
+    let m = lists_of c.args.m.now in
+    let e = c.args.e.now in
+    let b = c.args.b.now in
+    let one = negated (target_of m e.from) in
+    let other = negated (target_of m e.to) in
+    let from = variable_of m (truth.Refinement e.from) in
+    let to = variable_of m (truth.Refinement e.to) in
+    let first : Clause = clause (one ∷ other ∷ negated from ∷ literal to ∷ []) in
+    let second : Clause = clause (one ∷ other ∷ literal from ∷ negated to ∷ []) in
+    let same : clause (c.negated.result ∷ c.negated-2.result ∷ c.negated-3.result ∷ c.literal.result ∷ []) ≡ first = cc in
+    let next : clause (c.negated-4.result ∷ c.negated-5.result ∷ c.literal-2.result ∷ c.negated-6.result ∷ []) ≡ second = cc in
+    let added = c.in_ok-add.ensures ∙ ap (λ (x : Clause). with_written b (x ∷ [])) same in
+    let far = left_more b b c.add.new.b (bind_clauses m e) (first ∷ []) (second ∷ []) (left_all b (bind_clauses m e) c.requires.room) added in
+    subst (λ (x : Clause). CanTake c.add.new.b (x ∷ [])) (sym next) far.room

@@ -1,0 +1,11 @@
+use Rattle.std.proofs.Common.{drop}
+use Rattle.std.specs.List.{flat_map}
+use Rattle.cgm_model.specs.Model.{lists_of}
+use Rattle.cgm_enc_graph.specs.GraphClauses.{bind_clauses}
+use Rattle.cgm_enc_graph.proofs.Additions.{AreLeft, flattened}
+use Rattle.cgm_enc_graph.proofs.edges.add_binds.Given as goal
+
+abbrev pub invariant-loop-e : goal.invariant-loop-e
+invariant-loop-e l =
+    AreLeft l.fn.b (flat_map (bind_clauses (lists_of l.m)) l.binds) l.b
+    (flattened (bind_clauses (lists_of l.m)) l.e-index (drop l.e-index l.binds))

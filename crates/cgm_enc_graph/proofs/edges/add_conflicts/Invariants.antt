@@ -1,0 +1,8 @@
+use Rattle.std.proofs.Common.{map, drop}
+use Rattle.cgm_enc_graph.specs.GraphClauses.{conflict_clause}
+use Rattle.cgm_enc_graph.proofs.Additions.{AreLeft, mapped}
+use Rattle.cgm_enc_graph.proofs.edges.add_conflicts.Given as goal
+
+abbrev pub invariant-loop-e : goal.invariant-loop-e
+invariant-loop-e l =
+    AreLeft l.fn.b (map conflict_clause l.conflicts) l.b (mapped conflict_clause l.e-index (drop l.e-index l.conflicts))

@@ -1,0 +1,8 @@
+use Rattle.std.proofs.Common.{map, drop}
+use Rattle.cgm_enc_graph.specs.GraphClauses.{contrib_clause}
+use Rattle.cgm_enc_graph.proofs.Additions.{AreLeft, mapped}
+use Rattle.cgm_enc_graph.proofs.edges.add_contribs.Given as goal
+
+abbrev pub invariant-loop-e : goal.invariant-loop-e
+invariant-loop-e l =
+    AreLeft l.fn.b (map contrib_clause l.contribs) l.b (mapped contrib_clause l.e-index (drop l.e-index l.contribs))

@@ -1,0 +1,13 @@
+//! The clauses of a goal graph: refinements, contributions, conflicts, bindings, goals with `must` and assertions.
+#![tactic(auto)]
+
+mod adding;
+mod edges;
+mod facts;
+mod graph;
+pub mod laws;
+mod refinements;
+mod targets;
+
+pub use cgm_atom::OutOfMemory;
+pub use graph::add_graph;

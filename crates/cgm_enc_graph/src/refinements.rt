@@ -1,0 +1,112 @@
+//! The clauses of refinements, and of the elements that they refine.
+ghost use Rattle.std.specs.Prelude.{◌≡◌, ◌+◌, ◌<◌, ◌≤◌, ◌^◌, ◌++◌, ◌∷◌, [], length, map, flat_map, OnOk};
+ghost use Rattle.std.specs.List.{enumerate_from};
+ghost use Rattle.cgm_enc_graph.specs.Adding.{CanTake, with_written};
+ghost use Rattle.cgm_enc_graph.specs.GraphClauses.{clause, element_clauses, implication, refinement_clauses};
+ghost use Rattle.cgm_enc_graph.specs.Literals.{literal as literal_of, negated as negated_of};
+
+use crate::adding::{add, add_implication, literal, negated, push_literals, push_negated};
+use cgm_atom::{OutOfMemory, ProblemBuilder};
+use cgm_formula::Parts;
+use cgm_model::Refinement;
+use std::alloc::Global;
+
+/// Adds the clauses of each refinement. The first refinement has this variable.
+pub(crate) fn add_refinements(
+    alloc: Global,
+    b: &mut ProblemBuilder,
+    first: u32,
+    refinements: &[Refinement],
+) -> Result<(), OutOfMemory>
+    requires room { CanTake b.old (flat_map refinement_clauses (enumerate_from first refinements.now)) }
+    requires few { first + length refinements.now ≤ 2 ^ 32 }
+    ensures { OnOk result (b.new ≡ with_written b.old (flat_map refinement_clauses (enumerate_from first refinements.now))) }
+{
+    for (number, r) in refinements.iter().enumerate() {
+        add_refinement(alloc, b, first + number as u32, r)?;
+    }
+    Ok(())
+}
+
+fn add_refinement(
+    alloc: Global,
+    b: &mut ProblemBuilder,
+    x: u32,
+    r: &Refinement,
+) -> Result<(), OutOfMemory>
+    requires { CanTake b.old (refinement_clauses (x, r.now)) }
+    ensures { OnOk result (b.new ≡ with_written b.old (refinement_clauses (x, r.now))) }
+{
+    let sources = r.sources.as_slice();
+    add_sources(alloc, b, x, sources)?;
+    add_converse(alloc, b, x, sources)?;
+    add_implication(alloc, b, x, r.target)
+}
+
+/// Where the refinement is true, so is each source.
+fn add_sources(
+    alloc: Global,
+    b: &mut ProblemBuilder,
+    x: u32,
+    sources: &[u32],
+) -> Result<(), OutOfMemory>
+    requires { CanTake b.old (map (implication x) sources.now) }
+    ensures { OnOk result (b.new ≡ with_written b.old (map (implication x) sources.now)) }
+{
+    for source in sources {
+        add_implication(alloc, b, x, *source)?;
+    }
+    Ok(())
+}
+
+/// Where all sources are true, so is the refinement.
+fn add_converse(
+    alloc: Global,
+    b: &mut ProblemBuilder,
+    x: u32,
+    sources: &[u32],
+) -> Result<(), OutOfMemory>
+    requires { CanTake b.old (clause (map negated_of sources.now ++ literal_of x ∷ []) ∷ []) }
+    ensures { OnOk result (b.new ≡ with_written b.old (clause (map negated_of sources.now ++ literal_of x ∷ []) ∷ [])) }
+{
+    let mut atoms = Vec::new(alloc);
+    push_negated(&mut atoms, sources)?;
+    atoms.push(literal(x))?;
+    add(alloc, b, atoms.as_slice())
+}
+
+/// Adds the clause of each element that has refinements. The list has the variables of the
+/// refinements of each element.
+pub(crate) fn add_elements(
+    alloc: Global,
+    b: &mut ProblemBuilder,
+    refinements: &[Parts<u32>],
+) -> Result<(), OutOfMemory>
+    requires room { CanTake b.old (flat_map (λ e. element_clauses e.0 e.1) (enumerate_from 0 refinements.now)) }
+    requires few { length refinements.now ≤ 2 ^ 32 }
+    ensures { OnOk result (b.new ≡ with_written b.old (flat_map (λ e. element_clauses e.0 e.1) (enumerate_from 0 refinements.now))) }
+{
+    for (element, own) in refinements.iter().enumerate() {
+        add_element(alloc, b, element as u32, own.as_slice())?;
+    }
+    Ok(())
+}
+
+/// Where the element is true and has refinements, so is one of them.
+fn add_element(
+    alloc: Global,
+    b: &mut ProblemBuilder,
+    element: u32,
+    refinements: &[u32],
+) -> Result<(), OutOfMemory>
+    requires { CanTake b.old (element_clauses element refinements.now) }
+    ensures { OnOk result (b.new ≡ with_written b.old (element_clauses element refinements.now)) }
+{
+    if refinements.is_empty() {
+        return Ok(());
+    }
+    let mut atoms = Vec::new(alloc);
+    atoms.push(negated(element))?;
+    push_literals(&mut atoms, refinements)?;
+    add(alloc, b, atoms.as_slice())
+}

@@ -88,22 +88,6 @@ fn unknown_statement_words(rt: HostRuntime) -> Result<(), Fail> {
 }
 
 #[test]
-fn statements_that_are_not_there_yet(rt: HostRuntime) -> Result<(), Fail> {
-    let lines = [
-        "sum cost",
-        "value cost T 7",
-        "reward G 1",
-        "penalty G 1",
-        "prefer G H",
-        "interest G",
-        "objective min weight",
-        "objective",
-        "sum 1 (",
-    ];
-    all_refused(&rt, rt.alloc(), BadKind::NotYet, &lines)
-}
-
-#[test]
 fn faulty_forms_of_declarations(rt: HostRuntime) -> Result<(), Fail> {
     let lines = [
         "goal",

@@ -2,6 +2,8 @@
 #![tactic(auto)]
 
 #[cfg(test)]
+mod attribute_rows;
+#[cfg(test)]
 mod fault_rows;
 #[cfg(test)]
 mod limit_rows;

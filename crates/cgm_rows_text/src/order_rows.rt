@@ -39,9 +39,9 @@ fn depth_before_header(rt: HostRuntime) -> Result<(), Fail> {
 fn depth_before_statement_and_form(rt: HostRuntime) -> Result<(), Fail> {
     let brackets = repeated(rt.alloc(), "(", 201)?;
     let statement = format!(in rt.alloc(); "fly {brackets}")?;
-    let not_yet = format!(in rt.alloc(); "sum {brackets}")?;
+    let sum = format!(in rt.alloc(); "sum {brackets}")?;
     let form = format!(in rt.alloc(); "task {brackets}")?;
-    let lines = [statement.as_str(), not_yet.as_str(), form.as_str()];
+    let lines = [statement.as_str(), sum.as_str(), form.as_str()];
     all_limited(&rt, rt.alloc(), Which::FormulaDepth, 200, &lines)
 }
 
@@ -56,9 +56,7 @@ fn header_before_statement(rt: HostRuntime) {
 #[test]
 fn statement_before_form(rt: HostRuntime) -> Result<(), Fail> {
     let unknown = ["fly 1 (", "fly", ") task 1"];
-    all_refused(&rt, rt.alloc(), BadKind::Statement, &unknown)?;
-    let not_yet = ["sum", "value X T", "reward 1 1", "objective max P"];
-    all_refused(&rt, rt.alloc(), BadKind::NotYet, &not_yet)
+    all_refused(&rt, rt.alloc(), BadKind::Statement, &unknown)
 }
 
 #[test]

@@ -5,8 +5,9 @@ use std::alloc::{AllocError, Global};
 use std::process::Abort;
 use std::test::Fail;
 
-/// Seven lines that declare a name of each kind.
-const DECLARED: &str = "cgm 1\ngoal G\ngoal H\ntask T\nassume A\nvar X 0 9\nrefine R G : T\n";
+/// Eight lines that declare a name of each kind.
+const DECLARED: &str =
+    "cgm 1\ngoal G\ngoal H\ntask T\nassume A\nvar X 0 9\nrefine R G : T\nsum Cost\n";
 
 /// What the text is read as.
 pub(crate) fn reading_of(alloc: Global, text: &[u8]) -> Result<Reading, Fail> {
@@ -80,7 +81,7 @@ pub(crate) fn all_bad(
     Ok(())
 }
 
-/// Asserts that each line has this fault, after seven that declare a name of each kind.
+/// Asserts that each line has this fault, after eight that declare a name of each kind.
 pub(crate) fn all_refused(
     rt: &impl Abort,
     alloc: Global,
@@ -90,12 +91,12 @@ pub(crate) fn all_refused(
     for line in lines {
         let text = format!(in alloc; "{DECLARED}{line}\n")?;
         let stop = stop_of(alloc, text.as_bytes());
-        assert!(rt; is_bad(stop, 8, kind), "at {line}");
+        assert!(rt; is_bad(stop, 9, kind), "at {line}");
     }
     Ok(())
 }
 
-/// Asserts that each line passes this limit, after seven that declare a name of each kind.
+/// Asserts that each line passes this limit, after eight that declare a name of each kind.
 pub(crate) fn all_limited(
     rt: &impl Abort,
     alloc: Global,
@@ -106,7 +107,7 @@ pub(crate) fn all_limited(
     let limit = Limit {
         which,
         number,
-        line: 8,
+        line: 9,
     };
     for line in lines {
         let text = format!(in alloc; "{DECLARED}{line}\n")?;
@@ -116,7 +117,7 @@ pub(crate) fn all_limited(
     Ok(())
 }
 
-/// Asserts that each line is read, after seven that declare a name of each kind.
+/// Asserts that each line is read, after eight that declare a name of each kind.
 pub(crate) fn all_read(rt: &impl Abort, alloc: Global, lines: &[&str]) -> Result<(), Fail> {
     for line in lines {
         let text = format!(in alloc; "{DECLARED}{line}\n")?;

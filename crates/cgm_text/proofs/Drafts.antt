@@ -25,7 +25,7 @@ use Rattle.cgm_text.specs.declared.reader.Reading.{Reading}
 use Rattle.cgm_text.specs.declared.reader.TextStop.{TextStop}
 use Rattle.cgm_text.specs.Line.{Verdict, nothing, header, says, faulty, header_tokens, written, IsFormJudged, IsNamedJudged, IsJudged, AreFirst, AreJudged, AreShallowJudged, AreLexemesJudged, ComesTo, nests_too_deep}
 use Rattle.cgm_text.specs.Meaning.{statement_of}
-use Rattle.cgm_text.specs.Progress.{IsAdded, IsDraft, IsFinished, IsFinishStop, IsMade, IsNoFault, IsPut, IsStep, IsStop, IsStopAfter, line_stop, stop_at, tokens_come_to}
+use Rattle.cgm_text.specs.Progress.{IsAdded, IsDraft, IsFinished, IsFinishStop, IsMade, IsNoFault, IsPut, IsReadWhole, IsStep, IsStop, IsStopAfter, line_stop, stop_at, tokens_come_to}
 use Rattle.cgm_text.specs.Text.{LineStatement, on_line, all_added, model_of, rule_line, rule_lines, Outcome, gives, fails, after_line, IsOutcome, Lead, HasStatements, HasFault, IsReading, IsNotRead}
 
 -- lists
@@ -230,11 +230,6 @@ unfinished_by text None draft stop leads is finished =
     subst (IsNotRead text) (sym finished.stop_is) (leads (fails 1 (line_faults.Bad kinds.Header)) refl)
 
 -- the last line, which no line feed ends
-pub record IsReadWhole (text : List ℕ) (draft : Draft) : Type 0 where
-  pub so_far : Option (List LineStatement)
-  pub keeps : IsDraft so_far draft
-  pub leads : (o : Outcome) → Lead so_far 0 [] o → Lead None 1 (lines text) o
-
 pub read_ends : (text rest : List ℕ) (number : ℕ) (old new : Draft) → lines rest ≡ rest ∷ [] → IsReadTo text number rest old → IsStep (λ before. ComesTo before rest) number old new → IsReadWhole text new
 read_ends text rest number old new split read step =
     let steps = step read.so_far read.keeps in

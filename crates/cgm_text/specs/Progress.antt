@@ -4,6 +4,7 @@ use Rattle.std.specs.Option.{option_map}
 use Rattle.cgm_base.specs.declared.fault.BadKind.TheVariants as kinds
 use Rattle.cgm_base.specs.Words.{limit_number}
 use Rattle.cgm_lex.specs.Lexemes.{Lexeme}
+use Rattle.cgm_lex.specs.Lines.{lines}
 use Rattle.cgm_model.specs.declared.lists.Lists.{Lists}
 use Rattle.cgm_model.specs.declared.lists.Statement.{Statement}
 use Rattle.cgm_model.specs.declared.stop.AddStop.{AddStop}
@@ -21,7 +22,7 @@ use Rattle.cgm_text.specs.declared.reader.TextStop.TheVariants as stops
 use Rattle.cgm_text.specs.Line.{Verdict, nothing, header, says, faulty, refusal_kind, AreJudged, AreLexemesJudged}
 use Rattle.cgm_text.specs.Meaning.{statement_of}
 use Rattle.cgm_text.specs.Statements.{WrittenStatement, statement_tokens}
-use Rattle.cgm_text.specs.Text.{LineStatement, after_line, model_of, rule_line, rule_lines}
+use Rattle.cgm_text.specs.Text.{LineStatement, Lead, Outcome, after_line, model_of, rule_line, rule_lines}
 use Rattle.cgm_text.specs.Uses.{first_fault, statement_uses}
 
 -- a stop is the fault that this says of, or want of memory
@@ -94,6 +95,12 @@ pub record IsAdded (line : ℕ) (tokens : List Lexeme) (old new : Draft) : Type 
   pub header : new.has_header ≡ old.has_header
   pub lists : new.builder ≡ added old.builder statement
   pub lines : new.rule_lines.items ≡ old.rule_lines.items ++ rule_line line statement
+
+-- the reader has these statements at the end of the text, which comes to what they do
+pub record IsReadWhole (text : List ℕ) (draft : Draft) : Type 0 where
+  pub so_far : Option (List LineStatement)
+  pub keeps : IsDraft so_far draft
+  pub leads : (o : Outcome) → Lead so_far 0 [] o → Lead None 1 (lines text) o
 
 -- a draft with a header gives its model and the lines of its rules
 pub record IsFinished (draft : Draft) (reading : Reading) : Type 0 where

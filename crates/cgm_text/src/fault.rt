@@ -1,8 +1,7 @@
 ghost use Rattle.std.specs.Prelude.{◌≡◌};
-ghost use Rattle.cgm_text.specs.Line.{flaw_kind, refusal_kind};
+ghost use Rattle.cgm_text.specs.Line.{refusal_kind};
 
 use cgm_base::{BadKind, Which};
-use cgm_lex::LexFault;
 use cgm_model::Fault;
 
 /// What is wrong with a line.

@@ -1,5 +1,4 @@
-ghost use Rattle.std.specs.Prelude.{◌≡◌, ◌≢◌, List, [], IfOk, IfErr};
-ghost use Rattle.cgm_lex.specs.Lexemes.{Lexeme};
+ghost use Rattle.std.specs.Prelude.{◌≡◌, ◌≢◌, [], IfOk, IfErr};
 ghost use Rattle.cgm_text.specs.Statements.{IsBody, IsNoBody};
 ghost use Rattle.cgm_text.specs.Trees.{IsFor, formula_in, seen_all};
 ghost use Rattle.cgm_text.specs.Written.{WrittenFormula, spelled};

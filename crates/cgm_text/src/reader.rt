@@ -1,6 +1,6 @@
-ghost use Rattle.std.specs.Prelude.{◌≡◌, ◌≤◌, length, IfOk, IfErr};
+ghost use Rattle.std.specs.Prelude.{◌≡◌, ◌≤◌, length, None, IfOk, IfErr, OnOk};
 ghost use Rattle.cgm_model.specs.Model.{lists_of};
-ghost use Rattle.cgm_text.specs.Progress.{stop_at};
+ghost use Rattle.cgm_text.specs.Progress.{IsDraft, IsReadWhole, stop_at};
 ghost use Rattle.cgm_text.specs.Text.{IsReading, IsNotRead};
 
 use crate::draft::Draft;
@@ -44,14 +44,13 @@ fn text_stop(stop: LineStop, line: u32) -> TextStop
     }
 }
 
-/// Reads a model text of at most 16 MiB: its model with the lines of the rules, or the first fault:
-/// its line and its kind, or the limit that is passed there. Only want of memory comes beside these.
-pub fn read(alloc: Global, bytes: &[u8]) -> Result<Reading, TextStop>
-    requires { length bytes.now ≤ 16777216 }
-    ensures read { IfOk result (λ reading. IsReading bytes.now (lists_of reading.model) reading.rule_lines.items) }
+/// Adds the lines of a text to a draft that has none yet.
+fn add_lines(draft: &mut Draft, alloc: Global, bytes: &[u8]) -> Result<(), TextStop>
+    requires short { length bytes.now ≤ 16777216 }
+    requires empty { IsDraft None draft.old }
+    ensures read { OnOk result (IsReadWhole bytes.now draft.new) }
     ensures stop { IfErr result (IsNotRead bytes.now) }
 {
-    let mut draft = Draft::new(alloc);
     let mut rest = bytes;
     let mut number = 1;
     while let Some((line, after)) = split_line(rest) {
@@ -63,7 +62,21 @@ pub fn read(alloc: Global, bytes: &[u8]) -> Result<Reading, TextStop>
         number += 1;
     }
     match draft.add_line(alloc, rest, number) {
-        Ok(()) => draft.finish(),
+        Ok(()) => Ok(()),
         Err(stop) => Err(text_stop(stop, number)),
+    }
+}
+
+/// Reads a model text of at most 16 MiB: its model with the lines of the rules, or the first fault:
+/// its line and its kind, or the limit that is passed there. Only want of memory comes beside these.
+pub fn read(alloc: Global, bytes: &[u8]) -> Result<Reading, TextStop>
+    requires { length bytes.now ≤ 16777216 }
+    ensures read { IfOk result (λ reading. IsReading bytes.now (lists_of reading.model) reading.rule_lines.items) }
+    ensures stop { IfErr result (IsNotRead bytes.now) }
+{
+    let mut draft = Draft::new(alloc);
+    match add_lines(&mut draft, alloc, bytes) {
+        Ok(()) => draft.finish(),
+        Err(stop) => Err(stop),
     }
 }

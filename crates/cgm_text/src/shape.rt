@@ -1,4 +1,4 @@
-ghost use Rattle.std.specs.Prelude.{◌≡◌, ◌≢◌, ◌↔◌, ℕ, ℤ, Bool, List, [], ◌∷◌, ◌++◌, length, map, IsTrue, IfSome, IfNone, IfOk, IfErr, OnOk};
+ghost use Rattle.std.specs.Prelude.{◌≡◌, ◌≢◌, ◌↔◌, ℕ, ℤ, Bool, List, [], ◌∷◌, ◌++◌, map, IsTrue, IfSome, IfNone, IfOk, IfErr, OnOk};
 ghost use Rattle.cgm_lex.specs.Lexemes.{number, word};
 ghost use Rattle.cgm_text.specs.declared.written.Direction.{Direction};
 ghost use Rattle.cgm_text.specs.Statements.{direction_word, must_tokens, truth_word};

@@ -1,29 +1,10 @@
-use Rattle.std.proofs.Common.{[], arith}
-use Rattle.cgm_lex.specs.Lines.{lines}
-use Rattle.cgm_text.proofs.Drafts.{finished, read_ends, read_stops, unfinished}
+use Rattle.cgm_text.proofs.Drafts.{finished, unfinished}
 use Rattle.cgm_text.proofs.reader.read.Goals as goal
 
-pub returns-in-Err-clause-stop : goal.returns-in-Err-clause-stop
-returns-in-Err-clause-stop c =
-    rw c.text_stop.ensures (read_stops c.args.bytes.now c.in-Some.line.now c.loop-line.rest.now (lines c.in-Some.after.now) c.loop-line.number c.loop-line.draft c.in-Err.stop c.in-Some.ensures.0 c.loop-line.invariant.0 c.in-Err.ensures.stop)
+pub returns-in-Ok-clause-read : goal.returns-in-Ok-clause-read
+returns-in-Ok-clause-read c =
+    finished c.args.bytes.now c.add_lines.new.draft c.finish.result c.in-Ok.ensures.read c.finish.ensures.finished
 
-pub add_line-requires-2 : goal.add_line-requires-2
-add_line-requires-2 c =
-    let short = c.requires in
-    let room = c.loop-line.invariant.1 in
-    let first = c.loop-line.invariant.2 in
-    omega (arith, short, room, first)
-
-pub returns-in-Ok-add_line-clause-read : goal.returns-in-Ok-add_line-clause-read
-returns-in-Ok-add_line-clause-read c =
-    let whole = read_ends c.args.bytes.now c.loop-line.rest.now c.loop-line.number c.loop-line.draft c.add_line-2.new.self c.in_default.ensures c.loop-line.invariant.0 c.in-Ok-add_line.ensures.step in
-    finished c.args.bytes.now c.add_line-2.new.self c.finish.result whole c.finish.ensures.finished
-
-pub returns-in-Ok-add_line-clause-stop : goal.returns-in-Ok-add_line-clause-stop
-returns-in-Ok-add_line-clause-stop c =
-    let whole = read_ends c.args.bytes.now c.loop-line.rest.now c.loop-line.number c.loop-line.draft c.add_line-2.new.self c.in_default.ensures c.loop-line.invariant.0 c.in-Ok-add_line.ensures.step in
-    unfinished c.args.bytes.now c.add_line-2.new.self c.finish.result whole c.finish.ensures.stop
-
-pub returns-in-Err-add_line-clause-stop : goal.returns-in-Err-add_line-clause-stop
-returns-in-Err-add_line-clause-stop c =
-    rw c.text_stop-in-Err-add_line.ensures (read_stops c.args.bytes.now c.loop-line.rest.now c.loop-line.rest.now [] c.loop-line.number c.loop-line.draft c.in-Err-add_line.stop c.in_default.ensures c.loop-line.invariant.0 c.in-Err-add_line.ensures.stop)
+pub returns-in-Ok-clause-stop : goal.returns-in-Ok-clause-stop
+returns-in-Ok-clause-stop c =
+    unfinished c.args.bytes.now c.add_lines.new.draft c.finish.result c.in-Ok.ensures.read c.finish.ensures.stop

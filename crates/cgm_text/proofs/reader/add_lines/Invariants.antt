@@ -1,6 +1,6 @@
 use Rattle.std.proofs.Common.{◌+◌, ◌≤◌, length}
 use Rattle.cgm_text.proofs.Drafts.{IsReadTo}
-use Rattle.cgm_text.proofs.reader.read.Given as goal
+use Rattle.cgm_text.proofs.reader.add_lines.Given as goal
 
 abbrev pub invariant-loop-line : goal.invariant-loop-line
 invariant-loop-line l =

@@ -97,6 +97,9 @@ record Here (ps pairs : List Pair) (ts : List Lexeme) : Type 0 where
   split : pairs ≡ ps ++ pair ∷ later
   says : ts ≡ pair_tokens pair
 
+split_more : (p r : Pair) (ps rs later : List Pair) (q : Pair) → p ≡ r → rs ≡ ps ++ q ∷ later → r ∷ rs ≡ p ∷ (ps ++ q ∷ later)
+split_more p r ps rs later q same split = cc
+
 here : (ps pairs : List Pair) (ts : List Lexeme) (more : List (List Lexeme)) → map pair_tokens ps ++ ts ∷ more ≡ map pair_tokens pairs → Here ps pairs ts
 here [] [] ts more e = cc
 here [] (q ∷ qs) ts more e = let says : ts ≡ pair_tokens q = cc in record { pair = q; later = qs; split = refl; says = says }
@@ -106,8 +109,8 @@ here (p ∷ ps) (r ∷ rs) ts more e =
     let same = pair_once p r first in
     let rest : map pair_tokens ps ++ ts ∷ more ≡ map pair_tokens rs = cc in
     let h = here ps rs ts more rest in
-    let split = h.split in
-    record { pair = h.pair; later = h.later; split = ap (λ x. x ∷ rs) (sym same) ∙ ap (λ xs. p ∷ xs) split; says = h.says }
+    let split : r ∷ rs ≡ p ∷ (ps ++ h.pair ∷ h.later) = split_more p r ps rs h.later h.pair same h.split in
+    record { pair = h.pair; later = h.later; split = split; says = h.says }
 
 no_pair_fault : (ps pairs : List Pair) (ts : List Lexeme) (fault : LineFault) → Here ps pairs ts → ArePairs pairs → ArePairFault ps ts fault → ⊥
 no_pair_fault ps pairs ts fault h are (inl bad) =

@@ -10,7 +10,9 @@ use std::alloc::Global;
 /// spelled as a name, a reserved word too, and has at most 64 bytes.
 #[derive(Debug, Drop)]
 pub struct Earlier {
+    /// The names with their truths, in the order of the text.
     pub pairs: Parts<(Name, bool)>,
+    /// The same, to be looked up.
     pub(crate) index: Index,
     pub ghost proper: { ∥ ArePairs pairs ∥₁ },
     pub ghost indexed: { ∥ Indexes pairs index ∥₁ },

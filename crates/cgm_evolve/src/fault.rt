@@ -3,6 +3,7 @@ use cgm_base::{BadKind, Which};
 /// What is wrong with a line of an earlier text.
 #[derive(Clone, Copy, Debug, PartialEq, Eq)]
 pub enum LineFault {
+    /// A fault of this kind.
     Bad(BadKind),
     /// A quantity that passes its limit.
     Limit(Which),

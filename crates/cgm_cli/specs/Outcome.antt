@@ -156,10 +156,20 @@ HasFileOutcome HasModelOutcome name shelf sink status =
 
 -- ---- the outcome for the words
 
-abbrev pub HasCommandOutcome : Option Command → Shelving → Printing → Status → Type 0
-HasCommandOutcome None shelf sink status = (status ≡ Usage) × IsTold sink usage_fault
-HasCommandOutcome (Some (solve name)) shelf sink status = HasFileOutcome HasSolveOutcome name shelf sink status
-HasCommandOutcome (Some (show name)) shelf sink status = HasFileOutcome HasShowOutcome name shelf sink status
+abbrev pub HasCommandOutcome : Command → Shelving → Printing → Status → Type 0
+HasCommandOutcome (solve name earlier) shelf sink status = HasFileOutcome HasSolveOutcome name shelf sink status
+HasCommandOutcome (show name) shelf sink status = HasFileOutcome HasShowOutcome name shelf sink status
+
+-- the words are no command line, or memory is wanted to read them
+abbrev pub HasUsageOutcome : Printing → Status → Type 0
+HasUsageOutcome sink Usage = IsTold sink usage_fault
+HasUsageOutcome sink Memory = IsTold sink memory_fault
+HasUsageOutcome sink status = ⊥
+
+-- the outcome of a command line; none where the words are no command line
+abbrev pub HasWordsOutcome : Option Command → Shelving → Printing → Status → Type 0
+HasWordsOutcome None shelf sink status = HasUsageOutcome sink status
+HasWordsOutcome (Some command) shelf sink status = HasCommandOutcome command shelf sink status
 
 abbrev pub HasOutcome : List (List ℕ) → Shelving → Printing → Status → Type 0
-HasOutcome words shelf sink status = HasCommandOutcome (command_line words) shelf sink status
+HasOutcome words shelf sink status = HasWordsOutcome (command_line words) shelf sink status

@@ -4,6 +4,7 @@
 mod command;
 mod file;
 mod numbers;
+mod options;
 mod print;
 mod program;
 mod report;

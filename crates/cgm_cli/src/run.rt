@@ -1,10 +1,11 @@
 ghost use Rattle.std.specs.Prelude.{◌≡◌, map};
 ghost use Rattle.std.specs.String.{string_bytes};
-ghost use Rattle.cgm_cli.specs.Outcome.{printing, shelving, HasFileOutcome, HasOutcome, HasShowOutcome, HasSolveOutcome};
+ghost use Rattle.cgm_cli.specs.Commands.{told_by};
+ghost use Rattle.cgm_cli.specs.Outcome.{printing, shelving, HasCommandOutcome, HasFileOutcome, HasOutcome, HasShowOutcome, HasSolveOutcome};
 
 use crate::command::{Command, command_in};
 use crate::file::model_of_file;
-use crate::print::tell;
+use crate::print::{tell, tell_memory};
 use crate::show::show;
 use crate::solve::solve;
 use cgm_base::Status;
@@ -32,13 +33,33 @@ pub fn run_quiet<F: Shelf, O: Sink>(
     ensures files { F.files shelf.new ≡ F.files shelf.old }
     ensures writes { F.write_faults shelf.new ≡ F.write_faults shelf.old }
 {
-    match command_in(words) {
-        None => {
+    match command_in(alloc, words) {
+        Ok(Some(command)) => run_command(alloc, command, shelf, out),
+        Ok(None) => {
             tell(out, b"fault usage\n");
             Status::Usage
         }
-        Some(Command::Solve(name)) => solve_file(alloc, name, shelf, out),
-        Some(Command::Show(name)) => show_file(alloc, name, shelf, out),
+        Err(_) => tell_memory(out),
+    }
+}
+
+/// Does what a command asks for.
+fn run_command<F: Shelf, O: Sink>(
+    alloc: Global,
+    command: Command<'_>,
+    shelf: &mut F,
+    out: &mut O,
+) -> Status
+    ensures outcome { HasCommandOutcome (told_by command)
+        (shelving (F.files shelf.old) (F.read_faults shelf.old) (F.read_faults shelf.new))
+        (printing (O.written out.old) (O.written out.new) (O.faults out.old) (O.faults out.new))
+        result }
+    ensures files { F.files shelf.new ≡ F.files shelf.old }
+    ensures writes { F.write_faults shelf.new ≡ F.write_faults shelf.old }
+{
+    match command {
+        Command::Solve { model, earlier: _ } => solve_file(alloc, model, shelf, out),
+        Command::Show { model } => show_file(alloc, model, shelf, out),
     }
 }
 

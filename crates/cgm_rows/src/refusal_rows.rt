@@ -1,6 +1,6 @@
 // Words, files and texts that the program refuses, and outputs that fail.
 use crate::runs::{
-    FIRST, all_print, has_printed, owned_words, run_on_text, shelf_of, sink_of_pieces,
+    FIRST, FIRST_REPORT, all_print, has_printed, owned_words, run_on_text, shelf_of, sink_of_pieces,
 };
 use cgm_base::Status;
 use cgm_cli::run_quiet;
@@ -23,6 +23,22 @@ fn usage_faults(rt: HostRuntime) -> Result<(), Fail> {
         &["solve", "-first.cgm"],
         &["first.cgm"],
         &["solve", "first.cgm", "--workers=17"],
+        &["solve", "first.cgm", "--earlier"],
+        &["solve", "first.cgm", "-earlier=old.txt"],
+        &["solve", "first.cgm", "--Earlier=old.txt"],
+        &["solve", "first.cgm", "--earl=old.txt"],
+        &["solve", "--earlier=old.txt"],
+        &["solve", "--earlier", "first.cgm"],
+        &[
+            "solve",
+            "first.cgm",
+            "--earlier=old.txt",
+            "--earlier=old.txt",
+        ],
+        &["show", "first.cgm", "--earlier=old.txt"],
+        &["solve", "first.cgm", "--help"],
+        &["solve", "first.cgm", "-h"],
+        &["--version"],
     ];
     for words in rows {
         let mut shelf = shelf_of(alloc, "first.cgm", FIRST.as_bytes(), Vec::new(alloc))?;
@@ -31,6 +47,32 @@ fn usage_faults(rt: HostRuntime) -> Result<(), Fail> {
         let status = run_quiet(alloc, owned.as_slice(), &mut shelf, &mut sink);
         assert_eq!(rt; status, Status::Usage);
         assert!(rt; has_printed(&sink, "fault usage\n"));
+    }
+    Ok(())
+}
+
+// Options may stand before and behind the model's name, with or without `=`, and after `--` there
+// are none.
+#[test]
+fn words_in_other_orders(rt: HostRuntime) -> Result<(), Fail> {
+    let alloc = rt.alloc();
+    let rows: [&[&str]; 7] = [
+        &["solve", "first.cgm", "--earlier=old.txt"],
+        &["solve", "--earlier=old.txt", "first.cgm"],
+        &["solve", "first.cgm", "--earlier", "old.txt"],
+        &["solve", "--earlier", "old.txt", "first.cgm"],
+        &["solve", "--", "first.cgm"],
+        &["solve", "--earlier=old.txt", "--", "first.cgm"],
+        &["solve", "first.cgm", "--"],
+    ];
+    for words in rows {
+        let mut shelf = shelf_of(alloc, "first.cgm", FIRST.as_bytes(), Vec::new(alloc))?;
+        shelf.put("old.txt", b"earlier 1\n")?;
+        let mut sink = sink_of_pieces(alloc);
+        let owned = owned_words(alloc, words)?;
+        let status = run_quiet(alloc, owned.as_slice(), &mut shelf, &mut sink);
+        assert_eq!(rt; status, Status::Done);
+        assert!(rt; has_printed(&sink, FIRST_REPORT));
     }
     Ok(())
 }

@@ -50,7 +50,7 @@ fn run_command<F: Shelf, O: Sink>(
     shelf: &mut F,
     out: &mut O,
 ) -> Status
-    ensures outcome { HasCommandOutcome (told_by command)
+    ensures outcome { HasCommandOutcome (told_by command.entry)
         (shelving (F.files shelf.old) (F.read_faults shelf.old) (F.read_faults shelf.new))
         (printing (O.written out.old) (O.written out.new) (O.faults out.old) (O.faults out.new))
         result }

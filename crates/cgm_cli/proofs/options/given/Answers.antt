@@ -1,6 +1,5 @@
-use Rattle.std.proofs.Common.{map, subst, rules, ◌⊎◌, ◌≡◌, ◌≢◌}
+use Rattle.std.proofs.Common.{map, rules, ◌≢◌}
 use Rattle.std.specs.String.{string_bytes}
-use Rattle.clap.specs.declared.error.kind.ErrorKind.{ErrorKind}
 use Rattle.clap.specs.declared.error.kind.ErrorKind.TheVariants as kinds
 use Rattle.clap.specs.Words.{app_of, found_of, rows_of, kind_of}
 use Rattle.cgm_cli.proofs.Taking.{refused, simple, taken}

@@ -23,7 +23,6 @@ kind_word kinds.DoubleInterest = codes "double-interest"
 kind_word kinds.TaskRefined = codes "task-refined"
 kind_word kinds.AssumptionRefined = codes "assumption-refined"
 kind_word kinds.Cycle = codes "cycle"
-kind_word kinds.NotYet = codes "not-yet"
 
 abbrev pub limit_word : Which → List ℕ
 limit_word limits.TextBytes = codes "text-bytes"

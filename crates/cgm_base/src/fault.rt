@@ -36,8 +36,6 @@ pub enum BadKind {
     AssumptionRefined,
     /// A refinement with which the graph has a cycle.
     Cycle,
-    /// A line that this version of the text form doesn't have.
-    NotYet,
 }
 
 impl BadKind {
@@ -62,7 +60,6 @@ impl BadKind {
             BadKind::TaskRefined => "task-refined",
             BadKind::AssumptionRefined => "assumption-refined",
             BadKind::Cycle => "cycle",
-            BadKind::NotYet => "not-yet",
         }
     }
 }

@@ -1,9 +1,12 @@
--- The builder's aids stay true to its lists: names, graph and room for nodes, over each kind of change.
-use Rattle.std.proofs.Common.{◌≡◌, Result, Ok, Err, OnOk, is_ok, ℕ, zero, suc, ◌+◌, ◌≤◌, ◌<◌, ◌++◌, ◌⊎◌, inl, inr, Bool, true, false, cond, not, List, [], ◌∷◌, Option, None, Some, length, map, slice_get, refl, sym, ◌∙◌, ap, subst, arith, ⊎_elim, MatchOption}
+-- The builder's aids stay true to its lists: names, graph, room for nodes and marks of interest, over each kind of change.
+use Rattle.std.proofs.Common.{◌≡◌, Result, Ok, Err, OnOk, is_ok, ℕ, zero, suc, ◌+◌, ◌≤◌, ◌<◌, ◌++◌, ◌⊎◌, inl, inr, Bool, true, false, cond, not, ◌||◌, ◌==◌, get_or, set, Vec, Global, List, [], ◌∷◌, Option, None, Some, length, map, slice_get, refl, sym, ◌∙◌, ap, subst, arith, ⊎_elim, MatchOption}
+use Rattle.std.specs.List.{list_any}
 use Rattle.std.specs.Option.{is_some, unwrap_or}
 use Rattle.std.specs.Str.{bytes_eq}
-use Rattle.std.proofs.lemmas.Bool.{false≢true}
-use Rattle.std.proofs.lemmas.List.{map_push, length_push, length-map}
+use Rattle.std.proofs.Math.Bool.{or-false}
+use Rattle.std.proofs.lemmas.Bool.{false≢true, or_left, or_right, eq-eqb, ne_eqb, cases_eq}
+use Rattle.std.proofs.lemmas.List.{map_push, length_push, length-map, length-set, get_or-set_same, get_or-set_other}
+use Rattle.std.proofs.lemmas.List.Folds.{list_any-append}
 use Rattle.std.proofs.lemmas.List.Sums.{sum_by-append, sum_by-cons}
 use Rattle.std.proofs.lemmas.Option.{none-some, same_Some}
 use Rattle.std.proofs.lemmas.Slice.Eq.{bytes_eq-Decides}
@@ -19,10 +22,11 @@ use Rattle.cgm_model.specs.declared.lists.Rule.{Rule}
 use Rattle.cgm_model.specs.declared.lists.Statement.TheVariants as statements
 use Rattle.cgm_model.specs.declared.lists.Thing.{Thing}
 use Rattle.cgm_model.specs.declared.lists.Thing.TheVariants as things
+use Rattle.cgm_model.specs.declared.lists.Sum.{Sum}
 use Rattle.cgm_model.specs.declared.lists.Variable.{Variable}
 use Rattle.cgm_model.specs.declared.names.NameTable.{NameTable}
 use Rattle.cgm_model.specs.Formulas.{formula_of, node_total}
-use Rattle.cgm_model.specs.Keeping.{AreFor}
+use Rattle.cgm_model.specs.Keeping.{AreFor, HasRoom}
 use Rattle.cgm_model.specs.Lists.{added, no_lists}
 use Rattle.cgm_model.specs.Named.{IsNamed, thing_named}
 use Rattle.cgm_model.specs.NameTable.{found}
@@ -32,20 +36,52 @@ use Rattle.cgm_model.proofs.Lookups.{thing_named-is_some, not_some-thing_named}
 
 -- ---- the lists stay
 
+-- more room changes nothing that the aids say
 pub AreFor-graph : (m : Lists) (old : Aids) (g : Graph) → ((rs : List Refinement) → IsIndexOf rs old.graph → IsIndexOf rs g) → ((count : ℕ) → HasRoomFor count old.graph → HasRoomFor count g) → AreFor m old → AreFor m (record old { graph = g })
 AreFor-graph m old g kept room h = record {
   names = h.names;
   graph = kept m.refinements h.graph;
-  room = room (length m.elements) h.room;
+  room = record { graph = room (length m.elements) h.room.graph; interests = h.room.interests };
   nodes = h.nodes;
+  interests = h.interests;
 }
 
-pub AreFor-names : (m : Lists) (old new : Aids) → ((q : List ℕ) → found new.names q ≡ found old.names q) → new.graph ≡ old.graph → new.node_room ≡ old.node_room → AreFor m old → AreFor m new
-AreFor-names m old new same graph nodes h = record {
+marked_push : (marks : List Bool) (k : ℕ) → get_or (marks ++ false ∷ []) k false ≡ get_or marks k false
+marked_push [] zero = refl
+marked_push [] (suc k) = refl
+marked_push (b ∷ marks) zero = refl
+marked_push (b ∷ marks) (suc k) = marked_push marks k
+
+-- the marks with one more, or as they were
+pub AreFor-marks : (m : Lists) (old : Aids) (marks : Vec Bool Global) (ok : Bool) → marks.items ≡ cond ok (old.interests.items ++ false ∷ []) old.interests.items → AreFor m old → AreFor m (record old { interests = marks })
+AreFor-marks m old marks true is h = record {
+  names = h.names;
+  graph = h.graph;
+  room = record {
+    graph = h.room.graph;
+    interests = omega (arith, h.room.interests, ap (λ (bs : List Bool). length bs) is, length_push old.interests.items false);
+  };
+  nodes = h.nodes;
+  interests = λ k. ap (λ (bs : List Bool). get_or bs k false) is ∙ (marked_push old.interests.items k ∙ h.interests k);
+}
+AreFor-marks m old marks false is h = record {
+  names = h.names;
+  graph = h.graph;
+  room = record {
+    graph = h.room.graph;
+    interests = omega (arith, h.room.interests, ap (λ (bs : List Bool). length bs) is);
+  };
+  nodes = h.nodes;
+  interests = λ k. ap (λ (bs : List Bool). get_or bs k false) is ∙ h.interests k;
+}
+
+pub AreFor-names : (m : Lists) (old : Aids) (names : NameTable) → ((q : List ℕ) → found names q ≡ found old.names q) → AreFor m old → AreFor m (record old { names = names })
+AreFor-names m old names same h = record {
   names = λ q t is. same q ∙ h.names q t is;
-  graph = subst (IsIndexOf m.refinements) (sym graph) h.graph;
-  room = subst (HasRoomFor (length m.elements)) (sym graph) h.room;
-  nodes = omega (arith, nodes, h.nodes);
+  graph = h.graph;
+  room = record { graph = h.room.graph; interests = h.room.interests };
+  nodes = h.nodes;
+  interests = h.interests;
 }
 
 -- ---- a name more
@@ -72,12 +108,13 @@ name_here : (name : List ℕ) (t : Thing) (old new : NameTable) → ((q : List �
 name_here name t old new set q same =
     set q ∙ ap (λ b. cond b (Some t) (found old q)) ((bytes_eq-Decides q name).1 same)
 
-pub AreFor-declared : (m : Lists) (name : List ℕ) (t : Thing) (old new : Aids) → ((q : List ℕ) → found new.names q ≡ cond (bytes_eq q name) (Some t) (found old.names q)) → new.graph ≡ old.graph → new.node_room ≡ old.node_room → is_new m name ≡ true → AreFor m old → AreFor m new
-AreFor-declared m name t old new set graph nodes fresh h = record {
-  names = λ q u is. names_kept m name t old.names new.names set fresh q u is (h.names q u is);
-  graph = subst (IsIndexOf m.refinements) (sym graph) h.graph;
-  room = subst (HasRoomFor (length m.elements)) (sym graph) h.room;
-  nodes = omega (arith, nodes, h.nodes);
+pub AreFor-declared : (m : Lists) (name : List ℕ) (t : Thing) (old : Aids) (names : NameTable) → ((q : List ℕ) → found names q ≡ cond (bytes_eq q name) (Some t) (found old.names q)) → is_new m name ≡ true → AreFor m old → AreFor m (record old { names = names })
+AreFor-declared m name t old names set fresh h = record {
+  names = λ q u is. names_kept m name t old.names names set fresh q u is (h.names q u is);
+  graph = h.graph;
+  room = record { graph = h.room.graph; interests = h.room.interests };
+  nodes = h.nodes;
+  interests = h.interests;
 }
 
 -- ---- a thing more
@@ -96,61 +133,82 @@ at_last f xs x k q e =
     (λ h. inr (h.0 ∙ length-map xs f, h.1))
     (push_at (map f xs) (f x) k q (rw (map_push f xs x) at e))
 
-element_named : (m : Lists) (e : Element) (old new : NameTable) → ((q : List ℕ) → found new q ≡ cond (bytes_eq q e.name) (Some (things.Element (length m.elements))) (found old q)) → is_new m e.name ≡ true → ((q : List ℕ) (u : Thing) → IsNamed m q u → found old q ≡ Some u) → (q : List ℕ) (u : Thing) → IsNamed (added m (statements.Element e)) q u → found new q ≡ Some u
-element_named m e old new set fresh h q (things.Element k) is =
-    ⊎_elim
-    (λ before. names_kept m e.name (things.Element (length m.elements)) old new set fresh q (things.Element k) before (h q (things.Element k) before))
-    (λ last. name_here e.name (things.Element (length m.elements)) old new set q last.1 ∙ ap (λ n. Some (things.Element n)) (sym last.0))
-    (at_last (λ (x : Element). x.name) m.elements e k q is)
-element_named m e old new set fresh h q (things.Refinement k) is =
-    names_kept m e.name (things.Element (length m.elements)) old new set fresh q (things.Refinement k) is (h q (things.Refinement k) is)
-element_named m e old new set fresh h q (things.Var k) is =
-    names_kept m e.name (things.Element (length m.elements)) old new set fresh q (things.Var k) is (h q (things.Var k) is)
+-- what the new lists name is this thing, or it was named before
+abbrev pub NamesMore : Lists → Lists → List ℕ → Thing → Type 0
+NamesMore old new name t = (q : List ℕ) (u : Thing) → IsNamed new q u → IsNamed old q u ⊎ ((u ≡ t) × (q ≡ name))
 
-refinement_named : (m : Lists) (r : Refinement) (old new : NameTable) → ((q : List ℕ) → found new q ≡ cond (bytes_eq q r.name) (Some (things.Refinement (length m.refinements))) (found old q)) → is_new m r.name ≡ true → ((q : List ℕ) (u : Thing) → IsNamed m q u → found old q ≡ Some u) → (q : List ℕ) (u : Thing) → IsNamed (added m (statements.Refine r)) q u → found new q ≡ Some u
-refinement_named m r old new set fresh h q (things.Element k) is =
-    names_kept m r.name (things.Refinement (length m.refinements)) old new set fresh q (things.Element k) is (h q (things.Element k) is)
-refinement_named m r old new set fresh h q (things.Refinement k) is =
+pub named_more : (m new : Lists) (name : List ℕ) (t : Thing) (old names : NameTable) → ((q : List ℕ) → found names q ≡ cond (bytes_eq q name) (Some t) (found old q)) → is_new m name ≡ true → ((q : List ℕ) (u : Thing) → IsNamed m q u → found old q ≡ Some u) → NamesMore m new name t → (q : List ℕ) (u : Thing) → IsNamed new q u → found names q ≡ Some u
+named_more m new name t old names set fresh h more q u is =
     ⊎_elim
-    (λ before. names_kept m r.name (things.Refinement (length m.refinements)) old new set fresh q (things.Refinement k) before (h q (things.Refinement k) before))
-    (λ last. name_here r.name (things.Refinement (length m.refinements)) old new set q last.1 ∙ ap (λ n. Some (things.Refinement n)) (sym last.0))
-    (at_last (λ (x : Refinement). x.name) m.refinements r k q is)
-refinement_named m r old new set fresh h q (things.Var k) is =
-    names_kept m r.name (things.Refinement (length m.refinements)) old new set fresh q (things.Var k) is (h q (things.Var k) is)
+    (λ before. names_kept m name t old names set fresh q u before (h q u before))
+    (λ last. name_here name t old names set q last.1 ∙ ap (λ x. Some x) (sym last.0))
+    (more q u is)
 
-variable_named : (m : Lists) (v : Variable) (old new : NameTable) → ((q : List ℕ) → found new q ≡ cond (bytes_eq q v.name) (Some (things.Var (length m.vars))) (found old q)) → is_new m v.name ≡ true → ((q : List ℕ) (u : Thing) → IsNamed m q u → found old q ≡ Some u) → (q : List ℕ) (u : Thing) → IsNamed (added m (statements.Variable v)) q u → found new q ≡ Some u
-variable_named m v old new set fresh h q (things.Element k) is =
-    names_kept m v.name (things.Var (length m.vars)) old new set fresh q (things.Element k) is (h q (things.Element k) is)
-variable_named m v old new set fresh h q (things.Refinement k) is =
-    names_kept m v.name (things.Var (length m.vars)) old new set fresh q (things.Refinement k) is (h q (things.Refinement k) is)
-variable_named m v old new set fresh h q (things.Var k) is =
-    ⊎_elim
-    (λ before. names_kept m v.name (things.Var (length m.vars)) old new set fresh q (things.Var k) before (h q (things.Var k) before))
-    (λ last. name_here v.name (things.Var (length m.vars)) old new set q last.1 ∙ ap (λ n. Some (things.Var n)) (sym last.0))
-    (at_last (λ (x : Variable). x.name) m.vars v k q is)
+element_more : (m : Lists) (e : Element) → NamesMore m (added m (statements.Element e)) e.name (things.Element (length m.elements))
+element_more m e q (things.Element k) is =
+    ⊎_elim (λ before. inl before) (λ last. inr (ap (λ n. things.Element n) last.0, last.1)) (at_last (λ (x : Element). x.name) m.elements e k q is)
+element_more m e q (things.Refinement k) is = inl is
+element_more m e q (things.Var k) is = inl is
+element_more m e q (things.Sum k) is = inl is
 
-pub AreFor-element : (m : Lists) (e : Element) (old new : Aids) → ((q : List ℕ) → found new.names q ≡ cond (bytes_eq q e.name) (Some (things.Element (length m.elements))) (found old.names q)) → new.graph ≡ old.graph → new.node_room ≡ old.node_room → is_new m e.name ≡ true → HasRoomFor (length m.elements + 1) old.graph → AreFor m old → AreFor (added m (statements.Element e)) new
-AreFor-element m e old new set graph nodes fresh room h = record {
-  names = element_named m e old.names new.names set fresh h.names;
-  graph = subst (IsIndexOf m.refinements) (sym graph) h.graph;
-  room = subst (HasRoomFor (length (m.elements ++ e ∷ []))) (sym graph) (omega (arith, room, length_push m.elements e));
-  nodes = omega (arith, nodes, h.nodes);
+refinement_more : (m : Lists) (r : Refinement) → NamesMore m (added m (statements.Refine r)) r.name (things.Refinement (length m.refinements))
+refinement_more m r q (things.Element k) is = inl is
+refinement_more m r q (things.Refinement k) is =
+    ⊎_elim (λ before. inl before) (λ last. inr (ap (λ n. things.Refinement n) last.0, last.1)) (at_last (λ (x : Refinement). x.name) m.refinements r k q is)
+refinement_more m r q (things.Var k) is = inl is
+refinement_more m r q (things.Sum k) is = inl is
+
+variable_more : (m : Lists) (v : Variable) → NamesMore m (added m (statements.Variable v)) v.name (things.Var (length m.vars))
+variable_more m v q (things.Element k) is = inl is
+variable_more m v q (things.Refinement k) is = inl is
+variable_more m v q (things.Var k) is =
+    ⊎_elim (λ before. inl before) (λ last. inr (ap (λ n. things.Var n) last.0, last.1)) (at_last (λ (x : Variable). x.name) m.vars v k q is)
+variable_more m v q (things.Sum k) is = inl is
+
+sum_more : (m : Lists) (s : Sum) → NamesMore m (added m (statements.Sum s)) s.name (things.Sum (length m.sums))
+sum_more m s q (things.Element k) is = inl is
+sum_more m s q (things.Refinement k) is = inl is
+sum_more m s q (things.Var k) is = inl is
+sum_more m s q (things.Sum k) is =
+    ⊎_elim (λ before. inl before) (λ last. inr (ap (λ n. things.Sum n) last.0, last.1)) (at_last (λ (x : Sum). x.name) m.sums s k q is)
+
+pub AreFor-element : (m : Lists) (e : Element) (old : Aids) (names : NameTable) → ((q : List ℕ) → found names q ≡ cond (bytes_eq q e.name) (Some (things.Element (length m.elements))) (found old.names q)) → is_new m e.name ≡ true → HasRoom (length m.elements + 1) old → AreFor m old → AreFor (added m (statements.Element e)) (record old { names = names })
+AreFor-element m e old names set fresh room h = record {
+  names = named_more m (added m (statements.Element e)) e.name (things.Element (length m.elements)) old.names names set fresh h.names (element_more m e);
+  graph = h.graph;
+  room = record {
+    graph = omega (arith, room.graph, length_push m.elements e);
+    interests = omega (arith, room.interests, length_push m.elements e);
+  };
+  nodes = h.nodes;
+  interests = h.interests;
 }
 
-pub AreFor-refinement : (m : Lists) (r : Refinement) (old new : Aids) → ((q : List ℕ) → found new.names q ≡ cond (bytes_eq q r.name) (Some (things.Refinement (length m.refinements))) (found old.names q)) → new.graph ≡ old.graph → new.node_room ≡ old.node_room → is_new m r.name ≡ true → IsIndexOf (m.refinements ++ r ∷ []) old.graph → AreFor m old → AreFor (added m (statements.Refine r)) new
-AreFor-refinement m r old new set graph nodes fresh linked h = record {
-  names = refinement_named m r old.names new.names set fresh h.names;
-  graph = subst (IsIndexOf (m.refinements ++ r ∷ [])) (sym graph) linked;
-  room = subst (HasRoomFor (length m.elements)) (sym graph) h.room;
-  nodes = omega (arith, nodes, h.nodes);
+pub AreFor-refinement : (m : Lists) (r : Refinement) (old : Aids) (names : NameTable) → ((q : List ℕ) → found names q ≡ cond (bytes_eq q r.name) (Some (things.Refinement (length m.refinements))) (found old.names q)) → is_new m r.name ≡ true → IsIndexOf (m.refinements ++ r ∷ []) old.graph → AreFor m old → AreFor (added m (statements.Refine r)) (record old { names = names })
+AreFor-refinement m r old names set fresh linked h = record {
+  names = named_more m (added m (statements.Refine r)) r.name (things.Refinement (length m.refinements)) old.names names set fresh h.names (refinement_more m r);
+  graph = linked;
+  room = record { graph = h.room.graph; interests = h.room.interests };
+  nodes = h.nodes;
+  interests = h.interests;
 }
 
-pub AreFor-variable : (m : Lists) (v : Variable) (old new : Aids) → ((q : List ℕ) → found new.names q ≡ cond (bytes_eq q v.name) (Some (things.Var (length m.vars))) (found old.names q)) → new.graph ≡ old.graph → new.node_room ≡ old.node_room → is_new m v.name ≡ true → AreFor m old → AreFor (added m (statements.Variable v)) new
-AreFor-variable m v old new set graph nodes fresh h = record {
-  names = variable_named m v old.names new.names set fresh h.names;
-  graph = subst (IsIndexOf m.refinements) (sym graph) h.graph;
-  room = subst (HasRoomFor (length m.elements)) (sym graph) h.room;
-  nodes = omega (arith, nodes, h.nodes);
+pub AreFor-variable : (m : Lists) (v : Variable) (old : Aids) (names : NameTable) → ((q : List ℕ) → found names q ≡ cond (bytes_eq q v.name) (Some (things.Var (length m.vars))) (found old.names q)) → is_new m v.name ≡ true → AreFor m old → AreFor (added m (statements.Variable v)) (record old { names = names })
+AreFor-variable m v old names set fresh h = record {
+  names = named_more m (added m (statements.Variable v)) v.name (things.Var (length m.vars)) old.names names set fresh h.names (variable_more m v);
+  graph = h.graph;
+  room = record { graph = h.room.graph; interests = h.room.interests };
+  nodes = h.nodes;
+  interests = h.interests;
+}
+
+pub AreFor-sum : (m : Lists) (s : Sum) (old : Aids) (names : NameTable) → ((q : List ℕ) → found names q ≡ cond (bytes_eq q s.name) (Some (things.Sum (length m.sums))) (found old.names q)) → is_new m s.name ≡ true → AreFor m old → AreFor (added m (statements.Sum s)) (record old { names = names })
+AreFor-sum m s old names set fresh h = record {
+  names = named_more m (added m (statements.Sum s)) s.name (things.Sum (length m.sums)) old.names names set fresh h.names (sum_more m s);
+  graph = h.graph;
+  room = record { graph = h.room.graph; interests = h.room.interests };
+  nodes = h.nodes;
+  interests = h.interests;
 }
 
 -- ---- a rule more
@@ -173,23 +231,44 @@ pub AreFor-rule : (m : Lists) (r : Rule) (old : Aids) (left : ℕ) → left + no
 AreFor-rule m r old left e h = record {
   names = h.names;
   graph = h.graph;
-  room = h.room;
+  room = record { graph = h.room.graph; interests = h.room.interests };
   nodes = omega (arith, e, h.nodes, node_total-push m.rules r);
+  interests = h.interests;
+}
+
+-- ---- an element of interest more
+
+marked_set : (marks : List Bool) (ks : List ℕ) (element k : ℕ) → element < length marks → get_or marks k false ≡ list_any (λ j. j == k) ks → get_or (set marks element true) k false ≡ list_any (λ j. j == k) (ks ++ element ∷ [])
+marked_set marks ks element k l h =
+    let before = list_any (λ j. j == k) ks in
+    let now : list_any (λ j. j == k) (ks ++ element ∷ []) ≡ (before || ((element == k) || false)) = list_any-append (λ j. j == k) ks (element ∷ []) in
+    ⊎_elim
+    (λ same.
+    ap (λ i. get_or (set marks element true) i false) same
+    ∙ (get_or-set_same marks element true false l
+    ∙ sym (now ∙ or_right before ((element == k) || false) (or_left (element == k) false (eq-eqb element k (sym same))))))
+    (λ ne.
+    get_or-set_other marks element k true false ne
+    ∙ (h ∙ sym (now ∙ (ap (λ b. before || (b || false)) (ne_eqb element k (λ e. ne (sym e))) ∙ or-false before))))
+    (cases_eq k element)
+
+pub AreFor-interest : (m : Lists) (element : ℕ) (old : Aids) (marks : Vec Bool Global) → marks.items ≡ set old.interests.items element true → element < length old.interests.items → AreFor m old → AreFor (added m (statements.Interest element)) (record old { interests = marks })
+AreFor-interest m element old marks is l h = record {
+  names = h.names;
+  graph = h.graph;
+  room = record {
+    graph = h.room.graph;
+    interests = omega (arith, h.room.interests, ap (λ (bs : List Bool). length bs) is, length-set old.interests.items element true);
+  };
+  nodes = h.nodes;
+  interests = λ k. ap (λ (bs : List Bool). get_or bs k false) is ∙ marked_set old.interests.items m.interests element k l (h.interests k);
 }
 
 -- ---- the lists with the item, or as they were
 
-pub after_element : (ok : Bool) (m : Lists) (e : Element) (es : List Element) (aids : Aids) → es ≡ cond ok (m.elements ++ e ∷ []) m.elements → AreFor m aids → AreFor (added m (statements.Element e)) aids → AreFor (record m { elements = es }) aids
-after_element true m e es aids is before after = subst (λ xs. AreFor (record m { elements = xs }) aids) (sym is) after
-after_element false m e es aids is before after = subst (λ xs. AreFor (record m { elements = xs }) aids) (sym is) before
-
-pub after_refinement : (ok : Bool) (m : Lists) (r : Refinement) (rs : List Refinement) (aids : Aids) → rs ≡ cond ok (m.refinements ++ r ∷ []) m.refinements → AreFor m aids → AreFor (added m (statements.Refine r)) aids → AreFor (record m { refinements = rs }) aids
-after_refinement true m r rs aids is before after = subst (λ xs. AreFor (record m { refinements = xs }) aids) (sym is) after
-after_refinement false m r rs aids is before after = subst (λ xs. AreFor (record m { refinements = xs }) aids) (sym is) before
-
-pub after_variable : (ok : Bool) (m : Lists) (v : Variable) (vs : List Variable) (aids : Aids) → vs ≡ cond ok (m.vars ++ v ∷ []) m.vars → AreFor m aids → AreFor (added m (statements.Variable v)) aids → AreFor (record m { vars = vs }) aids
-after_variable true m v vs aids is before after = subst (λ xs. AreFor (record m { vars = xs }) aids) (sym is) after
-after_variable false m v vs aids is before after = subst (λ xs. AreFor (record m { vars = xs }) aids) (sym is) before
+pub after_push : {X : Type 0} (P : List X → Type 0) (ok : Bool) (xs : List X) (x : X) (new : List X) → new ≡ cond ok (xs ++ x ∷ []) xs → P xs → P (xs ++ x ∷ []) → P new
+after_push P true xs x new is before after = subst P (sym is) after
+after_push P false xs x new is before after = subst P (sym is) before
 
 -- a clause of a call that succeeded
 pub ok_clause : {T E : Type 0} (P : Type 0) (r : Result T E) → true ≡ is_ok r → OnOk r P → P
@@ -202,11 +281,13 @@ nothing_named : (q : List ℕ) (t : Thing) → ¬ IsNamed no_lists q t
 nothing_named q (things.Element k) e = none-some q e
 nothing_named q (things.Refinement k) e = none-some q e
 nothing_named q (things.Var k) e = none-some q e
+nothing_named q (things.Sum k) e = none-some q e
 
-pub AreFor-none : (aids : Aids) → IsIndexOf [] aids.graph → HasRoomFor 0 aids.graph → aids.node_room ≡ limit_number limits.FormulaNodes → AreFor no_lists aids
-AreFor-none aids graph room nodes = record {
+pub AreFor-none : (aids : Aids) → IsIndexOf [] aids.graph → HasRoomFor 0 aids.graph → aids.node_room ≡ limit_number limits.FormulaNodes → aids.interests.items ≡ [] → AreFor no_lists aids
+AreFor-none aids graph room nodes marks = record {
   names = λ q t e. absurd (nothing_named q t e);
   graph = graph;
-  room = room;
+  room = record { graph = room; interests = omega arith };
   nodes = omega (arith, nodes);
+  interests = λ k. ap (λ (bs : List Bool). get_or bs k false) marks;
 }

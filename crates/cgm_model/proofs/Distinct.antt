@@ -21,7 +21,15 @@ module _ {X : Type 0} (same : X → X → Bool) (swap : (x y : X) (b : Bool) →
       (λ later. and_right (not (list_any (λ y. same y k) (xs ++ x ∷ zs))) (are_distinct same (xs ++ x ∷ zs)) (repeated xs zs x later))
       (or_cases (same k x) (list_any (λ y. same y x) xs) e)
 
-  distinct_push : (xs : List X) (x : X) → are_distinct same xs ≡ true → list_any (λ y. same y x) xs ≡ false → are_distinct same (xs ++ x ∷ []) ≡ true
+  unmet_by : (xs zs : List X) (x : X) (met : Bool) → list_any (λ y. same y x) xs ≡ met → are_distinct same (xs ++ x ∷ zs) ≡ true → not met ≡ true
+  unmet_by xs zs x true e d = absurd (false≢true (sym (repeated xs zs x e) ∙ d))
+  unmet_by xs zs x false e d = refl
+
+  -- none of the items before it is the same
+  pub unmet : (xs zs : List X) (x : X) → are_distinct same (xs ++ x ∷ zs) ≡ true → not (list_any (λ y. same y x) xs) ≡ true
+  unmet xs zs x d = unmet_by xs zs x (list_any (λ y. same y x) xs) refl d
+
+  pub distinct_push : (xs : List X) (x : X) → are_distinct same xs ≡ true → list_any (λ y. same y x) xs ≡ false → are_distinct same (xs ++ x ∷ []) ≡ true
   distinct_push [] x d e = refl
   distinct_push (k ∷ xs) x d e =
       let parts = and_parts (not (list_any (λ y. same y k) xs)) (are_distinct same xs) d in

@@ -1,7 +1,7 @@
 -- Lists stay well formed where an allowed, proper statement is added.
-use Rattle.std.proofs.Common.{◌≡◌, ◌≢◌, ℕ, zero, suc, ◌<◌, ◌≤◌, ◌++◌, ◌+◌, Bool, true, false, cond, ◌&&◌, not, nat_le, nat_lt, IsTrue, List, [], ◌∷◌, None, Some, length, map, get_or, slice_get, refl, sym, ◌∙◌, ap, subst, All, arith}
+use Rattle.std.proofs.Common.{◌≡◌, ◌≢◌, ℕ, zero, suc, ◌<◌, ◌≤◌, ◌++◌, ◌+◌, ◌==◌, ℤ, Bool, true, false, cond, ◌&&◌, not, nat_le, IsTrue, List, [], ◌∷◌, Some, length, map, get_or, slice_get, refl, sym, ◌∙◌, ap, subst, All, arith}
 use Rattle.std.specs.Prelude.{unsigned_abs, int_le}
-use Rattle.std.specs.List.{AllPairs, list_any, list_all}
+use Rattle.std.specs.List.{AllPairs, list_any}
 use Rattle.std.specs.Str.{bytes_eq}
 use Rattle.std.proofs.lemmas.Bool.{and_parts, not-true, leb-true, ltb-true, both_ways}
 use Rattle.std.proofs.lemmas.Int.{ints}
@@ -22,59 +22,28 @@ use Rattle.cgm_model.specs.declared.lists.Element.{Element}
 use Rattle.cgm_model.specs.declared.lists.ElementKind.{ElementKind}
 use Rattle.cgm_model.specs.declared.lists.ElementKind.TheVariants as kinds
 use Rattle.cgm_model.specs.declared.lists.Lists.{Lists}
+use Rattle.cgm_model.specs.declared.lists.Objective.{Objective}
+use Rattle.cgm_model.specs.declared.lists.Preference.{Preference}
+use Rattle.cgm_model.specs.declared.lists.Quantity.{Quantity}
+use Rattle.cgm_model.specs.declared.lists.Quantity.TheVariants as quantities
 use Rattle.cgm_model.specs.declared.lists.Refinement.{Refinement}
 use Rattle.cgm_model.specs.declared.lists.Rule.{Rule}
 use Rattle.cgm_model.specs.declared.lists.Statement.{Statement}
 use Rattle.cgm_model.specs.declared.lists.Statement.TheVariants as statements
+use Rattle.cgm_model.specs.declared.lists.Sum.{Sum}
+use Rattle.cgm_model.specs.declared.lists.SumValue.{SumValue}
 use Rattle.cgm_model.specs.declared.lists.Variable.{Variable}
-use Rattle.cgm_model.specs.Formulas.{IsKnownTruth, IsKnownNumber, formula_of, condition_names, node_total}
+use Rattle.cgm_model.specs.declared.lists.Weighing.{Weighing}
+use Rattle.cgm_model.specs.Formulas.{IsKnownTruth, IsKnownNumber, formula_of, condition_names, is_small, node_total}
 use Rattle.cgm_model.specs.Graph.{IsAcyclic}
 use Rattle.cgm_model.specs.Lists.{added, statement_count, no_lists}
 use Rattle.cgm_model.specs.Name.{is_name}
-use Rattle.cgm_model.specs.Named.{names, element_names, refinement_names, variable_names}
-use Rattle.cgm_model.specs.Statement.{IsProper, IsAllowed, IsEdgeOf, declared_names, is_short, is_new, is_within, has_small_coefficients, has_small_bounds, has_ordered_bounds, has_distinct_terms_each, source_list, target_kind, is_task, is_assumption, is_distinct, refusal}
-use Rattle.cgm_model.proofs.Refusals.{all_pass}
-use Rattle.cgm_model.specs.WellFormed.{AreNames, IsElement, IsRefinement, IsVariable, IsAssertion, IsRule, AreWithinLimits, IsWellFormed}
-
--- ---- what the tests of an allowed statement told
-
-pub record Passes (m : Lists) (s : Statement) : Type 0 where
-  pub short : list_all is_short (declared_names s) ≡ true
-  pub spelled : list_all is_name (declared_names s) ≡ true
-  pub new : list_all (is_new m) (declared_names s) ≡ true
-  pub coefficients : has_small_coefficients s ≡ true
-  pub bounds : has_small_bounds s ≡ true
-  pub ordered : has_ordered_bounds s ≡ true
-  pub sources_distinct : is_distinct (source_list s) ≡ true
-  pub terms_distinct : has_distinct_terms_each s ≡ true
-  pub no_task : not (is_task (target_kind m s)) ≡ true
-  pub no_assumption : not (is_assumption (target_kind m s)) ≡ true
-  pub statements : nat_lt (statement_count m) (limit_number limits.Statements) ≡ true
-  pub elements : is_within (length (added m s).elements) limits.Elements ≡ true
-  pub refinements : is_within (length (added m s).refinements) limits.Refinements ≡ true
-  pub sources : is_within (length (source_list s)) limits.Sources ≡ true
-  pub nodes : is_within (node_total (added m s).rules) limits.FormulaNodes ≡ true
-
-pub Passes-allowed : (m : Lists) (s : Statement) → refusal m s true ≡ None → Passes m s
-Passes-allowed m s e =
-    let each = all_pass m s true e in
-    record {
-      short = each.0;
-      spelled = each.1.0;
-      new = each.1.1.0;
-      coefficients = each.1.1.1.0;
-      bounds = each.1.1.1.1.0;
-      ordered = each.1.1.1.1.1.0;
-      sources_distinct = each.1.1.1.1.1.1.0;
-      terms_distinct = each.1.1.1.1.1.1.1.0;
-      no_task = each.1.1.1.1.1.1.1.1.0;
-      no_assumption = each.1.1.1.1.1.1.1.1.1.0;
-      statements = each.1.1.1.1.1.1.1.1.1.1.1.0;
-      elements = each.1.1.1.1.1.1.1.1.1.1.1.1.0;
-      refinements = each.1.1.1.1.1.1.1.1.1.1.1.1.1.0;
-      sources = each.1.1.1.1.1.1.1.1.1.1.1.1.1.1.0;
-      nodes = each.1.1.1.1.1.1.1.1.1.1.1.1.1.1.1.0;
-    }
+use Rattle.cgm_model.specs.Named.{names, element_names, refinement_names, variable_names, sum_names}
+use Rattle.cgm_model.specs.Statement.{IsProper, IsAllowed, IsEdgeOf, IsPreference, IsKnownQuantity, is_short, is_task, is_assumption, is_distinct}
+use Rattle.cgm_model.specs.WellFormed.{AreNames, IsElement, IsRefinement, IsVariable, IsAssertion, IsValue, IsWeighing, IsRule, AreWithinLimits, IsWellFormed}
+use Rattle.cgm_model.proofs.Distinct.{distinct_push}
+use Rattle.cgm_model.proofs.Refusals.{Passes, Passes-none}
+use Rattle.cgm_model.proofs.Swaps.{eqb_swap}
 
 -- ---- lists with one more in the middle
 
@@ -132,35 +101,61 @@ keeps_names xs name zs old new is_old is_now short spelled absent h =
           (All-back (λ x. name ≢ x) xs zs other);
     })
 
-element_name_last : (m : Lists) (e : Element) → names (added m (statements.Element e)) ≡ element_names m ++ e.name ∷ (refinement_names m ++ variable_names m)
+element_name_last : (m : Lists) (e : Element) → names (added m (statements.Element e)) ≡ element_names m ++ e.name ∷ (refinement_names m ++ (variable_names m ++ sum_names m))
 element_name_last m e =
-    ap (λ xs. xs ++ (refinement_names m ++ variable_names m)) (map_push (λ (x : Element). x.name) m.elements e)
-    ∙ append_assoc (element_names m) (e.name ∷ []) (refinement_names m ++ variable_names m)
+    let later = refinement_names m ++ (variable_names m ++ sum_names m) in
+    ap (λ xs. xs ++ later) (map_push (λ (x : Element). x.name) m.elements e)
+    ∙ append_assoc (element_names m) (e.name ∷ []) later
 
-refinement_name_last : (m : Lists) (r : Refinement) → names (added m (statements.Refine r)) ≡ (element_names m ++ refinement_names m) ++ r.name ∷ variable_names m
+refinement_name_last : (m : Lists) (r : Refinement) → names (added m (statements.Refine r)) ≡ (element_names m ++ refinement_names m) ++ r.name ∷ (variable_names m ++ sum_names m)
 refinement_name_last m r =
-    ap (λ xs. element_names m ++ (xs ++ variable_names m)) (map_push (λ (x : Refinement). x.name) m.refinements r)
-    ∙ (ap (λ xs. element_names m ++ xs) (append_assoc (refinement_names m) (r.name ∷ []) (variable_names m))
-    ∙ sym (append_assoc (element_names m) (refinement_names m) (r.name ∷ variable_names m)))
+    let later = variable_names m ++ sum_names m in
+    ap (λ xs. element_names m ++ (xs ++ later)) (map_push (λ (x : Refinement). x.name) m.refinements r)
+    ∙ (ap (λ xs. element_names m ++ xs) (append_assoc (refinement_names m) (r.name ∷ []) later)
+    ∙ sym (append_assoc (element_names m) (refinement_names m) (r.name ∷ later)))
 
-variable_name_last : (m : Lists) (v : Variable) → names (added m (statements.Variable v)) ≡ names m ++ v.name ∷ []
+-- the names before the sums
+abbrev earlier_names : Lists → List (List ℕ)
+earlier_names m = element_names m ++ (refinement_names m ++ variable_names m)
+
+names_split : (xs ys zs ws : List (List ℕ)) → xs ++ (ys ++ (zs ++ ws)) ≡ (xs ++ (ys ++ zs)) ++ ws
+names_split xs ys zs ws =
+    ap (λ ns. xs ++ ns) (sym (append_assoc ys zs ws)) ∙ sym (append_assoc xs (ys ++ zs) ws)
+
+variable_name_last : (m : Lists) (v : Variable) → names (added m (statements.Variable v)) ≡ earlier_names m ++ v.name ∷ sum_names m
 variable_name_last m v =
-    ap (λ xs. element_names m ++ (refinement_names m ++ xs)) (map_push (λ (x : Variable). x.name) m.vars v)
-    ∙ (ap (λ xs. element_names m ++ xs) (sym (append_assoc (refinement_names m) (variable_names m) (v.name ∷ [])))
-    ∙ sym (append_assoc (element_names m) (refinement_names m ++ variable_names m) (v.name ∷ [])))
+    ap (λ xs. element_names m ++ (refinement_names m ++ (xs ++ sum_names m))) (map_push (λ (x : Variable). x.name) m.vars v)
+    ∙ (ap (λ xs. element_names m ++ (refinement_names m ++ xs)) (append_assoc (variable_names m) (v.name ∷ []) (sum_names m))
+    ∙ names_split (element_names m) (refinement_names m) (variable_names m) (v.name ∷ sum_names m))
 
-AreNames-added : (m : Lists) (s : Statement) → Passes m s → AreNames (names m) → AreNames (names (added m s))
+sum_name_last : (m : Lists) (x : Sum) → names (added m (statements.Sum x)) ≡ names m ++ x.name ∷ []
+sum_name_last m x =
+    let split = names_split (element_names m) (refinement_names m) (variable_names m) in
+    ap (λ xs. element_names m ++ (refinement_names m ++ (variable_names m ++ xs))) (map_push (λ (y : Sum). y.name) m.sums x)
+    ∙ (split (sum_names m ++ x.name ∷ [])
+    ∙ (sym (append_assoc (earlier_names m) (sum_names m) (x.name ∷ []))
+    ∙ ap (λ xs. xs ++ x.name ∷ []) (sym (split (sum_names m)))))
+
+AreNames-added : (m : Lists) (s : Statement) → Passes m s true → AreNames (names m) → AreNames (names (added m s))
 AreNames-added m (statements.Element e) p h =
-    keeps_names (element_names m) e.name (refinement_names m ++ variable_names m) (names m) (names (added m (statements.Element e))) refl (element_name_last m e) p.short p.spelled p.new h
+    keeps_names (element_names m) e.name (refinement_names m ++ (variable_names m ++ sum_names m)) (names m) (names (added m (statements.Element e))) refl (element_name_last m e) p.short p.spelled p.new h
 AreNames-added m (statements.Refine r) p h =
-    keeps_names (element_names m ++ refinement_names m) r.name (variable_names m) (names m) (names (added m (statements.Refine r))) (sym (append_assoc (element_names m) (refinement_names m) (variable_names m))) (refinement_name_last m r) p.short p.spelled p.new h
+    keeps_names (element_names m ++ refinement_names m) r.name (variable_names m ++ sum_names m) (names m) (names (added m (statements.Refine r))) (sym (append_assoc (element_names m) (refinement_names m) (variable_names m ++ sum_names m))) (refinement_name_last m r) p.short p.spelled p.new h
 AreNames-added m (statements.Variable v) p h =
-    keeps_names (names m) v.name [] (names m) (names (added m (statements.Variable v))) (sym (append-nil (names m))) (variable_name_last m v) p.short p.spelled p.new h
+    keeps_names (earlier_names m) v.name (sum_names m) (names m) (names (added m (statements.Variable v))) (names_split (element_names m) (refinement_names m) (variable_names m) (sum_names m)) (variable_name_last m v) p.short p.spelled p.new h
+AreNames-added m (statements.Sum x) p h =
+    keeps_names (names m) x.name [] (names m) (names (added m (statements.Sum x))) (sym (append-nil (names m))) (sum_name_last m x) p.short p.spelled p.new h
 AreNames-added m (statements.Contrib e) p h = h
 AreNames-added m (statements.Conflict e) p h = h
 AreNames-added m (statements.Bind e) p h = h
 AreNames-added m (statements.Assert a) p h = h
+AreNames-added m (statements.Value v) p h = h
+AreNames-added m (statements.Reward w) p h = h
+AreNames-added m (statements.Penalty w) p h = h
+AreNames-added m (statements.Prefer e) p h = h
 AreNames-added m (statements.Rule r) p h = h
+AreNames-added m (statements.Interest k) p h = h
+AreNames-added m (statements.Objective o) p h = h
 
 -- ---- what was there before is there still
 
@@ -172,96 +167,144 @@ slice_get-append_left (y ∷ xs) ys (suc k) x e = slice_get-append_left xs ys k 
 abbrev kinds_of : Lists → List ElementKind
 kinds_of m = map (λ (e : Element). e.kind) m.elements
 
-record Extends (old new : Lists) : Type 0 where
-  kinds : (k : ℕ) → slice_get (kinds_of old) k ≡ Some kinds.Goal → slice_get (kinds_of new) k ≡ Some kinds.Goal
-  elements : length old.elements ≤ length new.elements
-  refinements : length old.refinements ≤ length new.refinements
-  vars : length old.vars ≤ length new.vars
+-- what statements can name: the kinds of the elements, and how many there are of each thing
+record Things : Type 0 where
+  kinds : List ElementKind
+  elements : ℕ
+  refinements : ℕ
+  vars : ℕ
+  sums : ℕ
 
-Extends-added : (m : Lists) (s : Statement) → Extends m (added m s)
+abbrev things_of : Lists → Things
+things_of m = record {
+  kinds = kinds_of m;
+  elements = length m.elements;
+  refinements = length m.refinements;
+  vars = length m.vars;
+  sums = length m.sums;
+}
+
+record Extends (old new : Things) : Type 0 where
+  kinds : (k : ℕ) → slice_get old.kinds k ≡ Some kinds.Goal → slice_get new.kinds k ≡ Some kinds.Goal
+  elements : old.elements ≤ new.elements
+  refinements : old.refinements ≤ new.refinements
+  vars : old.vars ≤ new.vars
+  sums : old.sums ≤ new.sums
+
+Extends-same : (things : Things) → Extends things things
+Extends-same things = record {
+  kinds = λ k is. is;
+  elements = omega arith;
+  refinements = omega arith;
+  vars = omega arith;
+  sums = omega arith;
+}
+
+Extends-added : (m : Lists) (s : Statement) → Extends (things_of m) (things_of (added m s))
 Extends-added m (statements.Element e) = record {
   kinds = λ k is. rw (map_push (λ (x : Element). x.kind) m.elements e) (slice_get-append_left (kinds_of m) (e.kind ∷ []) k kinds.Goal is);
   elements = omega (arith, length_push m.elements e);
   refinements = omega arith;
   vars = omega arith;
+  sums = omega arith;
 }
 Extends-added m (statements.Refine r) = record {
   kinds = λ k is. is;
   elements = omega arith;
   refinements = omega (arith, length_push m.refinements r);
   vars = omega arith;
+  sums = omega arith;
 }
 Extends-added m (statements.Variable v) = record {
   kinds = λ k is. is;
   elements = omega arith;
   refinements = omega arith;
   vars = omega (arith, length_push m.vars v);
+  sums = omega arith;
 }
-Extends-added m (statements.Contrib e) = record {
+Extends-added m (statements.Sum x) = record {
   kinds = λ k is. is;
   elements = omega arith;
   refinements = omega arith;
   vars = omega arith;
+  sums = omega (arith, length_push m.sums x);
 }
-Extends-added m (statements.Conflict e) = record {
-  kinds = λ k is. is;
-  elements = omega arith;
-  refinements = omega arith;
-  vars = omega arith;
-}
-Extends-added m (statements.Bind e) = record {
-  kinds = λ k is. is;
-  elements = omega arith;
-  refinements = omega arith;
-  vars = omega arith;
-}
-Extends-added m (statements.Assert a) = record {
-  kinds = λ k is. is;
-  elements = omega arith;
-  refinements = omega arith;
-  vars = omega arith;
-}
-Extends-added m (statements.Rule r) = record {
-  kinds = λ k is. is;
-  elements = omega arith;
-  refinements = omega arith;
-  vars = omega arith;
-}
+Extends-added m (statements.Contrib e) = Extends-same (things_of m)
+Extends-added m (statements.Conflict e) = Extends-same (things_of m)
+Extends-added m (statements.Bind e) = Extends-same (things_of m)
+Extends-added m (statements.Assert a) = Extends-same (things_of m)
+Extends-added m (statements.Value v) = Extends-same (things_of m)
+Extends-added m (statements.Reward w) = Extends-same (things_of m)
+Extends-added m (statements.Penalty w) = Extends-same (things_of m)
+Extends-added m (statements.Prefer p) = Extends-same (things_of m)
+Extends-added m (statements.Rule r) = Extends-same (things_of m)
+Extends-added m (statements.Interest k) = Extends-same (things_of m)
+Extends-added m (statements.Objective o) = Extends-same (things_of m)
 
-IsKnownTruth-kept : (old new : Lists) → Extends old new → (name : Truth) → IsKnownTruth old name → IsKnownTruth new name
-IsKnownTruth-kept old new x (truth.Element k) h = omega (arith, x.elements)
-IsKnownTruth-kept old new x (truth.Refinement k) h = omega (arith, x.refinements)
+module _ (old new : Lists) (x : Extends (things_of old) (things_of new)) where
+  IsKnownTruth-kept : (name : Truth) → IsKnownTruth old name → IsKnownTruth new name
+  IsKnownTruth-kept (truth.Element k) h = omega (arith, x.elements)
+  IsKnownTruth-kept (truth.Refinement k) h = omega (arith, x.refinements)
 
-IsKnownNumber-kept : (old new : Lists) → Extends old new → (of : Number) → IsKnownNumber old of → IsKnownNumber new of
-IsKnownNumber-kept old new x (number.Var k) h = omega (arith, x.vars)
-IsKnownNumber-kept old new x (number.Sum k) h = h
+  IsKnownNumber-kept : (of : Number) → IsKnownNumber old of → IsKnownNumber new of
+  IsKnownNumber-kept (number.Var k) h = omega (arith, x.vars)
+  IsKnownNumber-kept (number.Sum k) h = omega (arith, x.sums)
 
-IsRefinement-kept : (old new : Lists) → Extends old new → (r : Refinement) → IsRefinement old r → IsRefinement new r
-IsRefinement-kept old new x r h = record {
-  target = x.kinds r.target h.target;
-  known = λ k d l. let less = h.known k d l in omega (arith, x.elements);
-  there = h.there;
-  few = h.few;
-  distinct = h.distinct;
-}
+  IsKnownQuantity-kept : (of : Quantity) → IsKnownQuantity old of → IsKnownQuantity new of
+  IsKnownQuantity-kept (quantities.Var k) h = omega (arith, x.vars)
+  IsKnownQuantity-kept (quantities.Sum k) h = omega (arith, x.sums)
+  IsKnownQuantity-kept quantities.Weight h = h
+  IsKnownQuantity-kept quantities.UnsatPrefs h = h
+  IsKnownQuantity-kept quantities.UnsatReqs h = h
+  IsKnownQuantity-kept quantities.SatTasks h = h
+  IsKnownQuantity-kept quantities.Familiarity h = h
+  IsKnownQuantity-kept quantities.Effort h = h
 
-IsRule-kept : (old new : Lists) → Extends old new → (r : Rule) → IsRule old r → IsRule new r
-IsRule-kept old new x r h = record {
-  proper = record {
-    condition = λ k d l. IsKnownTruth-kept old new x (get_or (condition_names r) k d) (h.proper.condition k d l);
-    formula = record {
-      names = λ k d l. IsKnownTruth-kept old new x (get_or (nodes.names (formula_of r)) k d) (h.proper.formula.names k d l);
-      numbers = λ k d l j e m. IsKnownNumber-kept old new x (get_or (get_or (nodes.comparisons (formula_of r)) k d).0.terms j e).1 (h.proper.formula.numbers k d l j e m);
-      full = h.proper.formula.full;
-      depth = h.proper.formula.depth;
+  IsRefinement-kept : (r : Refinement) → IsRefinement old r → IsRefinement new r
+  IsRefinement-kept r h = record {
+    target = x.kinds r.target h.target;
+    known = λ k d l. let less = h.known k d l in omega (arith, x.elements);
+    there = h.there;
+    few = h.few;
+    distinct = h.distinct;
+  }
+
+  IsValue-kept : (v : SumValue) → IsValue old v → IsValue new v
+  IsValue-kept v h = record {
+    sum = omega (arith, h.sum, x.sums);
+    of = IsKnownTruth-kept v.of h.of;
+    small = h.small;
+  }
+
+  IsWeighing-kept : (w : Weighing) → IsWeighing old w → IsWeighing new w
+  IsWeighing-kept w h = record {
+    element = omega (arith, h.element, x.elements);
+    small = h.small;
+  }
+
+  IsPreference-kept : (p : Preference) → IsPreference old p → IsPreference new p
+  IsPreference-kept p h = (IsKnownTruth-kept p.better h.0, IsKnownTruth-kept p.worse h.1)
+
+  IsRule-kept : (r : Rule) → IsRule old r → IsRule new r
+  IsRule-kept r h = record {
+    proper = record {
+      condition = λ k d l. IsKnownTruth-kept (get_or (condition_names r) k d) (h.proper.condition k d l);
+      formula = record {
+        names = λ k d l. IsKnownTruth-kept (get_or (nodes.names (formula_of r)) k d) (h.proper.formula.names k d l);
+        numbers = λ k d l j e m. IsKnownNumber-kept (get_or (get_or (nodes.comparisons (formula_of r)) k d).0.terms j e).1 (h.proper.formula.numbers k d l j e m);
+        full = h.proper.formula.full;
+        depth = h.proper.formula.depth;
+      };
     };
-  };
-  small = h.small;
-  distinct = h.distinct;
-}
+    small = h.small;
+    distinct = h.distinct;
+  }
 
-IsEdgeOf-kept : (count more : ℕ) → count ≤ more → (e : Edge) → IsEdgeOf count e → IsEdgeOf more e
-IsEdgeOf-kept count more l e h = (omega (arith, h.0), omega (arith, h.1))
+  IsElementEdge-kept : (e : Edge) → IsEdgeOf (length old.elements) e → IsEdgeOf (length new.elements) e
+  IsElementEdge-kept e h = (omega (arith, h.0, x.elements), omega (arith, h.1, x.elements))
+
+  IsRefinementEdge-kept : (e : Edge) → IsEdgeOf (length old.refinements) e → IsEdgeOf (length new.refinements) e
+  IsRefinementEdge-kept e h = (omega (arith, h.0, x.refinements), omega (arith, h.1, x.refinements))
 
 -- ---- the groups of the second lists, as the first lists see them
 
@@ -273,126 +316,119 @@ record AreGroups (ctx m : Lists) : Type 0 where
   conflicts : All (IsEdgeOf (length ctx.elements)) m.conflicts
   binds : All (IsEdgeOf (length ctx.refinements)) m.binds
   asserts : All (IsAssertion ctx) m.asserts
+  values : All (IsValue ctx) m.values
+  rewards : All (IsWeighing ctx) m.rewards
+  penalties : All (IsWeighing ctx) m.penalties
+  prefers : All (IsPreference ctx) m.prefers
   rules : All (IsRule ctx) m.rules
+  interests : All (λ k. k < length ctx.elements) m.interests
+  distinct_interests : IsTrue (is_distinct m.interests)
+  objectives : All (λ o. IsKnownQuantity ctx o.of) m.objectives
 
-AreGroups-kept : (old new m : Lists) → Extends old new → AreGroups old m → AreGroups new m
+AreGroups-kept : (old new m : Lists) → Extends (things_of old) (things_of new) → AreGroups old m → AreGroups new m
 AreGroups-kept old new m x g = record {
   elements = g.elements;
   refinements = λ k d l. IsRefinement-kept old new x (get_or m.refinements k d) (g.refinements k d l);
   vars = g.vars;
-  contribs = λ k d l. IsEdgeOf-kept (length old.elements) (length new.elements) x.elements (get_or m.contribs k d) (g.contribs k d l);
-  conflicts = λ k d l. IsEdgeOf-kept (length old.elements) (length new.elements) x.elements (get_or m.conflicts k d) (g.conflicts k d l);
-  binds = λ k d l. IsEdgeOf-kept (length old.refinements) (length new.refinements) x.refinements (get_or m.binds k d) (g.binds k d l);
+  contribs = λ k d l. IsElementEdge-kept old new x (get_or m.contribs k d) (g.contribs k d l);
+  conflicts = λ k d l. IsElementEdge-kept old new x (get_or m.conflicts k d) (g.conflicts k d l);
+  binds = λ k d l. IsRefinementEdge-kept old new x (get_or m.binds k d) (g.binds k d l);
   asserts = λ k d l. let less = g.asserts k d l in omega (arith, x.elements);
+  values = λ k d l. IsValue-kept old new x (get_or m.values k d) (g.values k d l);
+  rewards = λ k d l. IsWeighing-kept old new x (get_or m.rewards k d) (g.rewards k d l);
+  penalties = λ k d l. IsWeighing-kept old new x (get_or m.penalties k d) (g.penalties k d l);
+  prefers = λ k d l. IsPreference-kept old new x (get_or m.prefers k d) (g.prefers k d l);
   rules = λ k d l. IsRule-kept old new x (get_or m.rules k d) (g.rules k d l);
+  interests = λ k d l. let less = g.interests k d l in omega (arith, x.elements);
+  distinct_interests = g.distinct_interests;
+  objectives = λ k d l. IsKnownQuantity-kept old new x (get_or m.objectives k d).of (g.objectives k d l);
 }
 
--- the statement is one of its kind
-abbrev IsNew : Lists → Statement → Type 0
-IsNew ctx (statements.Element e) = IsElement e
-IsNew ctx (statements.Refine r) = IsRefinement ctx r
-IsNew ctx (statements.Variable v) = IsVariable v
-IsNew ctx (statements.Contrib e) = IsEdgeOf (length ctx.elements) e
-IsNew ctx (statements.Conflict e) = IsEdgeOf (length ctx.elements) e
-IsNew ctx (statements.Bind e) = IsEdgeOf (length ctx.refinements) e
-IsNew ctx (statements.Assert a) = IsAssertion ctx a
-IsNew ctx (statements.Rule r) = IsRule ctx r
+-- the statement is one of its kind, and one more beside the others
+abbrev IsNew : Lists → Lists → Statement → Type 0
+IsNew ctx m (statements.Element e) = IsElement e
+IsNew ctx m (statements.Refine r) = IsRefinement ctx r
+IsNew ctx m (statements.Variable v) = IsVariable v
+IsNew ctx m (statements.Sum x) = Unit {0}
+IsNew ctx m (statements.Contrib e) = IsEdgeOf (length ctx.elements) e
+IsNew ctx m (statements.Conflict e) = IsEdgeOf (length ctx.elements) e
+IsNew ctx m (statements.Bind e) = IsEdgeOf (length ctx.refinements) e
+IsNew ctx m (statements.Assert a) = IsAssertion ctx a
+IsNew ctx m (statements.Value v) = IsValue ctx v
+IsNew ctx m (statements.Reward w) = IsWeighing ctx w
+IsNew ctx m (statements.Penalty w) = IsWeighing ctx w
+IsNew ctx m (statements.Prefer p) = IsPreference ctx p
+IsNew ctx m (statements.Rule r) = IsRule ctx r
+IsNew ctx m (statements.Interest k) = (k < length ctx.elements) × (list_any (λ j. j == k) m.interests ≡ false)
+IsNew ctx m (statements.Objective o) = IsKnownQuantity ctx o.of
 
-AreGroups-added : (ctx m : Lists) (s : Statement) → AreGroups ctx m → IsNew ctx s → AreGroups ctx (added m s)
-AreGroups-added ctx m (statements.Element e) g n = record {
-  elements = All-push (IsElement) m.elements e g.elements n;
-  refinements = g.refinements;
-  vars = g.vars;
-  contribs = g.contribs;
-  conflicts = g.conflicts;
-  binds = g.binds;
-  asserts = g.asserts;
-  rules = g.rules;
+groups : (ctx m : Lists) → All (IsElement) m.elements → All (IsRefinement ctx) m.refinements → All (IsVariable) m.vars → All (IsEdgeOf (length ctx.elements)) m.contribs → All (IsEdgeOf (length ctx.elements)) m.conflicts → All (IsEdgeOf (length ctx.refinements)) m.binds → All (IsAssertion ctx) m.asserts → All (IsValue ctx) m.values → All (IsWeighing ctx) m.rewards → All (IsWeighing ctx) m.penalties → All (IsPreference ctx) m.prefers → All (IsRule ctx) m.rules → All (λ k. k < length ctx.elements) m.interests → IsTrue (is_distinct m.interests) → All (λ o. IsKnownQuantity ctx o.of) m.objectives → AreGroups ctx m
+groups ctx m elements refinements vars contribs conflicts binds asserts values rewards penalties prefers rules interests distinct_interests objectives = record {
+  elements = elements;
+  refinements = refinements;
+  vars = vars;
+  contribs = contribs;
+  conflicts = conflicts;
+  binds = binds;
+  asserts = asserts;
+  values = values;
+  rewards = rewards;
+  penalties = penalties;
+  prefers = prefers;
+  rules = rules;
+  interests = interests;
+  distinct_interests = distinct_interests;
+  objectives = objectives;
 }
-AreGroups-added ctx m (statements.Refine r) g n = record {
-  elements = g.elements;
-  refinements = All-push (IsRefinement ctx) m.refinements r g.refinements n;
-  vars = g.vars;
-  contribs = g.contribs;
-  conflicts = g.conflicts;
-  binds = g.binds;
-  asserts = g.asserts;
-  rules = g.rules;
-}
-AreGroups-added ctx m (statements.Variable v) g n = record {
-  elements = g.elements;
-  refinements = g.refinements;
-  vars = All-push (IsVariable) m.vars v g.vars n;
-  contribs = g.contribs;
-  conflicts = g.conflicts;
-  binds = g.binds;
-  asserts = g.asserts;
-  rules = g.rules;
-}
-AreGroups-added ctx m (statements.Contrib e) g n = record {
-  elements = g.elements;
-  refinements = g.refinements;
-  vars = g.vars;
-  contribs = All-push (IsEdgeOf (length ctx.elements)) m.contribs e g.contribs n;
-  conflicts = g.conflicts;
-  binds = g.binds;
-  asserts = g.asserts;
-  rules = g.rules;
-}
-AreGroups-added ctx m (statements.Conflict e) g n = record {
-  elements = g.elements;
-  refinements = g.refinements;
-  vars = g.vars;
-  contribs = g.contribs;
-  conflicts = All-push (IsEdgeOf (length ctx.elements)) m.conflicts e g.conflicts n;
-  binds = g.binds;
-  asserts = g.asserts;
-  rules = g.rules;
-}
-AreGroups-added ctx m (statements.Bind e) g n = record {
-  elements = g.elements;
-  refinements = g.refinements;
-  vars = g.vars;
-  contribs = g.contribs;
-  conflicts = g.conflicts;
-  binds = All-push (IsEdgeOf (length ctx.refinements)) m.binds e g.binds n;
-  asserts = g.asserts;
-  rules = g.rules;
-}
-AreGroups-added ctx m (statements.Assert a) g n = record {
-  elements = g.elements;
-  refinements = g.refinements;
-  vars = g.vars;
-  contribs = g.contribs;
-  conflicts = g.conflicts;
-  binds = g.binds;
-  asserts = All-push (IsAssertion ctx) m.asserts a g.asserts n;
-  rules = g.rules;
-}
-AreGroups-added ctx m (statements.Rule r) g n = record {
-  elements = g.elements;
-  refinements = g.refinements;
-  vars = g.vars;
-  contribs = g.contribs;
-  conflicts = g.conflicts;
-  binds = g.binds;
-  asserts = g.asserts;
-  rules = All-push (IsRule ctx) m.rules r g.rules n;
-}
+
+AreGroups-added : (ctx m : Lists) (s : Statement) → AreGroups ctx m → IsNew ctx m s → AreGroups ctx (added m s)
+AreGroups-added ctx m (statements.Element e) g n =
+    groups ctx (added m (statements.Element e)) (All-push (IsElement) m.elements e g.elements n) g.refinements g.vars g.contribs g.conflicts g.binds g.asserts g.values g.rewards g.penalties g.prefers g.rules g.interests g.distinct_interests g.objectives
+AreGroups-added ctx m (statements.Refine r) g n =
+    groups ctx (added m (statements.Refine r)) g.elements (All-push (IsRefinement ctx) m.refinements r g.refinements n) g.vars g.contribs g.conflicts g.binds g.asserts g.values g.rewards g.penalties g.prefers g.rules g.interests g.distinct_interests g.objectives
+AreGroups-added ctx m (statements.Variable v) g n =
+    groups ctx (added m (statements.Variable v)) g.elements g.refinements (All-push (IsVariable) m.vars v g.vars n) g.contribs g.conflicts g.binds g.asserts g.values g.rewards g.penalties g.prefers g.rules g.interests g.distinct_interests g.objectives
+AreGroups-added ctx m (statements.Sum x) g n =
+    groups ctx (added m (statements.Sum x)) g.elements g.refinements g.vars g.contribs g.conflicts g.binds g.asserts g.values g.rewards g.penalties g.prefers g.rules g.interests g.distinct_interests g.objectives
+AreGroups-added ctx m (statements.Contrib e) g n =
+    groups ctx (added m (statements.Contrib e)) g.elements g.refinements g.vars (All-push (IsEdgeOf (length ctx.elements)) m.contribs e g.contribs n) g.conflicts g.binds g.asserts g.values g.rewards g.penalties g.prefers g.rules g.interests g.distinct_interests g.objectives
+AreGroups-added ctx m (statements.Conflict e) g n =
+    groups ctx (added m (statements.Conflict e)) g.elements g.refinements g.vars g.contribs (All-push (IsEdgeOf (length ctx.elements)) m.conflicts e g.conflicts n) g.binds g.asserts g.values g.rewards g.penalties g.prefers g.rules g.interests g.distinct_interests g.objectives
+AreGroups-added ctx m (statements.Bind e) g n =
+    groups ctx (added m (statements.Bind e)) g.elements g.refinements g.vars g.contribs g.conflicts (All-push (IsEdgeOf (length ctx.refinements)) m.binds e g.binds n) g.asserts g.values g.rewards g.penalties g.prefers g.rules g.interests g.distinct_interests g.objectives
+AreGroups-added ctx m (statements.Assert a) g n =
+    groups ctx (added m (statements.Assert a)) g.elements g.refinements g.vars g.contribs g.conflicts g.binds (All-push (IsAssertion ctx) m.asserts a g.asserts n) g.values g.rewards g.penalties g.prefers g.rules g.interests g.distinct_interests g.objectives
+AreGroups-added ctx m (statements.Value v) g n =
+    groups ctx (added m (statements.Value v)) g.elements g.refinements g.vars g.contribs g.conflicts g.binds g.asserts (All-push (IsValue ctx) m.values v g.values n) g.rewards g.penalties g.prefers g.rules g.interests g.distinct_interests g.objectives
+AreGroups-added ctx m (statements.Reward w) g n =
+    groups ctx (added m (statements.Reward w)) g.elements g.refinements g.vars g.contribs g.conflicts g.binds g.asserts g.values (All-push (IsWeighing ctx) m.rewards w g.rewards n) g.penalties g.prefers g.rules g.interests g.distinct_interests g.objectives
+AreGroups-added ctx m (statements.Penalty w) g n =
+    groups ctx (added m (statements.Penalty w)) g.elements g.refinements g.vars g.contribs g.conflicts g.binds g.asserts g.values g.rewards (All-push (IsWeighing ctx) m.penalties w g.penalties n) g.prefers g.rules g.interests g.distinct_interests g.objectives
+AreGroups-added ctx m (statements.Prefer p) g n =
+    groups ctx (added m (statements.Prefer p)) g.elements g.refinements g.vars g.contribs g.conflicts g.binds g.asserts g.values g.rewards g.penalties (All-push (IsPreference ctx) m.prefers p g.prefers n) g.rules g.interests g.distinct_interests g.objectives
+AreGroups-added ctx m (statements.Rule r) g n =
+    groups ctx (added m (statements.Rule r)) g.elements g.refinements g.vars g.contribs g.conflicts g.binds g.asserts g.values g.rewards g.penalties g.prefers (All-push (IsRule ctx) m.rules r g.rules n) g.interests g.distinct_interests g.objectives
+AreGroups-added ctx m (statements.Interest k) g n =
+    groups ctx (added m (statements.Interest k)) g.elements g.refinements g.vars g.contribs g.conflicts g.binds g.asserts g.values g.rewards g.penalties g.prefers g.rules (All-push (λ j. j < length ctx.elements) m.interests k g.interests n.0) (distinct_push (λ y x. y == x) eqb_swap m.interests k g.distinct_interests n.1) g.objectives
+AreGroups-added ctx m (statements.Objective o) g n =
+    groups ctx (added m (statements.Objective o)) g.elements g.refinements g.vars g.contribs g.conflicts g.binds g.asserts g.values g.rewards g.penalties g.prefers g.rules g.interests g.distinct_interests (All-push (λ (p : Objective). IsKnownQuantity ctx p.of) m.objectives o g.objectives n)
 
 goal_kind : (kind : ElementKind) → not (is_task (Some kind)) ≡ true → not (is_assumption (Some kind)) ≡ true → Some kind ≡ Some kinds.Goal
 goal_kind kinds.Goal task assumption = refl
 goal_kind kinds.Task task assumption = absurd cc
 goal_kind kinds.Assume task assumption = absurd cc
 
-target_goal : (m : Lists) (r : Refinement) → r.target < length m.elements → Passes m (statements.Refine r) → slice_get (kinds_of m) r.target ≡ Some kinds.Goal
+target_goal : (m : Lists) (r : Refinement) → r.target < length m.elements → Passes m (statements.Refine r) true → slice_get (kinds_of m) r.target ≡ Some kinds.Goal
 target_goal m r l p =
     let xs : List ElementKind = kinds_of m in
     let at : slice_get xs r.target ≡ Some (get_or xs r.target kinds.Goal) = slice_get-get_or xs r.target kinds.Goal (omega (arith, length-map m.elements (λ (x : Element). x.kind))) in
     at
     ∙ goal_kind (get_or xs r.target kinds.Goal) (rw at at p.no_task) (rw at at p.no_assumption)
 
-IsNew-passed : (m : Lists) (s : Statement) → IsProper m s → Passes m s → IsNew m s
+small_number : (k : ℤ) → is_small k ≡ true → unsigned_abs k ≤ limit_number limits.Coefficient
+small_number k e = leb-true (unsigned_abs k) (limit_number limits.Coefficient) e
+
+IsNew-passed : (m : Lists) (s : Statement) → IsProper m s → Passes m s true → IsNew m m s
 IsNew-passed m (statements.Element e) proper p = proper
 IsNew-passed m (statements.Refine r) proper p = record {
   target = target_goal m r proper.0 p;
@@ -409,15 +445,27 @@ IsNew-passed m (statements.Variable v) proper p =
       high = leb-true (unsigned_abs v.hi) (limit_number limits.VariableBound) both.1;
       ordered = omega (arith, ints, in_order);
     }
+IsNew-passed m (statements.Sum x) proper p = tt
 IsNew-passed m (statements.Contrib e) proper p = proper
 IsNew-passed m (statements.Conflict e) proper p = proper
 IsNew-passed m (statements.Bind e) proper p = proper
 IsNew-passed m (statements.Assert a) proper p = proper
+IsNew-passed m (statements.Value v) proper p = record {
+  sum = proper.0;
+  of = proper.1;
+  small = small_number v.k p.coefficients;
+}
+IsNew-passed m (statements.Reward w) proper p = record { element = proper; small = small_number w.k p.coefficients }
+IsNew-passed m (statements.Penalty w) proper p = record { element = proper; small = small_number w.k p.coefficients }
+IsNew-passed m (statements.Prefer e) proper p = proper
 IsNew-passed m (statements.Rule r) proper p = record {
   proper = proper;
   small = p.coefficients;
   distinct = p.terms_distinct;
 }
+IsNew-passed m (statements.Interest k) proper p =
+    (proper, not-true (list_any (λ j. j == k) m.interests) p.interest)
+IsNew-passed m (statements.Objective o) proper p = proper
 
 -- ---- the whole
 
@@ -425,11 +473,18 @@ pub statement_count-added : (m : Lists) (s : Statement) → statement_count (add
 statement_count-added m (statements.Element e) = omega (arith, length_push m.elements e)
 statement_count-added m (statements.Refine r) = omega (arith, length_push m.refinements r)
 statement_count-added m (statements.Variable v) = omega (arith, length_push m.vars v)
+statement_count-added m (statements.Sum x) = omega (arith, length_push m.sums x)
 statement_count-added m (statements.Contrib e) = omega (arith, length_push m.contribs e)
 statement_count-added m (statements.Conflict e) = omega (arith, length_push m.conflicts e)
 statement_count-added m (statements.Bind e) = omega (arith, length_push m.binds e)
 statement_count-added m (statements.Assert a) = omega (arith, length_push m.asserts a)
+statement_count-added m (statements.Value v) = omega (arith, length_push m.values v)
+statement_count-added m (statements.Reward w) = omega (arith, length_push m.rewards w)
+statement_count-added m (statements.Penalty w) = omega (arith, length_push m.penalties w)
+statement_count-added m (statements.Prefer p) = omega (arith, length_push m.prefers p)
 statement_count-added m (statements.Rule r) = omega (arith, length_push m.rules r)
+statement_count-added m (statements.Interest k) = omega (arith, length_push m.interests k)
+statement_count-added m (statements.Objective o) = omega (arith, length_push m.objectives o)
 
 AreGroups-of : (m : Lists) → IsWellFormed m → AreGroups m m
 AreGroups-of m w = record {
@@ -440,7 +495,14 @@ AreGroups-of m w = record {
   conflicts = w.conflicts;
   binds = w.binds;
   asserts = w.asserts;
+  values = w.values;
+  rewards = w.rewards;
+  penalties = w.penalties;
+  prefers = w.prefers;
   rules = w.rules;
+  interests = w.interests;
+  distinct_interests = w.distinct_interests;
+  objectives = w.objectives;
 }
 
 IsWellFormed-groups : (m : Lists) → AreGroups m m → AreNames (names m) → IsAcyclic m.refinements → AreWithinLimits m → IsWellFormed m
@@ -448,19 +510,26 @@ IsWellFormed-groups m g n acyclic within = record {
   names = n;
   elements = g.elements;
   refinements = g.refinements;
+  acyclic = acyclic;
   vars = g.vars;
   contribs = g.contribs;
   conflicts = g.conflicts;
   binds = g.binds;
   asserts = g.asserts;
+  values = g.values;
+  rewards = g.rewards;
+  penalties = g.penalties;
+  prefers = g.prefers;
   rules = g.rules;
-  acyclic = acyclic;
+  interests = g.interests;
+  distinct_interests = g.distinct_interests;
+  objectives = g.objectives;
   limits = within;
 }
 
 pub IsWellFormed-added : (m : Lists) (s : Statement) → IsWellFormed m → IsProper m s → IsAllowed m s → IsWellFormed (added m s)
 IsWellFormed-added m s w proper allowed =
-    let p = Passes-allowed m s allowed.passes in
+    let p = Passes-none m s true allowed.passes in
     let new = added m s in
     let groups = AreGroups-added m m s (AreGroups-of m w) (IsNew-passed m s proper p) in
     IsWellFormed-groups new (AreGroups-kept m new new (Extends-added m s) groups) (AreNames-added m s p w.names) allowed.acyclic
@@ -469,6 +538,7 @@ IsWellFormed-added m s w proper allowed =
       elements = leb-true (length new.elements) (limit_number limits.Elements) p.elements;
       refinements = leb-true (length new.refinements) (limit_number limits.Refinements) p.refinements;
       formula_nodes = leb-true (node_total new.rules) (limit_number limits.FormulaNodes) p.nodes;
+      objectives = leb-true (length new.objectives) (limit_number limits.Objectives) p.objectives;
     })
 
 pub IsWellFormed-none : IsWellFormed no_lists
@@ -485,13 +555,21 @@ IsWellFormed-none = record {
   conflicts = λ k d l. absurd (omega arith);
   binds = λ k d l. absurd (omega arith);
   asserts = λ k d l. absurd (omega arith);
+  values = λ k d l. absurd (omega arith);
+  rewards = λ k d l. absurd (omega arith);
+  penalties = λ k d l. absurd (omega arith);
+  prefers = λ k d l. absurd (omega arith);
   rules = λ k d l. absurd (omega arith);
+  interests = λ k d l. absurd (omega arith);
+  distinct_interests = refl;
+  objectives = λ k d l. absurd (omega arith);
   acyclic = ((λ x. x), λ k d l. absurd (omega arith));
   limits = record {
     statements = omega arith;
     elements = omega arith;
     refinements = omega arith;
     formula_nodes = omega arith;
+    objectives = omega arith;
   };
 }
 

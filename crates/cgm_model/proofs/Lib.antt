@@ -1,5 +1,6 @@
 pub mod Aiding
 pub mod Canon
+pub mod Counting
 pub mod Cycles
 pub mod Distinct
 pub mod Entries
@@ -12,6 +13,7 @@ pub mod Meeting
 pub mod Places
 pub mod Refusals
 pub mod Rules
+pub mod Sizes
 pub mod Swaps
 pub mod Targets
 pub mod Verdicts

@@ -11,7 +11,7 @@ use Rattle.std.proofs.lemmas.Slice.Eq.{bytes_eq-Decides}
 use Rattle.cgm_model.specs.declared.lists.Lists.{Lists}
 use Rattle.cgm_model.specs.declared.lists.Thing.{Thing}
 use Rattle.cgm_model.specs.declared.lists.Thing.TheVariants as things
-use Rattle.cgm_model.specs.Named.{names, element_names, refinement_names, variable_names, IsNamed, place_of, thing_named}
+use Rattle.cgm_model.specs.Named.{names, element_names, refinement_names, variable_names, sum_names, IsNamed, place_of, thing_named}
 use Rattle.cgm_model.specs.Statement.{is_new}
 use Rattle.cgm_model.specs.WellFormed.{IsWellFormed}
 
@@ -54,16 +54,22 @@ abbrev pub place : Lists → Thing → ℕ
 place m (things.Element k) = k
 place m (things.Refinement k) = length (element_names m) + k
 place m (things.Var k) = length (element_names m) + (length (refinement_names m) + k)
+place m (things.Sum k) = length (element_names m) + (length (refinement_names m) + (length (variable_names m) + k))
 
 pub placed : (m : Lists) (name : List ℕ) (t : Thing) → IsNamed m name t → Placed (names m) (place m t) name
 placed m name (things.Element k) at =
-    placed_first (element_names m) (refinement_names m ++ variable_names m) k name (placed_here (element_names m) k name at)
+    placed_first (element_names m) (refinement_names m ++ (variable_names m ++ sum_names m)) k name (placed_here (element_names m) k name at)
 placed m name (things.Refinement k) at =
-    placed_second (element_names m) (refinement_names m ++ variable_names m) k name
-    (placed_first (refinement_names m) (variable_names m) k name (placed_here (refinement_names m) k name at))
+    placed_second (element_names m) (refinement_names m ++ (variable_names m ++ sum_names m)) k name
+    (placed_first (refinement_names m) (variable_names m ++ sum_names m) k name (placed_here (refinement_names m) k name at))
 placed m name (things.Var k) at =
-    placed_second (element_names m) (refinement_names m ++ variable_names m) (length (refinement_names m) + k) name
-    (placed_second (refinement_names m) (variable_names m) k name (placed_here (variable_names m) k name at))
+    placed_second (element_names m) (refinement_names m ++ (variable_names m ++ sum_names m)) (length (refinement_names m) + k) name
+    (placed_second (refinement_names m) (variable_names m ++ sum_names m) k name
+    (placed_first (variable_names m) (sum_names m) k name (placed_here (variable_names m) k name at)))
+placed m name (things.Sum k) at =
+    placed_second (element_names m) (refinement_names m ++ (variable_names m ++ sum_names m)) (length (refinement_names m) + (length (variable_names m) + k)) name
+    (placed_second (refinement_names m) (variable_names m ++ sum_names m) (length (variable_names m) + k) name
+    (placed_second (variable_names m) (sum_names m) k name (placed_here (sum_names m) k name at)))
 
 same_thing : (m : Lists) (name : List ℕ) (one other : Thing) → IsNamed m name one → IsNamed m name other → place m one ≡ place m other → one ≡ other
 same_thing m name (things.Element i) (things.Element j) a b e = ap (λ k. things.Element k) e
@@ -71,11 +77,15 @@ same_thing m name (things.Element i) (things.Refinement j) a b e =
     let l = slice_get_within (element_names m) i name a in absurd (omega arith)
 same_thing m name (things.Element i) (things.Var j) a b e =
     let l = slice_get_within (element_names m) i name a in absurd (omega arith)
+same_thing m name (things.Element i) (things.Sum j) a b e =
+    let l = slice_get_within (element_names m) i name a in absurd (omega arith)
 same_thing m name (things.Refinement i) (things.Element j) a b e =
     let l = slice_get_within (element_names m) j name b in absurd (omega arith)
 same_thing m name (things.Refinement i) (things.Refinement j) a b e =
     let same : i ≡ j = omega arith in ap (λ k. things.Refinement k) same
 same_thing m name (things.Refinement i) (things.Var j) a b e =
+    let l = slice_get_within (refinement_names m) i name a in absurd (omega arith)
+same_thing m name (things.Refinement i) (things.Sum j) a b e =
     let l = slice_get_within (refinement_names m) i name a in absurd (omega arith)
 same_thing m name (things.Var i) (things.Element j) a b e =
     let l = slice_get_within (element_names m) j name b in absurd (omega arith)
@@ -83,6 +93,16 @@ same_thing m name (things.Var i) (things.Refinement j) a b e =
     let l = slice_get_within (refinement_names m) j name b in absurd (omega arith)
 same_thing m name (things.Var i) (things.Var j) a b e =
     let same : i ≡ j = omega arith in ap (λ k. things.Var k) same
+same_thing m name (things.Var i) (things.Sum j) a b e =
+    let l = slice_get_within (variable_names m) i name a in absurd (omega arith)
+same_thing m name (things.Sum i) (things.Element j) a b e =
+    let l = slice_get_within (element_names m) j name b in absurd (omega arith)
+same_thing m name (things.Sum i) (things.Refinement j) a b e =
+    let l = slice_get_within (refinement_names m) j name b in absurd (omega arith)
+same_thing m name (things.Sum i) (things.Var j) a b e =
+    let l = slice_get_within (variable_names m) j name b in absurd (omega arith)
+same_thing m name (things.Sum i) (things.Sum j) a b e =
+    let same : i ≡ j = omega arith in ap (λ k. things.Sum k) same
 
 pub named_once : (m : Lists) → IsWellFormed m → (name : List ℕ) (one other : Thing) → IsNamed m name one → IsNamed m name other → one ≡ other
 named_once m w name one other a b =
@@ -136,35 +156,49 @@ place_named ns name k e =
     let same : k ≡ f.place = let i = f.is in omega arith in
     ap (slice_get ns) same ∙ f.named
 
--- the first of three places that is there
-abbrev first_thing : Option ℕ → Option ℕ → Option ℕ → Option Thing
-first_thing a b c =
+-- the first of four places that is there
+abbrev first_thing : Option ℕ → Option ℕ → Option ℕ → Option ℕ → Option Thing
+first_thing a b c d =
     option_or (option_map (λ k. things.Element k) a)
-    (option_or (option_map (λ k. things.Refinement k) b) (option_map (λ k. things.Var k) c))
+    (option_or (option_map (λ k. things.Refinement k) b)
+    (option_or (option_map (λ k. things.Var k) c) (option_map (λ k. things.Sum k) d)))
 
-first_named : (m : Lists) (name : List ℕ) (a b c : Option ℕ) → place_of name (element_names m) ≡ a → place_of name (refinement_names m) ≡ b → place_of name (variable_names m) ≡ c → (t : Thing) → first_thing a b c ≡ Some t → IsNamed m name t
-first_named m name (Some k) b c p q r t e = subst (IsNamed m name) (same_Some (things.Element k) t e) (place_named (element_names m) name k p)
-first_named m name None (Some k) c p q r t e = subst (IsNamed m name) (same_Some (things.Refinement k) t e) (place_named (refinement_names m) name k q)
-first_named m name None None (Some k) p q r t e = subst (IsNamed m name) (same_Some (things.Var k) t e) (place_named (variable_names m) name k r)
-first_named m name None None None p q r t e = absurd (none-some t e)
+-- the places of a name among the names of each group
+record ArePlaces (m : Lists) (name : List ℕ) (a b c d : Option ℕ) : Type 0 where
+  elements : place_of name (element_names m) ≡ a
+  refinements : place_of name (refinement_names m) ≡ b
+  vars : place_of name (variable_names m) ≡ c
+  sums : place_of name (sum_names m) ≡ d
+
+places_of : (m : Lists) (name : List ℕ) → ArePlaces m name (place_of name (element_names m)) (place_of name (refinement_names m)) (place_of name (variable_names m)) (place_of name (sum_names m))
+places_of m name = record { elements = refl; refinements = refl; vars = refl; sums = refl }
+
+first_named : (m : Lists) (name : List ℕ) (a b c d : Option ℕ) → ArePlaces m name a b c d → (t : Thing) → first_thing a b c d ≡ Some t → IsNamed m name t
+first_named m name (Some k) b c d p t e = subst (IsNamed m name) (same_Some (things.Element k) t e) (place_named (element_names m) name k p.elements)
+first_named m name None (Some k) c d p t e = subst (IsNamed m name) (same_Some (things.Refinement k) t e) (place_named (refinement_names m) name k p.refinements)
+first_named m name None None (Some k) d p t e = subst (IsNamed m name) (same_Some (things.Var k) t e) (place_named (variable_names m) name k p.vars)
+first_named m name None None None (Some k) p t e = subst (IsNamed m name) (same_Some (things.Sum k) t e) (place_named (sum_names m) name k p.sums)
+first_named m name None None None None p t e = absurd (none-some t e)
 
 pub named-from_thing_named : (m : Lists) (name : List ℕ) (t : Thing) → thing_named m name ≡ Some t → IsNamed m name t
 unfolding thing_named
 named-from_thing_named m name t e =
-    first_named m name (place_of name (element_names m)) (place_of name (refinement_names m)) (place_of name (variable_names m)) refl refl refl t e
+    first_named m name (place_of name (element_names m)) (place_of name (refinement_names m)) (place_of name (variable_names m)) (place_of name (sum_names m)) (places_of m name) t e
 
-first_is_some : (m : Lists) (name : List ℕ) (a b c : Option ℕ) → place_of name (element_names m) ≡ a → place_of name (refinement_names m) ≡ b → place_of name (variable_names m) ≡ c → (t : Thing) → IsNamed m name t → first_thing a b c ≢ None
-first_is_some m name (Some k) b c p q r t h none = none-some (things.Element k) (sym none)
-first_is_some m name None (Some k) c p q r t h none = none-some (things.Refinement k) (sym none)
-first_is_some m name None None (Some k) p q r t h none = none-some (things.Var k) (sym none)
-first_is_some m name None None None p q r (things.Element k) h none = found_there (element_names m) name 0 k h p
-first_is_some m name None None None p q r (things.Refinement k) h none = found_there (refinement_names m) name 0 k h q
-first_is_some m name None None None p q r (things.Var k) h none = found_there (variable_names m) name 0 k h r
+first_is_some : (m : Lists) (name : List ℕ) (a b c d : Option ℕ) → ArePlaces m name a b c d → (t : Thing) → IsNamed m name t → first_thing a b c d ≢ None
+first_is_some m name (Some k) b c d p t h none = none-some (things.Element k) (sym none)
+first_is_some m name None (Some k) c d p t h none = none-some (things.Refinement k) (sym none)
+first_is_some m name None None (Some k) d p t h none = none-some (things.Var k) (sym none)
+first_is_some m name None None None (Some k) p t h none = none-some (things.Sum k) (sym none)
+first_is_some m name None None None None p (things.Element k) h none = found_there (element_names m) name 0 k h p.elements
+first_is_some m name None None None None p (things.Refinement k) h none = found_there (refinement_names m) name 0 k h p.refinements
+first_is_some m name None None None None p (things.Var k) h none = found_there (variable_names m) name 0 k h p.vars
+first_is_some m name None None None None p (things.Sum k) h none = found_there (sum_names m) name 0 k h p.sums
 
 pub thing_named-is_some : (m : Lists) (name : List ℕ) (t : Thing) → IsNamed m name t → thing_named m name ≢ None
 unfolding thing_named
 thing_named-is_some m name t h =
-    first_is_some m name (place_of name (element_names m)) (place_of name (refinement_names m)) (place_of name (variable_names m)) refl refl refl t h
+    first_is_some m name (place_of name (element_names m)) (place_of name (refinement_names m)) (place_of name (variable_names m)) (place_of name (sum_names m)) (places_of m name) t h
 
 by_answer : (m : Lists) → IsWellFormed m → (name : List ℕ) (t : Thing) → IsNamed m name t → (answer : Option Thing) → thing_named m name ≡ answer → thing_named m name ≡ Some t
 by_answer m w name t h None e = absurd (thing_named-is_some m name t h e)
@@ -191,11 +225,12 @@ any_from : (test : List ℕ → Bool) (from : ℕ) (ns : List (List ℕ)) → is
 any_from test from [] = refl
 any_from test from (n ∷ ns) = any_step test from n ns (any_from test (from + 1) ns) (test n) refl
 
-some_first : (a b c : Option ℕ) → is_some (first_thing a b c) ≡ (is_some a || (is_some b || is_some c))
-some_first (Some k) b c = refl
-some_first None (Some k) c = refl
-some_first None None (Some k) = refl
-some_first None None None = refl
+some_first : (a b c d : Option ℕ) → is_some (first_thing a b c d) ≡ (is_some a || (is_some b || (is_some c || is_some d)))
+some_first (Some k) b c d = refl
+some_first None (Some k) c d = refl
+some_first None None (Some k) d = refl
+some_first None None None (Some k) = refl
+some_first None None None None = refl
 
 pub not_swap : (a b : Bool) → a ≡ not b → b ≡ not a
 not_swap a true e = ap not (sym e)
@@ -208,9 +243,11 @@ not_some-thing_named m name =
     let a = place_of name (element_names m) in
     let b = place_of name (refinement_names m) in
     let c = place_of name (variable_names m) in
-    let each : (is_some a || (is_some b || is_some c)) ≡ (list_any test (element_names m) || (list_any test (refinement_names m) || list_any test (variable_names m))) =
-    rw (any_from test 0 (element_names m), any_from test 0 (refinement_names m), any_from test 0 (variable_names m)) refl in
-    let whole : list_any test (names m) ≡ (list_any test (element_names m) || (list_any test (refinement_names m) || list_any test (variable_names m))) =
-    list_any-append test (element_names m) (refinement_names m ++ variable_names m)
-    ∙ ap (λ x. list_any test (element_names m) || x) (list_any-append test (refinement_names m) (variable_names m)) in
-    ap not (some_first a b c ∙ (each ∙ sym whole))
+    let d = place_of name (sum_names m) in
+    let each : (is_some a || (is_some b || (is_some c || is_some d))) ≡ (list_any test (element_names m) || (list_any test (refinement_names m) || (list_any test (variable_names m) || list_any test (sum_names m)))) =
+    rw (any_from test 0 (element_names m), any_from test 0 (refinement_names m), any_from test 0 (variable_names m), any_from test 0 (sum_names m)) refl in
+    let whole : list_any test (names m) ≡ (list_any test (element_names m) || (list_any test (refinement_names m) || (list_any test (variable_names m) || list_any test (sum_names m)))) =
+    list_any-append test (element_names m) (refinement_names m ++ (variable_names m ++ sum_names m))
+    ∙ ap (λ x. list_any test (element_names m) || x) (list_any-append test (refinement_names m) (variable_names m ++ sum_names m)
+    ∙ ap (λ x. list_any test (refinement_names m) || x) (list_any-append test (variable_names m) (sum_names m))) in
+    ap not (some_first a b c d ∙ (each ∙ sym whole))

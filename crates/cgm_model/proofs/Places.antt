@@ -14,7 +14,7 @@ Settles-next P xs rest place x p s = record {
   first = λ n h. s.first n (inr (p, h));
 }
 
-drop-read : {X : Type 0} (xs items : List X) (i : ℕ) (x : X) → items ≡ xs → i < length items → x ≡ get_or items i x → drop i xs ≡ x ∷ drop (i + 1) xs
+pub drop-read : {X : Type 0} (xs items : List X) (i : ℕ) (x : X) → items ≡ xs → i < length items → x ≡ get_or items i x → drop i xs ≡ x ∷ drop (i + 1) xs
 drop-read {X} xs items i x same l e =
     let R : List X → Type 0 = λ ys. (i < length ys) × (x ≡ get_or ys i x) in
     let at : R xs = subst R same (l, e) in

@@ -28,14 +28,20 @@ use Rattle.cgm_model.specs.Assignment.{Fits, IsWithin}
 use Rattle.cgm_model.specs.Formulas.{formula_of, every_linear, has_small_terms, node_total}
 use Rattle.cgm_model.specs.Place.{EachFrom}
 use Rattle.cgm_model.specs.Realization.{KeepsRule}
+use Rattle.cgm_model.specs.Sums.{sums_of}
 use Rattle.cgm_model.specs.WellFormed.{IsVariable, IsWellFormed}
+use Rattle.cgm_model.proofs.Sizes.{sums_size}
 
 pub keeps_anywhere : (a : Assignment) (sums : List ℤ) (i j : ℕ) (r : Rule) → KeepsRule a sums i r → KeepsRule a sums j r
 keeps_anywhere a sums i j (rules.Positive name f) h = h
 keeps_anywhere a sums i j (rules.Negative name f) h = h
 keeps_anywhere a sums i j (rules.Require f) h = h
 
--- ---- a variable's value is within the limit of bounds
+-- ---- the value of a variable or sum
+
+-- the greatest size of a sum; a variable's is less
+abbrev most_number : ℕ
+most_number = 1000000000000
 
 between : (lo hi z : ℤ) → unsigned_abs lo ≤ limit_number limits.VariableBound → unsigned_abs hi ≤ limit_number limits.VariableBound → lo ≤ℤ z → z ≤ℤ hi → unsigned_abs z ≤ limit_number limits.VariableBound
 between lo hi z a b low high = grind (arith, ints)
@@ -53,21 +59,19 @@ within_from (v ∷ vars) (z ∷ values) all place zero same long good each =
 within_from (v ∷ vars) (z ∷ values) all place (suc k) same long good each =
     within_from vars values all (place + 1) k (λ j. ap (λ i. get_or all i (pos 0)) (let e : place + 1 + j ≡ place + suc j = omega arith in e) ∙ same (suc j)) (omega arith) (λ i d l. good (suc i) d (omega arith)) each.1
 
-no_sum : (sums : List ℤ) (k : ℕ) → length sums ≡ 0 → unsigned_abs (get_or sums k (pos 0)) ≤ limit_number limits.VariableBound
-no_sum [] k none = omega arith
-no_sum (z ∷ sums) k none = absurd (omega arith)
-
-number_small : (m : Lists) (a : Assignment) (sums : List ℤ) → IsWellFormed m → Fits m a → length sums ≡ 0 → (x : Number) → unsigned_abs (number_in a sums x) ≤ limit_number limits.VariableBound
-number_small m a sums w fits none (number.Var k) =
-    within_from m.vars a.vars a.vars 0 k (λ j. ap (λ i. get_or a.vars i (pos 0)) (let e : 0 + j ≡ j = omega arith in e)) fits.vars w.vars fits.bounds
-number_small m a sums w fits none (number.Sum k) = no_sum sums k none
+number_small : (m : Lists) (a : Assignment) (sums : List ℤ) → IsWellFormed m → Fits m a → sums ≡ sums_of m a → (x : Number) → unsigned_abs (number_in a sums x) ≤ most_number
+number_small m a sums w fits is (number.Var k) =
+    let small = within_from m.vars a.vars a.vars 0 k (λ j. ap (λ i. get_or a.vars i (pos 0)) (let e : 0 + j ≡ j = omega arith in e)) fits.vars w.vars fits.bounds in
+    omega (arith, small)
+number_small m a sums w fits is (number.Sum k) =
+    subst (λ (zs : List ℤ). unsigned_abs (get_or zs k (pos 0)) ≤ most_number) (sym is) (sums_size m w a k)
 
 -- ---- the size of a linear expression
 
 abbrev most : ℕ
-most = 1000000 * 1000000000
+most = 1000000 * 1000000000000
 
-size_small : (numbers : Number → ℤ) (terms : List (ℤ × Number)) → ((x : Number) → unsigned_abs (numbers x) ≤ 1000000000) → list_all (λ t. nat_le (unsigned_abs t.0) 1000000) terms ≡ true → size numbers terms ≤ length terms * most
+size_small : (numbers : Number → ℤ) (terms : List (ℤ × Number)) → ((x : Number) → unsigned_abs (numbers x) ≤ most_number) → list_all (λ t. nat_le (unsigned_abs t.0) 1000000) terms ≡ true → size numbers terms ≤ length terms * most
 size_small numbers [] small e = omega arith
 size_small numbers (t ∷ terms) small e =
     let parts = and_parts (nat_le (unsigned_abs t.0) 1000000) (list_all (λ u. nat_le (unsigned_abs u.0) 1000000) terms) e in
@@ -135,7 +139,7 @@ counted = by_cases AreCounted (record {
 
 -- ---- the rules of a model
 
-each_small : (numbers : Number → ℤ) (count : ℕ) (cs : List (Linear × ℤ)) → ((x : Number) → unsigned_abs (numbers x) ≤ 1000000000) → count ≤ 200000 → AllByRecursion (IsCounted count) cs → list_all (λ c. has_small_terms c.0) cs ≡ true → AllByRecursion (λ c. IsSmall numbers c.0) cs
+each_small : (numbers : Number → ℤ) (count : ℕ) (cs : List (Linear × ℤ)) → ((x : Number) → unsigned_abs (numbers x) ≤ most_number) → count ≤ 200000 → AllByRecursion (IsCounted count) cs → list_all (λ c. has_small_terms c.0) cs ≡ true → AllByRecursion (λ c. IsSmall numbers c.0) cs
 each_small numbers count [] small l h e = tt
 each_small numbers count (c ∷ cs) small l h e =
     let parts = and_parts (has_small_terms c.0) (list_all (λ d. has_small_terms d.0) cs) e in
@@ -143,14 +147,14 @@ each_small numbers count (c ∷ cs) small l h e =
     let scaled : length c.0.terms * most ≤ 200000 * most = mul-le-mul (let here = h.0 in let x : length c.0.terms ≤ 200000 = omega arith in x) (let y : most ≤ most = omega arith in y) in
     (omega (arith, size_is, scaled), each_small numbers count cs small l h.1 parts.1)
 
-formula_small : (numbers : Number → ℤ) (f : Formula) → ((x : Number) → unsigned_abs (numbers x) ≤ 1000000000) → node_count f ≤ 200000 → every_linear has_small_terms f ≡ true → AreSmallIn numbers f
+formula_small : (numbers : Number → ℤ) (f : Formula) → ((x : Number) → unsigned_abs (numbers x) ≤ most_number) → node_count f ≤ 200000 → every_linear has_small_terms f ≡ true → AreSmallIn numbers f
 formula_small numbers f small l e =
     All-from_recursion (λ c. IsSmall numbers c.0) (comparisons f) (each_small numbers (node_count f) (comparisons f) small l (counted f) e)
 
 nodes_of_one : (rs : List Rule) (k : ℕ) (d : Rule) → k < length rs → node_count (formula_of (get_or rs k d)) ≤ node_total rs
 nodes_of_one rs k d l = get_or-le-sum_by (λ r. node_count (formula_of r)) rs k d l
 
-pub rules_small : (m : Lists) → IsWellFormed m → (a : Assignment) (sums : List ℤ) → Fits m a → length sums ≡ 0 → All (λ r. AreSmallIn (number_in a sums) (formula_of r)) m.rules
-rules_small m w a sums fits none k d l =
-    formula_small (number_in a sums) (formula_of (get_or m.rules k d)) (number_small m a sums w fits none)
+pub rules_small : (m : Lists) → IsWellFormed m → (a : Assignment) (sums : List ℤ) → Fits m a → sums ≡ sums_of m a → All (λ r. AreSmallIn (number_in a sums) (formula_of r)) m.rules
+rules_small m w a sums fits is k d l =
+    formula_small (number_in a sums) (formula_of (get_or m.rules k d)) (number_small m a sums w fits is)
     (omega (arith, nodes_of_one m.rules k d l, w.limits.formula_nodes)) (w.rules k d l).small

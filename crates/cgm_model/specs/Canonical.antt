@@ -12,11 +12,18 @@ statements_of m =
     map (λ e. statements.Element e) m.elements
     ++ (map (λ r. statements.Refine r) m.refinements
     ++ (map (λ v. statements.Variable v) m.vars
+    ++ (map (λ x. statements.Sum x) m.sums
     ++ (map (λ e. statements.Contrib e) m.contribs
     ++ (map (λ e. statements.Conflict e) m.conflicts
     ++ (map (λ e. statements.Bind e) m.binds
     ++ (map (λ a. statements.Assert a) m.asserts
-    ++ map (λ r. statements.Rule r) m.rules))))))
+    ++ (map (λ v. statements.Value v) m.values
+    ++ (map (λ w. statements.Reward w) m.rewards
+    ++ (map (λ w. statements.Penalty w) m.penalties
+    ++ (map (λ p. statements.Prefer p) m.prefers
+    ++ (map (λ r. statements.Rule r) m.rules
+    ++ (map (λ k. statements.Interest k) m.interests
+    ++ map (λ o. statements.Objective o) m.objectives)))))))))))))
 
 -- the lists after these statements
 abbrev pub after : Lists → List Statement → Lists

@@ -35,10 +35,10 @@ abbrev pub IsKnownTruth : Lists → Truth → Type 0
 IsKnownTruth m (truth.Element k) = k < length m.elements
 IsKnownTruth m (truth.Refinement k) = k < length m.refinements
 
--- the variable is there; there are no sums yet
+-- the variable or sum is there
 abbrev pub IsKnownNumber : Lists → Number → Type 0
 IsKnownNumber m (number.Var k) = k < length m.vars
-IsKnownNumber m (number.Sum k) = ⊥
+IsKnownNumber m (number.Sum k) = k < length m.sums
 
 -- every name and number is there, nothing is empty, and at most 200 brackets are open at once
 pub record IsProperFormula (m : Lists) (f : Formula) : Type 0 where
@@ -51,9 +51,13 @@ pub record IsProperRule (m : Lists) (r : Rule) : Type 0 where
   pub condition : All (IsKnownTruth m) (condition_names r)
   pub formula : IsProperFormula m (formula_of r)
 
+-- the number of a term, a value, a reward or a penalty doesn't pass its limit
+abbrev pub is_small : ℤ → Bool
+is_small k = nat_le (unsigned_abs k) (limit_number limits.Coefficient)
+
 -- no coefficient of a linear expression passes its limit
 abbrev pub has_small_terms : Linear → Bool
-has_small_terms l = list_all (λ t. nat_le (unsigned_abs t.0) (limit_number limits.Coefficient)) l.terms
+has_small_terms l = list_all (λ t. is_small t.0) l.terms
 
 abbrev pub is_same_number : Number → Number → Bool
 is_same_number (number.Var j) (number.Var k) = nat_eq j k

@@ -1,5 +1,6 @@
--- What the builder keeps beside its lists: a table of the names, the graph, and the room that is left for formula nodes.
-use Rattle.std.specs.Prelude.{◌≡◌, ℕ, ◌+◌, List, Some, length}
+-- What the builder keeps beside its lists: a table of the names, the graph, the room that is left for formula nodes, and a mark for each element of interest.
+use Rattle.std.specs.Prelude.{◌≡◌, ◌==◌, ℕ, ◌+◌, ◌≤◌, false, List, Some, length, slice_index_or}
+use Rattle.std.specs.List.{list_any}
 use Rattle.cgm_base.specs.declared.limit.Which.TheVariants as limits
 use Rattle.cgm_base.specs.Words.{limit_number}
 use Rattle.cgm_model.specs.declared.aids.Aids.{Aids}
@@ -10,8 +11,14 @@ use Rattle.cgm_model.specs.Named.{IsNamed}
 use Rattle.cgm_model.specs.NameTable.{found}
 use Rattle.cgm_model.specs.TargetIndex.{IsIndexOf, HasRoomFor}
 
+-- there is room to take this many elements into the graph and to mark them
+pub record HasRoom (count : ℕ) (aids : Aids) : Type 0 where
+  pub graph : HasRoomFor count aids.graph
+  pub interests : count ≤ length aids.interests.items
+
 pub record AreFor (m : Lists) (aids : Aids) : Type 0 where
   pub names : (name : List ℕ) (thing : Thing) → IsNamed m name thing → found aids.names name ≡ Some thing
   pub graph : IsIndexOf m.refinements aids.graph
-  pub room : HasRoomFor (length m.elements) aids.graph
+  pub room : HasRoom (length m.elements) aids
   pub nodes : aids.node_room + node_total m.rules ≡ limit_number limits.FormulaNodes
+  pub interests : (k : ℕ) → slice_index_or aids.interests.items k false ≡ list_any (λ j. j == k) m.interests

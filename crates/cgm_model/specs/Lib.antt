@@ -15,5 +15,6 @@ pub mod Place
 pub mod Realization
 pub mod Search
 pub mod Statement
+pub mod Sums
 pub mod TargetIndex
 pub mod WellFormed

@@ -16,15 +16,19 @@ refinement_names m = map (λ r. r.name) m.refinements
 abbrev pub variable_names : Lists → List (List ℕ)
 variable_names m = map (λ v. v.name) m.vars
 
+abbrev pub sum_names : Lists → List (List ℕ)
+sum_names m = map (λ x. x.name) m.sums
+
 -- the declared names
 abbrev pub names : Lists → List (List ℕ)
-names m = element_names m ++ (refinement_names m ++ variable_names m)
+names m = element_names m ++ (refinement_names m ++ (variable_names m ++ sum_names m))
 
 -- the thing has this name
 abbrev pub IsNamed : Lists → List ℕ → Thing → Type 0
 IsNamed m name (things.Element k) = slice_get (element_names m) k ≡ Some name
 IsNamed m name (things.Refinement k) = slice_get (refinement_names m) k ≡ Some name
 IsNamed m name (things.Var k) = slice_get (variable_names m) k ≡ Some name
+IsNamed m name (things.Sum k) = slice_get (sum_names m) k ≡ Some name
 
 -- the place of a name in a list of names
 abbrev pub place_of : List ℕ → List (List ℕ) → Option ℕ
@@ -35,4 +39,5 @@ unfoldable pub thing_named : Lists → List ℕ → Option Thing
 thing_named m name =
     option_or (option_map (λ k. things.Element k) (place_of name (element_names m)))
     (option_or (option_map (λ k. things.Refinement k) (place_of name (refinement_names m)))
-    (option_map (λ k. things.Var k) (place_of name (variable_names m))))
+    (option_or (option_map (λ k. things.Var k) (place_of name (variable_names m)))
+    (option_map (λ k. things.Sum k) (place_of name (sum_names m)))))

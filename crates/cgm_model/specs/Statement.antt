@@ -9,13 +9,16 @@ use Rattle.cgm_model.specs.declared.lists.Edge.{Edge}
 use Rattle.cgm_model.specs.declared.lists.ElementKind.{ElementKind}
 use Rattle.cgm_model.specs.declared.lists.ElementKind.TheVariants as kinds
 use Rattle.cgm_model.specs.declared.lists.Lists.{Lists}
+use Rattle.cgm_model.specs.declared.lists.Preference.{Preference}
+use Rattle.cgm_model.specs.declared.lists.Quantity.{Quantity}
+use Rattle.cgm_model.specs.declared.lists.Quantity.TheVariants as quantities
 use Rattle.cgm_model.specs.declared.lists.Statement.{Statement}
 use Rattle.cgm_model.specs.declared.lists.Statement.TheVariants as statements
 use Rattle.cgm_model.specs.declared.stop.AddStop.{AddStop}
 use Rattle.cgm_model.specs.declared.stop.AddStop.TheVariants as stops
 use Rattle.cgm_model.specs.declared.stop.Fault.TheVariants as faults
 use Rattle.cgm_model.specs.Distinct.{are_distinct}
-use Rattle.cgm_model.specs.Formulas.{IsProperRule, formula_of, node_total, every_linear, has_small_terms, has_distinct_terms}
+use Rattle.cgm_model.specs.Formulas.{IsKnownTruth, is_small, IsProperRule, formula_of, node_total, every_linear, has_small_terms, has_distinct_terms}
 use Rattle.cgm_model.specs.Graph.{IsAcyclic}
 use Rattle.cgm_model.specs.Lists.{added, statement_count}
 use Rattle.cgm_model.specs.Name.{is_name}
@@ -25,23 +28,41 @@ use Rattle.cgm_model.specs.Named.{names}
 abbrev pub IsEdgeOf : ℕ → Edge → Type 0
 IsEdgeOf count e = (e.from < count) × (e.to < count)
 
+-- both sides are there
+abbrev pub IsPreference : Lists → Preference → Type 0
+IsPreference m p = IsKnownTruth m p.better × IsKnownTruth m p.worse
+
+-- the variable or sum of an objective is there
+abbrev pub IsKnownQuantity : Lists → Quantity → Type 0
+IsKnownQuantity m (quantities.Var k) = k < length m.vars
+IsKnownQuantity m (quantities.Sum k) = k < length m.sums
+IsKnownQuantity m built_in = Unit {0}
+
 -- every number names something that is there, nothing is empty, and a goal alone has `must`
 abbrev pub IsProper : Lists → Statement → Type 0
 IsProper m (statements.Element e) = IsTrue e.must → e.kind ≡ kinds.Goal
 IsProper m (statements.Refine r) =
     (r.target < length m.elements) × (0 < length r.sources) × All (λ source. source < length m.elements) r.sources
 IsProper m (statements.Variable v) = Unit {0}
+IsProper m (statements.Sum x) = Unit {0}
 IsProper m (statements.Contrib e) = IsEdgeOf (length m.elements) e
 IsProper m (statements.Conflict e) = IsEdgeOf (length m.elements) e
 IsProper m (statements.Bind e) = IsEdgeOf (length m.refinements) e
 IsProper m (statements.Assert a) = a.element < length m.elements
+IsProper m (statements.Value v) = (v.sum < length m.sums) × IsKnownTruth m v.of
+IsProper m (statements.Reward w) = w.element < length m.elements
+IsProper m (statements.Penalty w) = w.element < length m.elements
+IsProper m (statements.Prefer p) = IsPreference m p
 IsProper m (statements.Rule r) = IsProperRule m r
+IsProper m (statements.Interest k) = k < length m.elements
+IsProper m (statements.Objective o) = IsKnownQuantity m o.of
 
 -- the names that a statement declares: one or none
 abbrev pub declared_names : Statement → List (List ℕ)
 declared_names (statements.Element e) = e.name ∷ []
 declared_names (statements.Refine r) = r.name ∷ []
 declared_names (statements.Variable v) = v.name ∷ []
+declared_names (statements.Sum x) = x.name ∷ []
 declared_names s = []
 
 abbrev pub is_short : List ℕ → Bool
@@ -51,6 +72,9 @@ abbrev pub is_new : Lists → List ℕ → Bool
 is_new m n = not (list_any (bytes_eq n) (names m))
 
 abbrev pub has_small_coefficients : Statement → Bool
+has_small_coefficients (statements.Value v) = is_small v.k
+has_small_coefficients (statements.Reward w) = is_small w.k
+has_small_coefficients (statements.Penalty w) = is_small w.k
 has_small_coefficients (statements.Rule r) = every_linear has_small_terms (formula_of r)
 has_small_coefficients s = true
 
@@ -74,6 +98,11 @@ source_list s = []
 abbrev pub has_distinct_terms_each : Statement → Bool
 has_distinct_terms_each (statements.Rule r) = every_linear has_distinct_terms (formula_of r)
 has_distinct_terms_each s = true
+
+-- the element has no interest line yet
+abbrev pub has_new_interest : Lists → Statement → Bool
+has_new_interest m (statements.Interest k) = not (list_any (λ j. j == k) m.interests)
+has_new_interest m s = true
 
 abbrev pub is_task : Option ElementKind → Bool
 is_task (Some kinds.Task) = true
@@ -113,6 +142,7 @@ tests m s acyclic =
     ∷ (has_ordered_bounds s, stops.Refused faults.CrossedBounds)
     ∷ (is_distinct (source_list s), stops.Refused faults.DoubleSource)
     ∷ (has_distinct_terms_each s, stops.Refused faults.DoubleTerm)
+    ∷ (has_new_interest m s, stops.Refused faults.DoubleInterest)
     ∷ (not (is_task (target_kind m s)), stops.Refused faults.TaskRefined)
     ∷ (not (is_assumption (target_kind m s)), stops.Refused faults.AssumptionRefined)
     ∷ (acyclic, stops.Refused faults.Cycle)
@@ -121,6 +151,7 @@ tests m s acyclic =
     ∷ (is_within (length (added m s).refinements) limits.Refinements, stops.Limit limits.Refinements)
     ∷ (is_within (length (source_list s)) limits.Sources, stops.Limit limits.Sources)
     ∷ (is_within (node_total (added m s).rules) limits.FormulaNodes, stops.Limit limits.FormulaNodes)
+    ∷ (is_within (length (added m s).objectives) limits.Objectives, stops.Limit limits.Objectives)
     ∷ []
 
 -- the answer that a statement gets, if it is refused

@@ -8,13 +8,15 @@ use Rattle.cgm_model.specs.declared.lists.ElementKind.TheVariants as kinds
 use Rattle.cgm_model.specs.declared.lists.Lists.{Lists}
 use Rattle.cgm_model.specs.declared.lists.Refinement.{Refinement}
 use Rattle.cgm_model.specs.declared.lists.Rule.{Rule}
+use Rattle.cgm_model.specs.declared.lists.SumValue.{SumValue}
 use Rattle.cgm_model.specs.declared.lists.Variable.{Variable}
-use Rattle.cgm_model.specs.Formulas.{IsProperRule, formula_of, node_total, every_linear, has_small_terms, has_distinct_terms}
+use Rattle.cgm_model.specs.declared.lists.Weighing.{Weighing}
+use Rattle.cgm_model.specs.Formulas.{IsKnownTruth, IsProperRule, formula_of, node_total, every_linear, has_small_terms, has_distinct_terms}
 use Rattle.cgm_model.specs.Graph.{IsAcyclic}
 use Rattle.cgm_model.specs.Lists.{statement_count}
 use Rattle.cgm_model.specs.Name.{is_name}
 use Rattle.cgm_model.specs.Named.{names}
-use Rattle.cgm_model.specs.Statement.{IsEdgeOf, is_distinct}
+use Rattle.cgm_model.specs.Statement.{IsEdgeOf, IsPreference, IsKnownQuantity, is_distinct}
 
 pub record AreNames (ns : List (List ℕ)) : Type 0 where
   pub spelled : All (λ n. IsTrue (is_name n)) ns
@@ -40,6 +42,15 @@ pub record IsVariable (v : Variable) : Type 0 where
 abbrev pub IsAssertion : Lists → Assertion → Type 0
 IsAssertion m a = a.element < length m.elements
 
+pub record IsValue (m : Lists) (v : SumValue) : Type 0 where
+  pub sum : v.sum < length m.sums
+  pub of : IsKnownTruth m v.of
+  pub small : unsigned_abs v.k ≤ limit_number limits.Coefficient
+
+pub record IsWeighing (m : Lists) (w : Weighing) : Type 0 where
+  pub element : w.element < length m.elements
+  pub small : unsigned_abs w.k ≤ limit_number limits.Coefficient
+
 pub record IsRule (m : Lists) (r : Rule) : Type 0 where
   pub proper : IsProperRule m r
   pub small : IsTrue (every_linear has_small_terms (formula_of r))
@@ -50,6 +61,7 @@ pub record AreWithinLimits (m : Lists) : Type 0 where
   pub elements : length m.elements ≤ limit_number limits.Elements
   pub refinements : length m.refinements ≤ limit_number limits.Refinements
   pub formula_nodes : node_total m.rules ≤ limit_number limits.FormulaNodes
+  pub objectives : length m.objectives ≤ limit_number limits.Objectives
 
 pub record IsWellFormed (m : Lists) : Type 0 where
   pub names : AreNames (names m)
@@ -61,5 +73,12 @@ pub record IsWellFormed (m : Lists) : Type 0 where
   pub conflicts : All (IsEdgeOf (length m.elements)) m.conflicts
   pub binds : All (IsEdgeOf (length m.refinements)) m.binds
   pub asserts : All (IsAssertion m) m.asserts
+  pub values : All (IsValue m) m.values
+  pub rewards : All (IsWeighing m) m.rewards
+  pub penalties : All (IsWeighing m) m.penalties
+  pub prefers : All (IsPreference m) m.prefers
   pub rules : All (IsRule m) m.rules
+  pub interests : All (λ k. k < length m.elements) m.interests
+  pub distinct_interests : IsTrue (is_distinct m.interests)
+  pub objectives : All (λ o. IsKnownQuantity m o.of) m.objectives
   pub limits : AreWithinLimits m

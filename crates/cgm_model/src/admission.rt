@@ -1,8 +1,8 @@
-ghost use Rattle.std.specs.Prelude.{◌≡◌, length, map, slice_get, option_to_list, option_copied};
+ghost use Rattle.std.specs.Prelude.{◌≡◌, false, length, map, slice_get, slice_index_or, option_to_list, option_copied};
 ghost use Rattle.cgm_model.specs.declared.lists.Lists.{Lists};
 ghost use Rattle.std.specs.List.{list_all};
 ghost use Rattle.cgm_base.specs.declared.limit.Which.TheVariants as limits;
-ghost use Rattle.cgm_model.specs.Formulas.{node_total};
+ghost use Rattle.cgm_model.specs.Formulas.{is_small, node_total};
 ghost use Rattle.cgm_model.specs.Lists.{added, statement_count};
 ghost use Rattle.cgm_model.specs.Name as spelling;
 ghost use Rattle.cgm_model.specs.Statement as tests;
@@ -49,6 +49,10 @@ pub(crate) fn refusal(m: &Lists, aids: &Aids, s: &Statement, acyclic: bool) -> O
             has_distinct_terms(aids, s),
             AddStop::Refused(Fault::DoubleTerm),
         ),
+        (
+            has_new_interest(aids, s),
+            AddStop::Refused(Fault::DoubleInterest),
+        ),
         (!refines_task(m, s), AddStop::Refused(Fault::TaskRefined)),
         (
             !refines_assumption(m, s),
@@ -75,6 +79,10 @@ pub(crate) fn refusal(m: &Lists, aids: &Aids, s: &Statement, acyclic: bool) -> O
             has_room_for_nodes(aids, s),
             AddStop::Limit(Which::FormulaNodes),
         ),
+        (
+            objective_count(m, s) <= limits::OBJECTIVES,
+            AddStop::Limit(Which::Objectives),
+        ),
     ])
 }
 
@@ -96,6 +104,7 @@ fn declared_name(s: &Statement) -> Option<&[u8]>
         Statement::Element(e) => Some(e.name.as_slice()),
         Statement::Refine(r) => Some(r.name.as_slice()),
         Statement::Variable(v) => Some(v.name.as_slice()),
+        Statement::Sum(x) => Some(x.name.as_slice()),
         _ => None,
     }
 }
@@ -138,8 +147,17 @@ fn has_small_coefficients(aids: &Aids, s: &Statement) -> bool
             LinearTest::Small,
             formulas::formula_of(r),
         ),
+        Statement::Value(v) => is_small(v.k),
+        Statement::Reward(w) => is_small(w.k),
+        Statement::Penalty(w) => is_small(w.k),
         _ => true,
     }
+}
+
+fn is_small(k: i64) -> bool
+    ensures { result ≡ is_small k }
+{
+    k.unsigned_abs() <= limits::COEFFICIENT
 }
 
 fn has_small_bounds(s: &Statement) -> bool
@@ -197,6 +215,21 @@ fn has_distinct_terms(aids: &Aids, s: &Statement) -> bool
     }
 }
 
+fn has_new_interest(aids: &Aids, s: &Statement) -> bool
+    ensures { (m : Lists) → AreFor m aids.now → result ≡ tests.has_new_interest m s.now }
+{
+    match s {
+        Statement::Interest(element) => !is_marked(&aids.interests, *element),
+        _ => true,
+    }
+}
+
+fn is_marked(marks: &[bool], number: u32) -> bool
+    ensures { result ≡ slice_index_or marks.now number false }
+{
+    marks.get(number as usize).copied().unwrap_or(false)
+}
+
 fn target_kind(m: &Lists, s: &Statement) -> Option<ElementKind>
     ensures { result ≡ tests.target_kind m.now s.now }
 {
@@ -234,11 +267,18 @@ fn statement_count(m: &Lists) -> usize
     m.elements.as_slice().len()
         + m.refinements.as_slice().len()
         + m.vars.as_slice().len()
+        + m.sums.as_slice().len()
         + m.contribs.as_slice().len()
         + m.conflicts.as_slice().len()
         + m.binds.as_slice().len()
         + m.asserts.as_slice().len()
+        + m.values.as_slice().len()
+        + m.rewards.as_slice().len()
+        + m.penalties.as_slice().len()
+        + m.prefers.as_slice().len()
         + m.rules.as_slice().len()
+        + m.interests.as_slice().len()
+        + m.objectives.as_slice().len()
 }
 
 fn element_count(m: &Lists, s: &Statement) -> usize
@@ -259,6 +299,17 @@ fn refinement_count(m: &Lists, s: &Statement) -> usize
     let count = m.refinements.as_slice().len();
     match s {
         Statement::Refine(_) => count + 1,
+        _ => count,
+    }
+}
+
+fn objective_count(m: &Lists, s: &Statement) -> usize
+    requires { IsWellFormed m.now }
+    ensures { result ≡ length (added m.now s.now).objectives }
+{
+    let count = m.objectives.as_slice().len();
+    match s {
+        Statement::Objective(_) => count + 1,
         _ => count,
     }
 }

@@ -1,6 +1,7 @@
-ghost use Rattle.std.specs.Prelude.{◌≡◌, ◌↔◌, if◌then◌else◌, is_ok, IsTrue, OnOk, OnErr, IfErr};
+ghost use Rattle.std.specs.Prelude.{◌≡◌, ◌↔◌, ◌+◌, if◌then◌else◌, length, is_ok, IsTrue, OnOk, OnErr, IfErr};
 ghost use Rattle.cgm_model.specs.Graph.{IsAcyclic};
-ghost use Rattle.cgm_model.specs.Keeping.{AreFor};
+ghost use Rattle.cgm_model.specs.declared.lists.Lists.{Lists};
+ghost use Rattle.cgm_model.specs.Keeping.{AreFor, HasRoom};
 ghost use Rattle.cgm_model.specs.Lists.{no_lists, added};
 ghost use Rattle.cgm_model.specs.Model.{lists_of};
 ghost use Rattle.cgm_model.specs.Named.{thing_named};
@@ -9,7 +10,7 @@ ghost use Rattle.cgm_model.specs.WellFormed.{IsWellFormed};
 
 use crate::aids::Aids;
 use crate::graph::Graph;
-use crate::lists::{Element, Lists, Refinement, Rule, Statement, Thing, Variable};
+use crate::lists::{Element, Lists, Refinement, Rule, Statement, Sum, Thing, Variable};
 use crate::model::Model;
 use crate::names::NameTable;
 use crate::stop::AddStop;
@@ -53,6 +54,7 @@ impl ModelBuilder {
                 names: NameTable::new(alloc),
                 graph: Graph::new(alloc),
                 node_room: limits::FORMULA_NODES,
+                interests: Vec::new(alloc),
             },
         }
     }
@@ -90,21 +92,35 @@ impl ModelBuilder {
             elements,
             refinements,
             vars,
+            sums,
             contribs,
             conflicts,
             binds,
             asserts,
+            values,
+            rewards,
+            penalties,
+            prefers,
             rules,
+            interests,
+            objectives,
         } = lists;
         Model {
             elements,
             refinements,
             vars,
+            sums,
             contribs,
             conflicts,
             binds,
             asserts,
+            values,
+            rewards,
+            penalties,
+            prefers,
             rules,
+            interests,
+            objectives,
         }
     }
 }
@@ -116,11 +132,18 @@ fn empty_lists(alloc: Global) -> Lists
         elements: Parts::of(Vec::new(alloc)),
         refinements: Parts::of(Vec::new(alloc)),
         vars: Parts::of(Vec::new(alloc)),
+        sums: Parts::of(Vec::new(alloc)),
         contribs: Parts::of(Vec::new(alloc)),
         conflicts: Parts::of(Vec::new(alloc)),
         binds: Parts::of(Vec::new(alloc)),
         asserts: Parts::of(Vec::new(alloc)),
+        values: Parts::of(Vec::new(alloc)),
+        rewards: Parts::of(Vec::new(alloc)),
+        penalties: Parts::of(Vec::new(alloc)),
+        prefers: Parts::of(Vec::new(alloc)),
         rules: Parts::of(Vec::new(alloc)),
+        interests: Parts::of(Vec::new(alloc)),
+        objectives: Parts::of(Vec::new(alloc)),
     }
 }
 
@@ -173,11 +196,18 @@ fn push(m: &mut Lists, aids: &mut Aids, s: Statement) -> Result<(), AddStop>
         Statement::Element(e) => push_element(m, aids, e),
         Statement::Refine(r) => push_refinement(m, aids, r),
         Statement::Variable(v) => push_variable(m, aids, v),
+        Statement::Sum(x) => push_sum(m, aids, x),
         Statement::Contrib(e) => m.contribs.push(e).map_err(|_| AddStop::Memory),
         Statement::Conflict(e) => m.conflicts.push(e).map_err(|_| AddStop::Memory),
         Statement::Bind(e) => m.binds.push(e).map_err(|_| AddStop::Memory),
         Statement::Assert(a) => m.asserts.push(a).map_err(|_| AddStop::Memory),
+        Statement::Value(v) => m.values.push(v).map_err(|_| AddStop::Memory),
+        Statement::Reward(w) => m.rewards.push(w).map_err(|_| AddStop::Memory),
+        Statement::Penalty(w) => m.penalties.push(w).map_err(|_| AddStop::Memory),
+        Statement::Prefer(p) => m.prefers.push(p).map_err(|_| AddStop::Memory),
         Statement::Rule(r) => push_rule(m, aids, r),
+        Statement::Interest(element) => push_interest(m, aids, element),
+        Statement::Objective(o) => m.objectives.push(o).map_err(|_| AddStop::Memory),
     }
 }
 
@@ -190,9 +220,19 @@ fn push_element(m: &mut Lists, aids: &mut Aids, e: Element) -> Result<(), AddSto
     ensures memory { IfErr result (λ stop. stop ≡ AddStop.Memory) }
 {
     let thing = Thing::Element(m.elements.as_slice().len() as u32);
-    graph::grow(aids.alloc, &mut aids.graph).map_err(|_| AddStop::Memory)?;
-    names::declare(aids, e.name.as_slice(), thing)?;
+    make_room(aids)?;
+    names::declare(aids.alloc, &mut aids.names, e.name.as_slice(), thing)?;
     m.elements.push(e).map_err(|_| AddStop::Memory)
+}
+
+/// Makes room for one more element.
+fn make_room(aids: &mut Aids) -> Result<(), AddStop>
+    ensures kept { (m : Lists) → AreFor m aids.old → AreFor m aids.new }
+    ensures more { OnOk result ((m : Lists) → AreFor m aids.old → HasRoom (length m.elements + 1) aids.new) }
+    ensures memory { IfErr result (λ stop. stop ≡ AddStop.Memory) }
+{
+    graph::grow(aids.alloc, &mut aids.graph).map_err(|_| AddStop::Memory)?;
+    aids.interests.push(false).map_err(|_| AddStop::Memory)
 }
 
 fn push_refinement(m: &mut Lists, aids: &mut Aids, r: Refinement) -> Result<(), AddStop>
@@ -206,7 +246,8 @@ fn push_refinement(m: &mut Lists, aids: &mut Aids, r: Refinement) -> Result<(), 
 {
     let number = m.refinements.as_slice().len() as u32;
     graph::link(&mut aids.graph, number, &r).map_err(|_| AddStop::Memory)?;
-    names::declare(aids, r.name.as_slice(), Thing::Refinement(number))?;
+    let thing = Thing::Refinement(number);
+    names::declare(aids.alloc, &mut aids.names, r.name.as_slice(), thing)?;
     m.refinements.push(r).map_err(|_| AddStop::Memory)
 }
 
@@ -219,8 +260,33 @@ fn push_variable(m: &mut Lists, aids: &mut Aids, v: Variable) -> Result<(), AddS
     ensures memory { IfErr result (λ stop. stop ≡ AddStop.Memory) }
 {
     let thing = Thing::Var(m.vars.as_slice().len() as u32);
-    names::declare(aids, v.name.as_slice(), thing)?;
+    names::declare(aids.alloc, &mut aids.names, v.name.as_slice(), thing)?;
     m.vars.push(v).map_err(|_| AddStop::Memory)
+}
+
+fn push_sum(m: &mut Lists, aids: &mut Aids, x: Sum) -> Result<(), AddStop>
+    requires well_formed { IsWellFormed m.old }
+    requires aids { AreFor m.old aids.old }
+    requires allowed { IsAllowed m.old (Statement.Sum x) }
+    ensures lists { m.new ≡ (if is_ok result then added m.old (Statement.Sum x) else m.old) }
+    ensures aids { AreFor m.new aids.new }
+    ensures memory { IfErr result (λ stop. stop ≡ AddStop.Memory) }
+{
+    let thing = Thing::Sum(m.sums.as_slice().len() as u32);
+    names::declare(aids.alloc, &mut aids.names, x.name.as_slice(), thing)?;
+    m.sums.push(x).map_err(|_| AddStop::Memory)
+}
+
+fn push_interest(m: &mut Lists, aids: &mut Aids, element: u32) -> Result<(), AddStop>
+    requires aids { AreFor m.old aids.old }
+    requires proper { IsProper m.old (Statement.Interest element) }
+    ensures lists { m.new ≡ (if is_ok result then added m.old (Statement.Interest element) else m.old) }
+    ensures aids { AreFor m.new aids.new }
+    ensures memory { IfErr result (λ stop. stop ≡ AddStop.Memory) }
+{
+    m.interests.push(element).map_err(|_| AddStop::Memory)?;
+    aids.interests[element as usize] = true;
+    Ok(())
 }
 
 fn push_rule(m: &mut Lists, aids: &mut Aids, r: Rule) -> Result<(), AddStop>

@@ -14,13 +14,16 @@ mod names;
 mod realization;
 mod spelling;
 mod stop;
+mod totals;
 
 pub use assignment::fits;
 pub use builder::ModelBuilder;
 pub use cgm_formula::{Assignment, Formula, Linear, Name, Number, Parts, Truth, holds, value};
 pub use lists::{
-    Assertion, Edge, Element, ElementKind, Lists, Refinement, Rule, Statement, Thing, Variable,
+    Assertion, Edge, Element, ElementKind, Lists, Objective, Preference, Quantity, Refinement,
+    Rule, Statement, Sum, SumValue, Thing, Variable, Weighing,
 };
 pub use model::Model;
 pub use realization::{Broken, is_realization};
 pub use stop::{AddStop, Fault};
+pub use totals::sums;

@@ -10,7 +10,9 @@ pub(crate) const REFINEMENTS: usize = 20_000;
 pub(crate) const SOURCES: usize = 256;
 /// Nodes of the formulas of all rules.
 pub(crate) const FORMULA_NODES: usize = 200_000;
-/// The size of the number of a term.
+/// Objectives.
+pub(crate) const OBJECTIVES: usize = 8;
+/// The size of the number of a value, a reward, a penalty or a term.
 pub(crate) const COEFFICIENT: u64 = 1_000_000;
 /// The size of a variable's bound.
 pub(crate) const VARIABLE_BOUND: u64 = 1_000_000_000;

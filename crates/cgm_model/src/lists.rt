@@ -36,6 +36,12 @@ pub struct Variable {
     pub hi: i64,
 }
 
+/// A number that is added up from the value lines of what is true.
+#[derive(Debug, Drop)]
+pub struct Sum {
+    pub name: Name,
+}
+
 /// Two elements, or two refinements, by number.
 #[derive(Clone, Copy, Debug)]
 pub struct Edge {
@@ -49,6 +55,63 @@ pub struct Assertion {
     /// The number of the element.
     pub element: u32,
     pub truth: bool,
+}
+
+/// What an element or refinement adds to a sum where it is true.
+#[derive(Clone, Copy, Debug)]
+pub struct SumValue {
+    /// The number of the sum.
+    pub sum: u32,
+    /// The element or refinement.
+    pub of: Truth,
+    /// What it adds, in a model at most 1,000,000 in size.
+    pub k: i64,
+}
+
+/// What an element takes off the weight, as a reward, or adds to it, as a penalty, where it is true.
+#[derive(Clone, Copy, Debug)]
+pub struct Weighing {
+    /// The number of the element.
+    pub element: u32,
+    /// How much, in a model at most 1,000,000 in size.
+    pub k: i64,
+}
+
+/// A wish that the first is true or the second is false.
+#[derive(Clone, Copy, Debug)]
+pub struct Preference {
+    pub better: Truth,
+    pub worse: Truth,
+}
+
+/// What an objective makes least or greatest.
+#[derive(Clone, Copy, Debug, PartialEq, Eq)]
+pub enum Quantity {
+    /// The variable with this number.
+    Var(u32),
+    /// The sum with this number.
+    Sum(u32),
+    /// The penalties of true elements minus the rewards of true elements.
+    Weight,
+    /// The preferences that don't hold.
+    UnsatPrefs,
+    /// The requirements without `must` that are false.
+    UnsatReqs,
+    /// The leaf tasks that are true.
+    SatTasks,
+    /// How far the elements of interest are from an earlier realization.
+    Familiarity,
+    /// The leaf tasks of interest that an earlier realization lacks.
+    Effort,
+}
+
+/// A quantity to make least or greatest.
+#[derive(Clone, Copy, Debug)]
+pub struct Objective {
+    /// Whether it is made greatest.
+    pub max: bool,
+    /// The quantity.
+    pub of: Quantity,
 }
 
 /// A formula that holds in each realization, always or on a condition.
@@ -67,6 +130,7 @@ pub enum Statement {
     Element(Element),
     Refine(Refinement),
     Variable(Variable),
+    Sum(Sum),
     /// Elements: where the first is true, so is the second.
     Contrib(Edge),
     /// Elements: they aren't both true.
@@ -74,7 +138,14 @@ pub enum Statement {
     /// Refinements: where both targets are true, both or neither of them is true.
     Bind(Edge),
     Assert(Assertion),
+    Value(SumValue),
+    Reward(Weighing),
+    Penalty(Weighing),
+    Prefer(Preference),
     Rule(Rule),
+    /// The element with this number is of interest.
+    Interest(u32),
+    Objective(Objective),
 }
 
 /// What a name stands for, by its number.
@@ -83,6 +154,7 @@ pub enum Thing {
     Element(u32),
     Refinement(u32),
     Var(u32),
+    Sum(u32),
 }
 
 /// Statements by group, each group in order.
@@ -91,9 +163,16 @@ pub struct Lists {
     pub elements: Parts<Element>,
     pub refinements: Parts<Refinement>,
     pub vars: Parts<Variable>,
+    pub sums: Parts<Sum>,
     pub contribs: Parts<Edge>,
     pub conflicts: Parts<Edge>,
     pub binds: Parts<Edge>,
     pub asserts: Parts<Assertion>,
+    pub values: Parts<SumValue>,
+    pub rewards: Parts<Weighing>,
+    pub penalties: Parts<Weighing>,
+    pub prefers: Parts<Preference>,
     pub rules: Parts<Rule>,
+    pub interests: Parts<u32>,
+    pub objectives: Parts<Objective>,
 }

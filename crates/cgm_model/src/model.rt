@@ -1,7 +1,10 @@
 ghost use Rattle.cgm_model.specs.Lists.{lists};
 ghost use Rattle.cgm_model.specs.WellFormed.{IsWellFormed};
 
-use crate::lists::{Assertion, Edge, Element, Refinement, Rule, Variable};
+use crate::lists::{
+    Assertion, Edge, Element, Objective, Preference, Refinement, Rule, Sum, SumValue, Variable,
+    Weighing,
+};
 use cgm_formula::Parts;
 
 /// A well-formed model: its statements by group, each group in order.
@@ -10,10 +13,17 @@ pub struct Model {
     pub elements: Parts<Element>,
     pub refinements: Parts<Refinement>,
     pub vars: Parts<Variable>,
+    pub sums: Parts<Sum>,
     pub contribs: Parts<Edge>,
     pub conflicts: Parts<Edge>,
     pub binds: Parts<Edge>,
     pub asserts: Parts<Assertion>,
+    pub values: Parts<SumValue>,
+    pub rewards: Parts<Weighing>,
+    pub penalties: Parts<Weighing>,
+    pub prefers: Parts<Preference>,
     pub rules: Parts<Rule>,
-    pub ghost well_formed: { ∥ IsWellFormed (lists elements refinements vars contribs conflicts binds asserts rules) ∥₁ },
+    pub interests: Parts<u32>,
+    pub objectives: Parts<Objective>,
+    pub ghost well_formed: { ∥ IsWellFormed (lists elements refinements vars sums contribs conflicts binds asserts values rewards penalties prefers rules interests objectives) ∥₁ },
 }

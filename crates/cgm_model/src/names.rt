@@ -93,18 +93,23 @@ fn is_named(m: &Lists, name: &[u8], thing: Thing) -> bool
             None => false,
             Some(v) => v.name.is(name),
         },
+        Thing::Sum(k) => match at(m.sums.as_slice(), k as usize) {
+            None => false,
+            Some(s) => s.name.is(name),
+        },
     }
 }
 
 /// Enters a name that no statement declares yet.
-pub(crate) fn declare(aids: &mut Aids, name: &[u8], thing: Thing) -> Result<(), AddStop>
-    ensures set { OnOk result ((q : List ℕ) → found aids.new.names q ≡ (if bytes_eq q name.now then Some thing else found aids.old.names q)) }
-    ensures others { OnErr result ((q : List ℕ) → found aids.new.names q ≡ found aids.old.names q) }
-    ensures graph { aids.new.graph ≡ aids.old.graph }
-    ensures node_room { aids.new.node_room ≡ aids.old.node_room }
+pub(crate) fn declare(
+    alloc: Global,
+    names: &mut NameTable,
+    name: &[u8],
+    thing: Thing,
+) -> Result<(), AddStop>
+    ensures set { OnOk result ((q : List ℕ) → found names.new q ≡ (if bytes_eq q name.now then Some thing else found names.old q)) }
+    ensures others { OnErr result ((q : List ℕ) → found names.new q ≡ found names.old q) }
     ensures memory { IfErr result (λ stop. stop ≡ AddStop.Memory) }
 {
-    aids.names
-        .set(aids.alloc, name, thing)
-        .map_err(|_| AddStop::Memory)
+    names.set(alloc, name, thing).map_err(|_| AddStop::Memory)
 }

@@ -8,6 +8,7 @@ ghost use Rattle.cgm_model.specs.Assignment.{Fits, ElementIsTrue, RefinementIsTr
 ghost use Rattle.cgm_model.specs.Formulas.{formula_of};
 ghost use Rattle.cgm_model.specs.Model.{lists_of};
 ghost use Rattle.cgm_model.specs.Place.{Each, FirstFails};
+ghost use Rattle.cgm_model.specs.Sums.{sums_of};
 ghost use Rattle.cgm_model.specs.Realization.{IsRealization, IsFirstBroken, KeepsRefinement, KeepsElement, KeepsContrib, KeepsConflict, KeepsBind, KeepsMust, KeepsAssertion, KeepsRule, Refines, TargetIsTrue};
 
 use crate::lists::{Assertion, Edge, Element, Refinement, Rule};
@@ -38,11 +39,11 @@ pub enum Broken {
 
 /// Answers the first broken rule: refinements first, then elements, contributions, conflicts,
 /// bindings, goals with `must`, assertions and rules, each by number; none where the assignment is
-/// a realization. Condition: the assignment fits, and `sums` are the values of the sums, of which
-/// there are none yet. It takes no memory.
+/// a realization. Condition: the assignment fits, and `sums` are the values of the sums. It takes
+/// no memory.
 pub fn is_realization(m: &Model, a: &Assignment, sums: &[i64]) -> Option<Broken>
     requires fits { Fits (lists_of m.now) a.now }
-    requires sums { length sums.now ≡ 0 }
+    requires sums { sums.now ≡ sums_of (lists_of m.now) a.now }
     ensures { MatchOption result (IsRealization (lists_of m.now) a.now sums.now) (IsFirstBroken (lists_of m.now) a.now sums.now) }
 {
     if let Some(number) = first_broken_refinement(m, a) {
@@ -156,7 +157,7 @@ fn first_broken_assertion(m: &Model, a: &Assignment) -> Option<u32>
 
 fn first_broken_rule(m: &Model, a: &Assignment, sums: &[i64]) -> Option<u32>
     requires fits { Fits (lists_of m.now) a.now }
-    requires sums { length sums.now ≡ 0 }
+    requires sums { sums.now ≡ sums_of (lists_of m.now) a.now }
     ensures { MatchOption result (Each (KeepsRule a.now sums.now) m.now.rules) (FirstFails (KeepsRule a.now sums.now) m.now.rules) }
 {
     for (number, rule) in rules(m).iter().enumerate() {
@@ -228,7 +229,7 @@ fn keeps_rule(a: &Assignment, sums: &[i64], rule: &Rule) -> bool
     }
 }
 
-fn name_is_true(a: &Assignment, name: Truth) -> bool
+pub(crate) fn name_is_true(a: &Assignment, name: Truth) -> bool
     ensures { result ≡ name_in a.now name }
 {
     match name {
@@ -342,7 +343,7 @@ fn binds(m: &Model) -> &[Edge]
 fn rules(m: &Model) -> &[Rule]
     ensures items { result.now ≡ m.now.rules }
     ensures few { length result.now ≤ limit_number limits.Statements }
-    ensures small { (a : Assignment) (sums : List ℤ) → Fits (lists_of m.now) a → length sums ≡ 0 → All (λ r. AreSmallIn (number_in a sums) (formula_of r)) result.now }
+    ensures small { (a : Assignment) (sums : List ℤ) → Fits (lists_of m.now) a → sums ≡ sums_of (lists_of m.now) a → All (λ r. AreSmallIn (number_in a sums) (formula_of r)) result.now }
 {
     m.rules.as_slice()
 }

@@ -1,12 +1,10 @@
 -- Where few brackets are open at once in a formula's tokens, few are in its canonical text.
-use Rattle.std.proofs.Common.{◌≡◌, ℕ, ◌+◌, ◌-◌, ◌<◌, ◌≤◌, ℤ, pos, negsuc, max, Bool, true, false, nat_lt, ◌==◌, List, [], ◌∷◌, map, codes, if◌then◌else◌, refl, ap, sym, ◌∙◌, subst, arith, true≢false}
+use Rattle.std.proofs.Common.{◌≡◌, ℕ, ◌+◌, ◌-◌, ◌≤◌, ℤ, pos, negsuc, max, Bool, true, false, nat_lt, ◌==◌, List, [], ◌∷◌, map, codes, if◌then◌else◌, refl, sym, subst, arith, true≢false}
 use Rattle.std.proofs.lemmas.Bool.Decides.{nat_tests}
 use Rattle.std.proofs.lemmas.Int.{clamps}
 use Rattle.cgm_formula.specs.declared.formula.Formula.{Formula}
 use Rattle.cgm_formula.specs.declared.formula.Linear.{Linear}
 use Rattle.cgm_formula.specs.declared.formula.Number.{Number}
-use Rattle.cgm_formula.specs.declared.formula.Truth.{Truth}
-use Rattle.cgm_formula.specs.declared.formula.Formula.TheVariants as formulas
 use Rattle.cgm_formula.specs.Nodes.{depth, depth_step, greatest, linear_depth, term_depth}
 use Rattle.cgm_formula.proofs.Folds.{fold-Name, fold-Not, fold-And, fold-Or, fold-Implies, fold-Iff, fold-AtMost, fold-AtLeast, fold-Equal}
 use Rattle.cgm_lex.specs.Lexemes.{Lexeme, opening, closing, number, word}
@@ -17,7 +15,7 @@ use Rattle.cgm_text.specs.declared.written.Joint.{Joint}
 use Rattle.cgm_text.specs.declared.written.Joint.TheVariants as joints
 use Rattle.cgm_text.specs.declared.written.Pairing.{Pairing}
 use Rattle.cgm_text.specs.declared.written.Pairing.TheVariants as pairings
-use Rattle.cgm_text.specs.Meaning.{term_of, linear_of, linear_with, formula_of, each_formula_of, joined_as, paired_as, compared_as, truth_named, number_named}
+use Rattle.cgm_text.specs.Meaning.{term_of, linear_of, formula_of, each_formula_of, joined_as, paired_as, compared_as, truth_named, number_named}
 use Rattle.cgm_text.specs.Trees.{count_after, is_deeper}
 use Rattle.cgm_text.specs.Written.{WrittenTerm, plain, scaled, WrittenLinear, single, total, WrittenFormula, name, negation, joined, paired, compared, WrittenFormulas, no_formulas, more_formulas, joint_word, pairing_word, comparison_word, spelled_term, spelled_terms, spelled_linear, spelled, spelled_each}
 

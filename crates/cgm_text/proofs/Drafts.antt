@@ -15,7 +15,7 @@ use Rattle.cgm_model.specs.declared.stop.AddStop.{AddStop}
 use Rattle.cgm_model.specs.declared.stop.AddStop.TheVariants as add_stops
 use Rattle.cgm_model.specs.Lists.{no_lists, added}
 use Rattle.cgm_model.specs.Model.{lists_of}
-use Rattle.cgm_model.specs.Statement.{IsAllowed, IsNotAdded}
+use Rattle.cgm_model.specs.Statement.{IsNotAdded}
 use Rattle.cgm_text.specs.declared.draft.Draft.{Draft}
 use Rattle.cgm_text.specs.declared.fault.LineFault.{LineFault}
 use Rattle.cgm_text.specs.declared.fault.LineFault.TheVariants as line_faults
@@ -23,13 +23,10 @@ use Rattle.cgm_text.specs.declared.fault.LineStop.{LineStop}
 use Rattle.cgm_text.specs.declared.fault.LineStop.TheVariants as line_stops
 use Rattle.cgm_text.specs.declared.reader.Reading.{Reading}
 use Rattle.cgm_text.specs.declared.reader.TextStop.{TextStop}
-use Rattle.cgm_text.specs.declared.reader.TextStop.TheVariants as stops
-use Rattle.cgm_text.specs.Line.{Verdict, nothing, header, says, faulty, header_tokens, Form, no_word, not_read, no_form, written, HasForm, IsFormJudged, IsNamedJudged, IsJudged, AreFirst, AreJudged, AreShallowJudged, AreLexemesJudged, ComesTo, nests_too_deep}
+use Rattle.cgm_text.specs.Line.{Verdict, nothing, header, says, faulty, header_tokens, written, IsFormJudged, IsNamedJudged, IsJudged, AreFirst, AreJudged, AreShallowJudged, AreLexemesJudged, ComesTo, nests_too_deep}
 use Rattle.cgm_text.specs.Meaning.{statement_of}
-use Rattle.cgm_text.specs.Progress.{IsAdded, IsBegun, IsDraft, IsEmpty, IsFinished, IsFinishStop, IsMade, IsNoFault, IsPut, IsStep, IsStop, IsStopAfter, Steps, line_stop, stop_at, tokens_come_to}
-use Rattle.cgm_text.specs.Statements.{WrittenStatement}
+use Rattle.cgm_text.specs.Progress.{IsAdded, IsDraft, IsFinished, IsFinishStop, IsMade, IsNoFault, IsPut, IsStep, IsStop, IsStopAfter, line_stop, stop_at, tokens_come_to}
 use Rattle.cgm_text.specs.Text.{LineStatement, on_line, all_added, model_of, rule_line, rule_lines, Outcome, gives, fails, after_line, IsOutcome, Lead, HasStatements, HasFault, IsReading, IsNotRead}
-use Rattle.cgm_text.specs.Uses.{first_fault, statement_uses}
 
 -- lists
 
@@ -49,18 +46,18 @@ stop_more P Q (line_stops.Faulty fault) more p = more fault p
 stop_more P Q line_stops.Memory more p = tt
 
 -- a statement that isn't added
-pub not_added_stop : (m : Lists) (s : Statement) (stop : AddStop) → IsNotAdded m s stop → IsStop (IsJudged m (Some s)) (line_stop stop)
+pub not_added_stop : (m : Lists) (s : Statement) (stop : AddStop) → IsNotAdded m s stop → IsStop (IsJudged m s) (line_stop stop)
 not_added_stop m s (add_stops.Refused fault) refused = (fault, (refused, refl))
 not_added_stop m s (add_stops.Limit which) refused = refused
 not_added_stop m s add_stops.Memory allowed = tt
 
 -- tokens of a made statement are judged as the statement is
-pub made_judged : (m : Lists) (tokens : List Lexeme) (s : Statement) (v : Verdict) → IsMade m tokens s → IsJudged m (Some s) v → AreJudged m tokens v
+pub made_judged : (m : Lists) (tokens : List Lexeme) (s : Statement) (v : Verdict) → IsMade m tokens s → IsJudged m s v → AreJudged m tokens v
 made_judged m tokens s v made judged =
-    let named = subst (λ o. IsJudged m o v) (sym made.meaning) judged in
+    let named = subst (λ t. IsJudged m t v) (sym made.meaning) judged in
     let form : IsFormJudged m (written made.source) v =
     subst (λ bad. IsNamedJudged bad m (statement_of m made.source) v) (sym made.names) named in
-    (written made.source, ((made.spelled, made.read), form))
+    (written made.source, (made.spelled, form))
 
 on_ok_more : {X : Type 0} (A B : Type 0) (r : Result X LineStop) → (A → B) → OnOk r A → OnOk r B
 on_ok_more A B (Ok x) more a = more a
@@ -77,10 +74,10 @@ put_added tokens line s old new r made put =
       lines = is.lines;
     }) put
 
-pub put_stop : {X : Type 0} (m : Lists) (tokens : List Lexeme) (s : Statement) (r : Result X LineStop) → IsMade m tokens s → IfErr r (IsStop (IsJudged m (Some s))) → IfErr r (IsStop (AreJudged m tokens))
+pub put_stop : {X : Type 0} (m : Lists) (tokens : List Lexeme) (s : Statement) (r : Result X LineStop) → IsMade m tokens s → IfErr r (IsStop (IsJudged m s)) → IfErr r (IsStop (AreJudged m tokens))
 put_stop m tokens s (Ok x) made stopped = tt
 put_stop m tokens s (Err stop) made stopped =
-    stop_more (IsJudged m (Some s)) (AreJudged m tokens) stop (λ fault judged. made_judged m tokens s (faulty fault) made judged) stopped
+    stop_more (IsJudged m s) (AreJudged m tokens) stop (λ fault judged. made_judged m tokens s (faulty fault) made judged) stopped
 
 -- tokens
 

@@ -1,6 +1,6 @@
 -- Why tokens make no statement, and that the names which a statement declares are text.
-use Rattle.std.proofs.Common.{◌≡◌, ◌≢◌, ℕ, Bool, true, false, List, [], ◌∷◌, map, Option, None, Some, Result, Ok, Err, IfErr, IsErrAnd, refl, sym, ap, ◌∙◌, subst}
-use Rattle.std.specs.List.{All, AllByRecursion}
+use Rattle.std.proofs.Common.{◌≡◌, ◌≢◌, ℕ, List, [], ◌∷◌, map, Some, Result, Ok, Err, IfErr, IsErrAnd, refl, sym, subst}
+use Rattle.std.specs.List.{All}
 use Rattle.std.specs.Str.{IsUtf8}
 use Rattle.std.proofs.lemmas.List.Elements.{All-from_recursion, recursion_from_All}
 use Rattle.cgm_base.specs.declared.fault.BadKind.{BadKind}
@@ -12,8 +12,8 @@ use Rattle.cgm_model.specs.declared.lists.Lists.{Lists}
 use Rattle.cgm_text.specs.declared.fault.LineFault.TheVariants as line_faults
 use Rattle.cgm_text.specs.declared.fault.LineStop.{LineStop}
 use Rattle.cgm_text.specs.declared.written.Sort.{Sort}
-use Rattle.cgm_text.specs.Line.{Verdict, faulty, no_word, not_read, no_form, written, HasForm, IsNamedJudged, AreJudged}
-use Rattle.cgm_text.specs.Meaning.{is_read, declared_words, statement_of}
+use Rattle.cgm_text.specs.Line.{Verdict, faulty, no_word, no_form, written, HasForm, IsNamedJudged, AreJudged}
+use Rattle.cgm_text.specs.Meaning.{declared_words, statement_of}
 use Rattle.cgm_text.specs.Progress.{IsStop}
 use Rattle.cgm_text.specs.Statements.{WrittenStatement, goal, named, refinement, pair, assertion, variable, value, weight, condition, requirement, objective, IsNoBody, must_tokens, sort_of, sort_word, statement_tokens}
 use Rattle.cgm_text.specs.Uses.{first_fault, statement_uses}
@@ -26,9 +26,9 @@ stop_exit P (Err e) stop is p = subst (IsStop P) (sym is) p
 pub word_stop : (m : Lists) (tokens : List Lexeme) → ((sort : Sort) (after : List Lexeme) → tokens ≢ word (sort_word sort) ∷ after) → AreJudged m tokens (faulty (line_faults.Bad kinds.Statement))
 word_stop m tokens none = (no_word, (none, refl))
 
-pub form_stop : (m : Lists) (tokens : List Lexeme) (sort : Sort) → is_read sort ≡ true → IsNoBody tokens sort → AreJudged m (word (sort_word sort) ∷ tokens) (faulty (line_faults.Bad kinds.Form))
-form_stop m tokens sort reads none =
-    (no_form, ((record { sort = sort; after = tokens; begins = refl; reads_it = reads }, no_statement (word (sort_word sort) ∷ tokens) tokens sort refl none), refl))
+pub form_stop : (m : Lists) (tokens : List Lexeme) (sort : Sort) → IsNoBody tokens sort → AreJudged m (word (sort_word sort) ∷ tokens) (faulty (line_faults.Bad kinds.Form))
+form_stop m tokens sort none =
+    (no_form, ((record { sort = sort; after = tokens; begins = refl }, no_statement (word (sort_word sort) ∷ tokens) tokens sort refl none), refl))
 
 pub name_stop : (m : Lists) (tokens : List Lexeme) (s : WrittenStatement) (kind : BadKind) → HasForm tokens (written s) → Some kind ≡ first_fault m (statement_uses s) → AreJudged m tokens (faulty (line_faults.Bad kind))
 name_stop m tokens s kind has e =
@@ -60,4 +60,4 @@ declared_text (requirement f) plain = no_texts
 declared_text (objective direction quantity) plain = no_texts
 
 pub declared_is_text : (tokens : List Lexeme) (s : WrittenStatement) → HasForm tokens (written s) → All IsPlain tokens → All IsUtf8 (declared_words s)
-declared_is_text tokens s has plain = declared_text s (subst (All IsPlain) has.0 plain)
+declared_is_text tokens s has plain = declared_text s (subst (All IsPlain) has plain)

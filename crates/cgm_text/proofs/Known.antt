@@ -1,5 +1,5 @@
 -- Names that are right stand for what is there, so that a statement with such names is proper.
-use Rattle.std.proofs.Common.{◌≡◌, ℕ, ◌+◌, ◌<◌, ℤ, Bool, true, false, ◌&&◌, IsTrue, List, [], ◌∷◌, ◌++◌, length, map, nat_lt, Option, None, Some, slice_get, if◌then◌else◌, refl, sym, ap, ◌∙◌, subst, arith, true≢false}
+use Rattle.std.proofs.Common.{◌≡◌, ℕ, ◌<◌, ℤ, Bool, true, false, ◌&&◌, List, [], ◌∷◌, ◌++◌, length, map, nat_lt, Option, None, Some, refl, sym, ◌∙◌, subst, arith}
 use Rattle.std.specs.List.{All, AllByRecursion, list_all}
 use Rattle.std.specs.Option.{option_or}
 use Rattle.std.proofs.lemmas.Bool.Decides.{nat_tests}
@@ -10,25 +10,20 @@ use Rattle.cgm_base.specs.declared.fault.BadKind.{BadKind}
 use Rattle.cgm_base.specs.declared.limit.Which.TheVariants as limits
 use Rattle.cgm_base.specs.Words.{limit_number}
 use Rattle.cgm_formula.specs.declared.formula.Formula.{Formula}
-use Rattle.cgm_formula.specs.declared.formula.Formula.TheVariants as formulas
 use Rattle.cgm_formula.specs.declared.formula.Linear.{Linear}
 use Rattle.cgm_formula.specs.declared.formula.Number.{Number}
-use Rattle.cgm_formula.specs.declared.formula.Number.TheVariants as numbers_of
-use Rattle.cgm_formula.specs.declared.formula.Truth.{Truth}
-use Rattle.cgm_formula.specs.declared.formula.Truth.TheVariants as truths
 use Rattle.cgm_formula.specs.Nodes.{names, names_step, comparisons, comparisons_step, is_full, full_step, joined as concatenated}
 use Rattle.cgm_formula.proofs.Folds.{fold-Name, fold-Not, fold-And, fold-Or, fold-Implies, fold-Iff, fold-AtMost, fold-AtLeast, fold-Equal}
-use Rattle.cgm_lex.specs.Lexemes.{Lexeme, word}
 use Rattle.cgm_model.specs.declared.lists.Element.{Element}
 use Rattle.cgm_model.specs.declared.lists.Lists.{Lists}
 use Rattle.cgm_model.specs.declared.lists.Refinement.{Refinement}
+use Rattle.cgm_model.specs.declared.lists.Sum.{Sum}
 use Rattle.cgm_model.specs.declared.lists.Thing.{Thing}
 use Rattle.cgm_model.specs.declared.lists.Thing.TheVariants as things
 use Rattle.cgm_model.specs.declared.lists.Variable.{Variable}
 use Rattle.cgm_model.specs.Formulas.{IsKnownTruth, IsKnownNumber, IsProperFormula}
-use Rattle.cgm_model.specs.Named.{IsNamed, thing_named, element_names, refinement_names, variable_names}
+use Rattle.cgm_model.specs.Named.{thing_named, element_names, refinement_names, sum_names, variable_names}
 use Rattle.cgm_model.proofs.Lookups.{named-from_thing_named}
-use Rattle.cgm_text.specs.declared.names.Wanted.{Wanted}
 use Rattle.cgm_text.specs.declared.names.Wanted.TheVariants as wants
 use Rattle.cgm_text.specs.declared.written.Comparison.{Comparison}
 use Rattle.cgm_text.specs.declared.written.Comparison.TheVariants as comparison_words
@@ -36,9 +31,9 @@ use Rattle.cgm_text.specs.declared.written.Joint.{Joint}
 use Rattle.cgm_text.specs.declared.written.Joint.TheVariants as joints
 use Rattle.cgm_text.specs.declared.written.Pairing.{Pairing}
 use Rattle.cgm_text.specs.declared.written.Pairing.TheVariants as pairings
-use Rattle.cgm_text.specs.Meaning.{element_named, refinement_named, truth_named, truth_of, number_named, number_of, element_of, refinement_of, term_of, linear_of, formula_of, each_formula_of, joined_as, paired_as, compared_as}
+use Rattle.cgm_text.specs.Meaning.{element_named, refinement_named, truth_named, truth_of, number_named, number_of, element_of, refinement_of, sum_named, sum_of, term_of, linear_of, formula_of, each_formula_of, joined_as, paired_as, compared_as}
 use Rattle.cgm_text.specs.Trees.{is_deeper}
-use Rattle.cgm_text.specs.Uses.{NameUse, use_as, term_name, terms_uses, linear_uses, formula_uses, formulas_uses, suits, thing_fault, first_fault}
+use Rattle.cgm_text.specs.Uses.{NameUse, use_as, term_name, terms_uses, linear_uses, formula_uses, formulas_uses, thing_fault, first_fault}
 use Rattle.cgm_text.specs.Written.{WrittenTerm, plain, scaled, WrittenLinear, single, total, WrittenFormula, name, negation, joined, paired, compared, WrittenFormulas, no_formulas, more_formulas, spelled}
 use Rattle.cgm_text.proofs.Depths.{depth_is_few}
 
@@ -71,11 +66,18 @@ variable_within m x k e =
     let within = slice_get_within (variable_names m) k x named in
     omega (arith, within, length-map m.vars (λ (y : Variable). y.name))
 
+sum_within : (m : Lists) (x : List ℕ) (k : ℕ) → thing_named m x ≡ Some (things.Sum k) → k < length m.sums
+sum_within m x k e =
+    let named = named-from_thing_named m x (things.Sum k) e in
+    let within = slice_get_within (sum_names m) k x named in
+    omega (arith, within, length-map m.sums (λ (y : Sum). y.name))
+
 element_right : (m : Lists) (x : List ℕ) (o : Option Thing) → thing_named m x ≡ o → thing_fault wants.Element o ≡ None → element_of o < length m.elements
 element_right m x None e f = cc
 element_right m x (Some (things.Element k)) e f = element_within m x k e
 element_right m x (Some (things.Refinement k)) e f = cc
 element_right m x (Some (things.Var k)) e f = cc
+element_right m x (Some (things.Sum k)) e f = cc
 
 pub element_known : (m : Lists) (x : List ℕ) → thing_fault wants.Element (thing_named m x) ≡ None → element_named m x < length m.elements
 element_known m x f = element_right m x (thing_named m x) refl f
@@ -85,6 +87,7 @@ refinement_right m x None e f = cc
 refinement_right m x (Some (things.Element k)) e f = cc
 refinement_right m x (Some (things.Refinement k)) e f = refinement_within m x k e
 refinement_right m x (Some (things.Var k)) e f = cc
+refinement_right m x (Some (things.Sum k)) e f = cc
 
 pub refinement_known : (m : Lists) (x : List ℕ) → thing_fault wants.Refinement (thing_named m x) ≡ None → refinement_named m x < length m.refinements
 refinement_known m x f = refinement_right m x (thing_named m x) refl f
@@ -94,6 +97,7 @@ truth_right m x None e f = cc
 truth_right m x (Some (things.Element k)) e f = element_within m x k e
 truth_right m x (Some (things.Refinement k)) e f = refinement_within m x k e
 truth_right m x (Some (things.Var k)) e f = cc
+truth_right m x (Some (things.Sum k)) e f = cc
 
 pub truth_known : (m : Lists) (x : List ℕ) → thing_fault wants.Truth (thing_named m x) ≡ None → IsKnownTruth m (truth_named m x)
 truth_known m x f = truth_right m x (thing_named m x) refl f
@@ -103,9 +107,20 @@ number_right m x None e f = cc
 number_right m x (Some (things.Element k)) e f = cc
 number_right m x (Some (things.Refinement k)) e f = cc
 number_right m x (Some (things.Var k)) e f = variable_within m x k e
+number_right m x (Some (things.Sum k)) e f = sum_within m x k e
 
-number_known : (m : Lists) (x : List ℕ) → thing_fault wants.Number (thing_named m x) ≡ None → IsKnownNumber m (number_named m x)
+pub number_known : (m : Lists) (x : List ℕ) → thing_fault wants.Number (thing_named m x) ≡ None → IsKnownNumber m (number_named m x)
 number_known m x f = number_right m x (thing_named m x) refl f
+
+sum_right : (m : Lists) (x : List ℕ) (o : Option Thing) → thing_named m x ≡ o → thing_fault wants.Sum o ≡ None → sum_of o < length m.sums
+sum_right m x None e f = cc
+sum_right m x (Some (things.Element k)) e f = cc
+sum_right m x (Some (things.Refinement k)) e f = cc
+sum_right m x (Some (things.Var k)) e f = cc
+sum_right m x (Some (things.Sum k)) e f = sum_within m x k e
+
+pub sum_known : (m : Lists) (x : List ℕ) → thing_fault wants.Sum (thing_named m x) ≡ None → sum_named m x < length m.sums
+sum_known m x f = sum_right m x (thing_named m x) refl f
 
 -- formulas
 

@@ -12,6 +12,7 @@ pub mod Printed
 pub mod Proper
 pub mod Right
 pub mod Spaces
+pub mod Spellings
 pub mod Splits
 pub mod StatementsBack
 pub mod Terms

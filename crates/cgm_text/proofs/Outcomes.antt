@@ -1,12 +1,12 @@
 -- A text has one outcome, and always one: its statements or its first fault.
-use Rattle.std.proofs.Common.{◌≡◌, ◌≢◌, ℕ, ◌+◌, List, [], ◌∷◌, Option, None, Some, refl, sym, ap, ◌∙◌, subst}
+use Rattle.std.proofs.Common.{◌≡◌, ℕ, ◌+◌, List, [], ◌∷◌, Option, None, Some, refl, sym, ap, ◌∙◌, subst}
 use Rattle.std.specs.Option.{option_map}
 use Rattle.cgm_base.specs.declared.fault.BadKind.TheVariants as kinds
 use Rattle.cgm_lex.specs.Lines.{lines}
 use Rattle.cgm_model.specs.declared.lists.Lists.{Lists}
 use Rattle.cgm_text.specs.declared.fault.LineFault.{LineFault}
 use Rattle.cgm_text.specs.declared.fault.LineFault.TheVariants as line_faults
-use Rattle.cgm_text.specs.Line.{Verdict, nothing, header, says, faulty, ComesTo}
+use Rattle.cgm_text.specs.Line.{Verdict, nothing, header, says, faulty}
 use Rattle.cgm_text.specs.Text.{LineStatement, Outcome, gives, fails, after_line, IsOutcome, IsEnd, Lead, model_of, rule_lines, HasStatements, HasFault, IsReading, IsTextOf}
 use Rattle.cgm_text.proofs.Verdicts.{verdict_once, verdict_some}
 

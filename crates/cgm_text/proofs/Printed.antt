@@ -1,5 +1,5 @@
 -- What is written part by part is what the whole is written as.
-use Rattle.std.proofs.Common.{◌≡◌, ◌≢◌, ℕ, zero, suc, ◌+◌, ◌<◌, ◌≤◌, ℤ, pos, Bool, true, false, List, [], ◌∷◌, ◌++◌, length, map, drop, get_or, slice_get, codes, Option, None, Some, Result, refl, sym, ap, ◌∙◌, subst, arith, OnOk}
+use Rattle.std.proofs.Common.{◌≡◌, ◌≢◌, ℕ, zero, suc, ◌+◌, ◌<◌, ◌≤◌, ℤ, pos, Bool, true, false, List, [], ◌∷◌, length, map, drop, get_or, slice_get, codes, None, Some, Result, refl, sym, ap, ◌∙◌, subst, arith, OnOk}
 use Rattle.std.specs.Ordering.{int_eq}
 use Rattle.std.proofs.lemmas.Bool.Decides.{Decides-int_eq}
 use Rattle.std.proofs.lemmas.List.{drop_more}
@@ -13,7 +13,6 @@ use Rattle.cgm_formula.proofs.Folds.{fold-And, fold-Or, fold-Implies, fold-Iff, 
 use Rattle.cgm_lex.specs.Lexemes.{Lexeme, opening, closing, number, word}
 use Rattle.cgm_model.specs.declared.lists.Lists.{Lists}
 use Rattle.cgm_text.specs.declared.printer.Printer.{Printer}
-use Rattle.cgm_text.specs.declared.written.Comparison.{Comparison}
 use Rattle.cgm_text.specs.declared.written.Comparison.TheVariants as comparisons
 use Rattle.cgm_text.specs.declared.written.Joint.{Joint}
 use Rattle.cgm_text.specs.declared.written.Joint.TheVariants as joints
@@ -22,7 +21,7 @@ use Rattle.cgm_text.specs.declared.written.Pairing.TheVariants as pairings
 use Rattle.cgm_text.specs.Canonical.{joined_with, name_at, number_name, written_formula, written_linear, written_step, written_term}
 use Rattle.cgm_text.specs.Printing.{Writes, followed}
 use Rattle.cgm_text.specs.Trees.{formulas_of}
-use Rattle.cgm_text.specs.Written.{WrittenFormula, plain, scaled, joined, paired, compared, joint_word, pairing_word, comparison_word, spelled, spelled_each, spelled_linear, spelled_term, spelled_terms}
+use Rattle.cgm_text.specs.Written.{WrittenFormula, plain, scaled, paired, compared, joint_word, pairing_word, spelled, spelled_each, spelled_linear, spelled_term, spelled_terms}
 
 -- names
 

@@ -1,33 +1,40 @@
 -- A statement that few brackets and right names make is proper.
-use Rattle.std.proofs.Common.{◌≡◌, ℕ, ◌<◌, ◌≤◌, Bool, true, false, List, [], ◌∷◌, length, map, codes, Option, None, Some, refl, sym, ap, ◌∙◌, subst, arith, true≢false}
-use Rattle.std.specs.List.{All, AllByRecursion}
+use Rattle.std.proofs.Common.{◌≡◌, ℕ, ◌<◌, Bool, true, false, List, [], ◌∷◌, length, map, codes, None, refl, sym, subst, arith, true≢false}
+use Rattle.std.specs.List.{AllByRecursion}
+use Rattle.std.specs.Str.{bytes_eq}
 use Rattle.std.proofs.lemmas.List.Elements.{All-from_recursion}
 use Rattle.cgm_base.specs.declared.limit.Which.TheVariants as limits
 use Rattle.cgm_base.specs.Words.{limit_number}
 use Rattle.cgm_formula.specs.declared.formula.Formula.{Formula}
+use Rattle.cgm_formula.specs.declared.formula.Number.{Number}
+use Rattle.cgm_formula.specs.declared.formula.Number.TheVariants as numbers
 use Rattle.cgm_formula.specs.declared.formula.Truth.{Truth}
 use Rattle.cgm_lex.specs.Lexemes.{Lexeme, word}
 use Rattle.cgm_model.specs.declared.lists.Lists.{Lists}
 use Rattle.cgm_model.specs.declared.lists.Statement.{Statement}
-use Rattle.cgm_model.specs.declared.lists.Statement.TheVariants as statements
-use Rattle.cgm_model.specs.Formulas.{IsKnownTruth, IsProperFormula, IsProperRule}
-use Rattle.cgm_model.specs.Statement.{IsProper}
+use Rattle.cgm_model.specs.Formulas.{IsKnownNumber, IsKnownTruth, IsProperFormula, IsProperRule}
+use Rattle.cgm_model.specs.Named.{thing_named}
+use Rattle.cgm_model.specs.Statement.{IsKnownQuantity, IsProper}
 use Rattle.cgm_text.specs.declared.names.Wanted.TheVariants as wants
 use Rattle.cgm_text.specs.declared.written.ConditionWord.{ConditionWord}
 use Rattle.cgm_text.specs.declared.written.ConditionWord.TheVariants as condition_words
 use Rattle.cgm_text.specs.declared.written.NameWord.TheVariants as name_words
 use Rattle.cgm_text.specs.declared.written.PairWord.TheVariants as pair_words
+use Rattle.cgm_text.specs.declared.written.WeightWord.TheVariants as weight_words
 use Rattle.cgm_text.specs.Line.{nests_too_deep}
-use Rattle.cgm_text.specs.Meaning.{condition_of, element_named, formula_of, statement_of, truth_named}
+use Rattle.cgm_text.specs.Meaning.{condition_of, element_named, formula_of, number_named, quantity_of, statement_of, truth_named}
 use Rattle.cgm_text.specs.Progress.{IsMade}
 use Rattle.cgm_text.specs.Statements.{WrittenStatement, goal, named, refinement, pair, assertion, variable, value, weight, condition, requirement, objective, condition_word, statement_tokens}
-use Rattle.cgm_text.specs.Uses.{use_as, first_fault, formula_uses, statement_uses}
+use Rattle.cgm_text.specs.Uses.{NameUse, use_as, first_fault, formula_uses, quantity_uses, statement_uses, thing_fault}
 use Rattle.cgm_text.specs.Written.{WrittenFormula, spelled}
 use Rattle.cgm_text.proofs.Depths.{shallow_after}
-use Rattle.cgm_text.proofs.Known.{first_right, element_known, refinement_known, truth_known, formula_proper}
+use Rattle.cgm_text.proofs.Known.{first_right, element_known, refinement_known, truth_known, number_known, sum_known, formula_proper}
+use Rattle.cgm_text.proofs.Spellings.{chosen}
 
-same_some : {X : Type 0} (x y : X) → Some x ≡ Some y → x ≡ y
-same_some x y e = cc
+two_right : (m : Lists) (u v : NameUse) → first_fault m (u ∷ v ∷ []) ≡ None → (thing_fault u.wanted (thing_named m u.used) ≡ None) × (thing_fault v.wanted (thing_named m v.used) ≡ None)
+two_right m u v e =
+    let first = first_right m u (v ∷ []) e in
+    (first.0, (first_right m v [] first.1).0)
 
 elements_known : (m : Lists) (xs : List (List ℕ)) → first_fault m (map (use_as wants.Element) xs) ≡ None → AllByRecursion (λ k. k < length m.elements) (map (element_named m) xs)
 elements_known m [] e = tt
@@ -49,44 +56,55 @@ rule_proper m what x f right shallow =
     let inside = shallow_after limit x (spelled f []) rest in
     condition_proper m what (truth_named m x) (formula_of m f) (truth_known m x rights.0) (formula_proper m f rights.1 inside)
 
--- what holds of the statement that is made holds of the one that this is
-made : {one other : Statement} (m : Lists) → Some one ≡ Some other → IsProper m one → IsProper m other
-made {one} {other} m e proper = subst (IsProper m) (same_some one other e) proper
+quantity_known : (m : Lists) (x : Number) → IsKnownNumber m x → IsKnownQuantity m (quantity_of None x)
+quantity_known m (numbers.Var k) known = known
+quantity_known m (numbers.Sum k) known = known
 
-pub statement_proper : (m : Lists) (w : WrittenStatement) (s : Statement) → first_fault m (statement_uses w) ≡ None → nests_too_deep (statement_tokens w) ≡ false → statement_of m w ≡ Some s → IsProper m s
-statement_proper m (goal x must) s right shallow e = made m e (λ _. refl)
-statement_proper m (named name_words.Task x) s right shallow e = made m e (λ must. absurd (true≢false (sym must)))
-statement_proper m (named name_words.Assume x) s right shallow e = made m e (λ must. absurd (true≢false (sym must)))
-statement_proper m (named name_words.Sum x) s right shallow e = cc
-statement_proper m (named name_words.Interest x) s right shallow e = cc
-statement_proper m (refinement r target first others) s right shallow e =
+-- by the tests that tell a built-in quantity
+quantity_proper : (m : Lists) (x : List ℕ) (a b c d e f : Bool) → first_fault m (quantity_uses (chosen a b c d e f) x) ≡ None → IsKnownQuantity m (quantity_of (chosen a b c d e f) (number_named m x))
+quantity_proper m x true b c d e f right = tt
+quantity_proper m x false true c d e f right = tt
+quantity_proper m x false false true d e f right = tt
+quantity_proper m x false false false true e f right = tt
+quantity_proper m x false false false false true f right = tt
+quantity_proper m x false false false false false true right = tt
+quantity_proper m x false false false false false false right =
+    quantity_known m (number_named m x) (number_known m x (first_right m (use_as wants.Number x) [] right).0)
+
+pub statement_proper : (m : Lists) (w : WrittenStatement) → first_fault m (statement_uses w) ≡ None → nests_too_deep (statement_tokens w) ≡ false → IsProper m (statement_of m w)
+statement_proper m (goal x must) right shallow = λ _. refl
+statement_proper m (named name_words.Task x) right shallow = λ must. absurd (true≢false (sym must))
+statement_proper m (named name_words.Assume x) right shallow = λ must. absurd (true≢false (sym must))
+statement_proper m (named name_words.Sum x) right shallow = tt
+statement_proper m (named name_words.Interest x) right shallow = element_known m x (first_right m (use_as wants.Element x) [] right).0
+statement_proper m (refinement r target first others) right shallow =
     let known = elements_known m (target ∷ first ∷ others) right in
-    made m e (known.0, omega arith, All-from_recursion (λ k. k < length m.elements) (map (element_named m) (first ∷ others)) known.1)
-statement_proper m (pair pair_words.Contrib one other) s right shallow e =
-    let first = first_right m (use_as wants.Element one) (use_as wants.Element other ∷ []) right in
-    let second = first_right m (use_as wants.Element other) [] first.1 in
-    made m e (element_known m one first.0, element_known m other second.0)
-statement_proper m (pair pair_words.Conflict one other) s right shallow e =
-    let first = first_right m (use_as wants.Element one) (use_as wants.Element other ∷ []) right in
-    let second = first_right m (use_as wants.Element other) [] first.1 in
-    made m e (element_known m one first.0, element_known m other second.0)
-statement_proper m (pair pair_words.Bind one other) s right shallow e =
-    let first = first_right m (use_as wants.Refinement one) (use_as wants.Refinement other ∷ []) right in
-    let second = first_right m (use_as wants.Refinement other) [] first.1 in
-    made m e (refinement_known m one first.0, refinement_known m other second.0)
-statement_proper m (pair pair_words.Prefer one other) s right shallow e = cc
-statement_proper m (assertion x truth) s right shallow e =
-    let first = first_right m (use_as wants.Element x) [] right in
-    made m e (element_known m x first.0)
-statement_proper m (variable x lo hi) s right shallow e = made m e tt
-statement_proper m (value t x k) s right shallow e = cc
-statement_proper m (weight what x k) s right shallow e = cc
-statement_proper m (condition what x f) s right shallow e = made m e (rule_proper m what x f right shallow)
-statement_proper m (requirement f) s right shallow e =
+    (known.0, omega arith, All-from_recursion (λ k. k < length m.elements) (map (element_named m) (first ∷ others)) known.1)
+statement_proper m (pair pair_words.Contrib one other) right shallow =
+    let both = two_right m (use_as wants.Element one) (use_as wants.Element other) right in
+    (element_known m one both.0, element_known m other both.1)
+statement_proper m (pair pair_words.Conflict one other) right shallow =
+    let both = two_right m (use_as wants.Element one) (use_as wants.Element other) right in
+    (element_known m one both.0, element_known m other both.1)
+statement_proper m (pair pair_words.Bind one other) right shallow =
+    let both = two_right m (use_as wants.Refinement one) (use_as wants.Refinement other) right in
+    (refinement_known m one both.0, refinement_known m other both.1)
+statement_proper m (pair pair_words.Prefer one other) right shallow =
+    let both = two_right m (use_as wants.Truth one) (use_as wants.Truth other) right in
+    (truth_known m one both.0, truth_known m other both.1)
+statement_proper m (assertion x truth) right shallow = element_known m x (first_right m (use_as wants.Element x) [] right).0
+statement_proper m (variable x lo hi) right shallow = tt
+statement_proper m (value t x k) right shallow =
+    let both = two_right m (use_as wants.Sum t) (use_as wants.Truth x) right in
+    (sum_known m t both.0, truth_known m x both.1)
+statement_proper m (weight weight_words.Reward x k) right shallow = element_known m x (first_right m (use_as wants.Element x) [] right).0
+statement_proper m (weight weight_words.Penalty x k) right shallow = element_known m x (first_right m (use_as wants.Element x) [] right).0
+statement_proper m (condition what x f) right shallow = rule_proper m what x f right shallow
+statement_proper m (requirement f) right shallow =
     let inside = shallow_after (limit_number limits.FormulaDepth) (codes "require") (spelled f []) shallow in
-    made m e (record { condition = All-from_recursion (IsKnownTruth m) [] tt; formula = formula_proper m f right inside })
-statement_proper m (objective direction quantity) s right shallow e = cc
+    record { condition = All-from_recursion (IsKnownTruth m) [] tt; formula = formula_proper m f right inside }
+statement_proper m (objective direction x) right shallow = quantity_proper m x (bytes_eq (codes "weight") x) (bytes_eq (codes "unsat_prefs") x) (bytes_eq (codes "unsat_reqs") x) (bytes_eq (codes "sat_tasks") x) (bytes_eq (codes "familiarity") x) (bytes_eq (codes "effort") x) right
 
 pub made_proper : (m : Lists) (tokens : List Lexeme) (s : Statement) → IsMade m tokens s → nests_too_deep tokens ≡ false → IsProper m s
 made_proper m tokens s made shallow =
-    statement_proper m made.source s made.names (subst (λ ts. nests_too_deep ts ≡ false) made.spelled shallow) made.meaning
+    subst (IsProper m) made.meaning (statement_proper m made.source made.names (subst (λ ts. nests_too_deep ts ≡ false) made.spelled shallow))

@@ -1,5 +1,5 @@
 -- The first name that is wrong, along terms and formulas.
-use Rattle.std.proofs.Common.{◌≡◌, ℕ, ◌+◌, ◌<◌, ◌≤◌, List, [], ◌∷◌, length, map, get_or, drop, Option, None, Some, refl, sym, ap, ◌∙◌, subst, drop-cons, add-one}
+use Rattle.std.proofs.Common.{◌≡◌, ℕ, ◌+◌, ◌<◌, ◌≤◌, List, [], ◌∷◌, length, map, get_or, drop, Option, None, Some, refl, sym, ap, ◌∙◌, drop-cons, add-one}
 use Rattle.std.specs.Option.{option_or}
 use Rattle.std.proofs.lemmas.List.{drop_all}
 use Rattle.cgm_base.specs.declared.fault.BadKind.{BadKind}
@@ -15,7 +15,7 @@ use Rattle.cgm_text.specs.declared.written.Tree.TheFolds.{fold-roll-Tree}
 use Rattle.cgm_text.specs.declared.written.Tree.TheVariants.{Pair, rolls-Pair}
 use Rattle.cgm_text.specs.Statements.{condition}
 use Rattle.cgm_text.specs.Trees.{formula_in, formulas_of, term_in, tree_step}
-use Rattle.cgm_text.specs.Uses.{NameUse, use_as, terms_uses, formula_uses, formulas_uses, thing_fault, first_fault, statement_uses}
+use Rattle.cgm_text.specs.Uses.{NameUse, terms_uses, formula_uses, formulas_uses, thing_fault, first_fault, statement_uses}
 use Rattle.cgm_text.specs.Written.{WrittenFormula, paired}
 
 -- before whatever names follow, these names have this fault, or none

@@ -2,20 +2,23 @@
 use Rattle.std.proofs.Common.{◌≡◌, ℕ, zero, suc, ◌+◌, ◌<◌, ◌≤◌, arith, Bool, true, false, not, ◌&&◌, ◌||◌, if◌then◌else◌, List, [], ◌∷◌, ◌++◌, drop, get_or, length, map, codes, refl, ap, sym, ◌∙◌, append_assoc, append-nil}
 use Rattle.std.proofs.lemmas.List.{drop_more}
 use Rattle.cgm_lex.specs.Lexemes.{Lexeme, colon, word}
-use Rattle.cgm_lex.specs.Spelling.{gap, is_closing, is_opening, spelled_line, text_of}
+use Rattle.cgm_lex.specs.Spelling.{is_closing, is_opening, spelled_line, text_of}
 use Rattle.cgm_model.specs.declared.lists.Lists.{Lists}
 use Rattle.cgm_model.specs.declared.lists.Statement.{Statement}
 use Rattle.cgm_model.specs.declared.lists.Assertion.{Assertion}
 use Rattle.cgm_model.specs.declared.lists.Edge.{Edge}
 use Rattle.cgm_model.specs.declared.lists.Element.{Element}
+use Rattle.cgm_model.specs.declared.lists.Preference.{Preference}
 use Rattle.cgm_model.specs.declared.lists.Refinement.{Refinement}
-use Rattle.cgm_model.specs.declared.lists.Rule.{Rule}
+use Rattle.cgm_model.specs.declared.lists.Sum.{Sum}
+use Rattle.cgm_model.specs.declared.lists.SumValue.{SumValue}
 use Rattle.cgm_model.specs.declared.lists.Variable.{Variable}
+use Rattle.cgm_model.specs.declared.lists.Weighing.{Weighing}
 use Rattle.cgm_model.specs.declared.lists.Statement.TheVariants as statements
 use Rattle.cgm_model.specs.Canonical.{statements_of}
 use Rattle.cgm_text.specs.Canonical.{canonical_text, element_name, statement_lines, whole_line, written, written_refinement}
 use Rattle.cgm_text.specs.Line.{header_tokens}
-use Rattle.cgm_text.specs.Printing.{rest_of_line, space_before, words_before}
+use Rattle.cgm_text.specs.Printing.{declaring, demanding, relating, rest_of_line, space_before, weighing, words_before}
 use Rattle.cgm_text.specs.Statements.{statement_tokens}
 
 gaps : (opens closes : Bool) → (if opens || closes then [] else codes " ") ≡ (if not opens && not closes then codes " " else [])
@@ -75,40 +78,46 @@ lines_together m (s ∷ xs) ys =
     let first = whole_line (statement_tokens (written m s)) in
     ap (λ (bs : List ℕ). first ++ bs) (lines_together m xs ys) ∙ sym (append_assoc first (statement_lines m xs) (statement_lines m ys))
 
--- the lines of one more group
-pub group_more : (m : Lists) (group rest : List Statement) (old new total : List ℕ) → new ≡ old ++ statement_lines m group → old ++ statement_lines m (group ++ rest) ≡ total → new ++ statement_lines m rest ≡ total
-group_more m group rest old new total e so_far =
-    ap (λ (bs : List ℕ). bs ++ statement_lines m rest) e ∙ append_assoc old (statement_lines m group) (statement_lines m rest)
-    ∙ ap (λ (bs : List ℕ). old ++ bs) (sym (lines_together m group rest)) ∙ so_far
-
 -- a line whose two names are these
 pub two_names : (w x y one other : List ℕ) (old line : List ℕ) → x ≡ one → y ≡ other → line ≡ old ++ spelled_line (word w ∷ word x ∷ word y ∷ []) → line ≡ old ++ spelled_line (word w ∷ word one ∷ word other ∷ [])
 two_names w x y one other old line e f h =
     h ∙ ap (λ (n : List ℕ). old ++ spelled_line (word w ∷ word n ∷ word y ∷ [])) e ∙ ap (λ (n : List ℕ). old ++ spelled_line (word w ∷ word one ∷ word n ∷ [])) f
 
+-- the lines of groups that follow one another
+two_groups : (m : Lists) (xs ys : List Statement) (t a b : List ℕ) → a ≡ t ++ statement_lines m xs → b ≡ a ++ statement_lines m ys → b ≡ t ++ statement_lines m (xs ++ ys)
+two_groups m xs ys t a b a_is b_is =
+    b_is ∙ ap (λ (bs : List ℕ). bs ++ statement_lines m ys) a_is ∙ append_assoc t (statement_lines m xs) (statement_lines m ys)
+    ∙ ap (λ (bs : List ℕ). t ++ bs) (sym (lines_together m xs ys))
+
+pub three_groups : (m : Lists) (xs ys zs : List Statement) (t a b c : List ℕ) → a ≡ t ++ statement_lines m xs → b ≡ a ++ statement_lines m ys → c ≡ b ++ statement_lines m zs → c ≡ t ++ statement_lines m (xs ++ (ys ++ zs))
+three_groups m xs ys zs t a b c a_is b_is c_is = two_groups m xs (ys ++ zs) t a c a_is (two_groups m ys zs a b c b_is c_is)
+
+pub four_groups : (m : Lists) (xs ys zs ws : List Statement) (t a b c d : List ℕ) → a ≡ t ++ statement_lines m xs → b ≡ a ++ statement_lines m ys → c ≡ b ++ statement_lines m zs → d ≡ c ++ statement_lines m ws → d ≡ t ++ statement_lines m (xs ++ (ys ++ (zs ++ ws)))
+four_groups m xs ys zs ws t a b c d a_is b_is c_is d_is =
+    two_groups m xs (ys ++ (zs ++ ws)) t a d a_is (three_groups m ys zs ws a b c d b_is c_is d_is)
+
+four_first : (ws xs ys zs rest : List Statement) → (ws ++ (xs ++ (ys ++ zs))) ++ rest ≡ ws ++ (xs ++ (ys ++ (zs ++ rest)))
+four_first ws xs ys zs rest =
+    append_assoc ws (xs ++ (ys ++ zs)) rest
+    ∙ ap (λ (more : List Statement). ws ++ more) (append_assoc xs (ys ++ zs) rest ∙ ap (λ (more : List Statement). xs ++ more) (append_assoc ys zs rest))
+
+parts_are : (m : Lists) → declaring m ++ (relating m ++ (weighing m ++ demanding m)) ≡ statements_of m
+parts_are m =
+    four_first (map (λ (x : Element). statements.Element x) m.elements) (map (λ (x : Refinement). statements.Refine x) m.refinements) (map (λ (x : Variable). statements.Variable x) m.vars) (map (λ (x : Sum). statements.Sum x) m.sums) (relating m ++ (weighing m ++ demanding m))
+    ∙ ap (λ (rest : List Statement). map (λ (x : Element). statements.Element x) m.elements ++ (map (λ (x : Refinement). statements.Refine x) m.refinements ++ (map (λ (x : Variable). statements.Variable x) m.vars ++ (map (λ (x : Sum). statements.Sum x) m.sums ++ rest))))
+    (four_first (map (λ (x : Edge). statements.Contrib x) m.contribs) (map (λ (x : Edge). statements.Conflict x) m.conflicts) (map (λ (x : Edge). statements.Bind x) m.binds) (map (λ (x : Assertion). statements.Assert x) m.asserts) (weighing m ++ demanding m)
+    ∙ ap (λ (rest : List Statement). map (λ (x : Edge). statements.Contrib x) m.contribs ++ (map (λ (x : Edge). statements.Conflict x) m.conflicts ++ (map (λ (x : Edge). statements.Bind x) m.binds ++ (map (λ (x : Assertion). statements.Assert x) m.asserts ++ rest))))
+    (four_first (map (λ (x : SumValue). statements.Value x) m.values) (map (λ (x : Weighing). statements.Reward x) m.rewards) (map (λ (x : Weighing). statements.Penalty x) m.penalties) (map (λ (x : Preference). statements.Prefer x) m.prefers) (demanding m)))
+
 -- all groups after the header
-pub all_groups : (m : Lists) (t a b c d e f g h : List ℕ) → t ≡ whole_line header_tokens
-    → a ≡ t ++ statement_lines m (map (λ (x : Element). statements.Element x) m.elements)
-    → b ≡ a ++ statement_lines m (map (λ (x : Refinement). statements.Refine x) m.refinements)
-    → c ≡ b ++ statement_lines m (map (λ (x : Variable). statements.Variable x) m.vars)
-    → d ≡ c ++ statement_lines m (map (λ (x : Edge). statements.Contrib x) m.contribs)
-    → e ≡ d ++ statement_lines m (map (λ (x : Edge). statements.Conflict x) m.conflicts)
-    → f ≡ e ++ statement_lines m (map (λ (x : Edge). statements.Bind x) m.binds)
-    → g ≡ f ++ statement_lines m (map (λ (x : Assertion). statements.Assert x) m.asserts)
-    → h ≡ g ++ statement_lines m (map (λ (x : Rule). statements.Rule x) m.rules)
-    → h ≡ canonical_text m
+pub all_groups : (m : Lists) (t a b c d : List ℕ) → t ≡ whole_line header_tokens
+    → a ≡ t ++ statement_lines m (declaring m) → b ≡ a ++ statement_lines m (relating m) → c ≡ b ++ statement_lines m (weighing m) → d ≡ c ++ statement_lines m (demanding m)
+    → d ≡ canonical_text m
 unfolding canonical_text
-all_groups m t a b c d e f g h t_is a_is b_is c_is d_is e_is f_is g_is h_is =
-    let total = whole_line header_tokens ++ statement_lines m (statements_of m) in
-    let s0 : t ++ statement_lines m (statements_of m) ≡ total = ap (λ (bs : List ℕ). bs ++ statement_lines m (statements_of m)) t_is in
-    let s1 = group_more m (map (λ (x : Element). statements.Element x) m.elements) (map (λ (x : Refinement). statements.Refine x) m.refinements ++ (map (λ (x : Variable). statements.Variable x) m.vars ++ (map (λ (x : Edge). statements.Contrib x) m.contribs ++ (map (λ (x : Edge). statements.Conflict x) m.conflicts ++ (map (λ (x : Edge). statements.Bind x) m.binds ++ (map (λ (x : Assertion). statements.Assert x) m.asserts ++ (map (λ (x : Rule). statements.Rule x) m.rules))))))) t a total a_is s0 in
-    let s2 = group_more m (map (λ (x : Refinement). statements.Refine x) m.refinements) (map (λ (x : Variable). statements.Variable x) m.vars ++ (map (λ (x : Edge). statements.Contrib x) m.contribs ++ (map (λ (x : Edge). statements.Conflict x) m.conflicts ++ (map (λ (x : Edge). statements.Bind x) m.binds ++ (map (λ (x : Assertion). statements.Assert x) m.asserts ++ (map (λ (x : Rule). statements.Rule x) m.rules)))))) a b total b_is s1 in
-    let s3 = group_more m (map (λ (x : Variable). statements.Variable x) m.vars) (map (λ (x : Edge). statements.Contrib x) m.contribs ++ (map (λ (x : Edge). statements.Conflict x) m.conflicts ++ (map (λ (x : Edge). statements.Bind x) m.binds ++ (map (λ (x : Assertion). statements.Assert x) m.asserts ++ (map (λ (x : Rule). statements.Rule x) m.rules))))) b c total c_is s2 in
-    let s4 = group_more m (map (λ (x : Edge). statements.Contrib x) m.contribs) (map (λ (x : Edge). statements.Conflict x) m.conflicts ++ (map (λ (x : Edge). statements.Bind x) m.binds ++ (map (λ (x : Assertion). statements.Assert x) m.asserts ++ (map (λ (x : Rule). statements.Rule x) m.rules)))) c d total d_is s3 in
-    let s5 = group_more m (map (λ (x : Edge). statements.Conflict x) m.conflicts) (map (λ (x : Edge). statements.Bind x) m.binds ++ (map (λ (x : Assertion). statements.Assert x) m.asserts ++ (map (λ (x : Rule). statements.Rule x) m.rules))) d e total e_is s4 in
-    let s6 = group_more m (map (λ (x : Edge). statements.Bind x) m.binds) (map (λ (x : Assertion). statements.Assert x) m.asserts ++ (map (λ (x : Rule). statements.Rule x) m.rules)) e f total f_is s5 in
-    let s7 = group_more m (map (λ (x : Assertion). statements.Assert x) m.asserts) (map (λ (x : Rule). statements.Rule x) m.rules) f g total g_is s6 in
-    h_is ∙ s7
+all_groups m t a b c d t_is a_is b_is c_is d_is =
+    four_groups m (declaring m) (relating m) (weighing m) (demanding m) t a b c d a_is b_is c_is d_is
+    ∙ ap (λ (bs : List ℕ). bs ++ statement_lines m (declaring m ++ (relating m ++ (weighing m ++ demanding m)))) t_is
+    ∙ ap (λ (ss : List Statement). whole_line header_tokens ++ statement_lines m ss) (parts_are m)
 
 -- the line of a refinement
 

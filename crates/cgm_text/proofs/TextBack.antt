@@ -1,55 +1,51 @@
 -- The canonical text of a well-formed model is the text of this model.
-use Rattle.std.proofs.Common.{◌≡◌, ◌≢◌, ℕ, zero, suc, ◌+◌, ◌<◌, ◌≤◌, ◌==◌, ℤ, pos, negsuc, Bool, true, false, ◌&&◌, ◌||◌, not, nat_le, IsTrue, List, [], ◌∷◌, ◌++◌, length, map, get_or, slice_get, FitsSigned, Option, None, Some, Result, Ok, Err, refl, sym, ap, ◌∙◌, subst, arith, append_assoc, append-nil, true≢false, w64}
+use Rattle.std.proofs.Common.{◌≡◌, ◌≢◌, ℕ, zero, suc, ◌+◌, ◌<◌, ◌≤◌, ◌==◌, ℤ, pos, negsuc, Bool, true, false, nat_le, List, [], ◌∷◌, ◌++◌, length, map, get_or, slice_get, FitsSigned, None, Some, Result, Ok, refl, sym, ap, ◌∙◌, subst, arith, append_assoc, append-nil, w64}
 use Rattle.std.specs.Prelude.{unsigned_abs}
-use Rattle.std.specs.Char.{is_ascii_digit}
 use Rattle.std.specs.List.{All, AllByRecursion, list_all}
 use Rattle.std.proofs.lemmas.Bool.{and_parts, ne_eqb}
 use Rattle.std.proofs.lemmas.Bool.Decides.{nat_tests}
-use Rattle.std.proofs.lemmas.List.{length-append, length-map}
+use Rattle.std.proofs.lemmas.List.{length-map}
 use Rattle.std.proofs.lemmas.List.Elements.{All-from_recursion, recursion_from_All}
 use Rattle.std.proofs.lemmas.List.Splits.{slice_split_at}
-use Rattle.std.proofs.lemmas.Option.{none-some, same_Some, get_or_from_slice_get}
+use Rattle.std.proofs.lemmas.Option.{none-some, get_or_from_slice_get}
 use Rattle.cgm_base.specs.declared.limit.Which.TheVariants as limits
 use Rattle.cgm_base.specs.Words.{limit_number}
 use Rattle.cgm_formula.specs.declared.formula.Formula.{Formula}
 use Rattle.cgm_formula.specs.declared.formula.Linear.{Linear}
 use Rattle.cgm_formula.specs.declared.formula.Number.{Number}
-use Rattle.cgm_formula.specs.declared.formula.Number.TheVariants as numbers_of
 use Rattle.cgm_formula.specs.Nodes.{names as names_in, comparisons}
-use Rattle.cgm_lex.specs.Lexemes.{Lexeme, line_lexemes, number, word}
+use Rattle.cgm_lex.specs.Lexemes.{Lexeme, line_lexemes, word}
 use Rattle.cgm_lex.specs.Lines.{lines}
-use Rattle.cgm_lex.specs.Pieces.{is_run_byte}
-use Rattle.cgm_lex.specs.Numbers.{begins_number}
 use Rattle.cgm_lex.specs.Spelling.{IsPlain, spelled_line}
 use Rattle.cgm_lex.proofs.Printing.{line_is_read, line_has_no_feed}
-use Rattle.cgm_model.specs.declared.lists.Edge.{Edge}
 use Rattle.cgm_model.specs.declared.lists.Element.{Element}
 use Rattle.cgm_model.specs.declared.lists.Lists.{Lists}
 use Rattle.cgm_model.specs.declared.lists.Refinement.{Refinement}
-use Rattle.cgm_model.specs.declared.lists.Rule.{Rule}
 use Rattle.cgm_model.specs.declared.lists.Statement.{Statement}
 use Rattle.cgm_model.specs.declared.lists.Statement.TheVariants as statements
+use Rattle.cgm_model.specs.declared.lists.Sum.{Sum}
 use Rattle.cgm_model.specs.declared.lists.Thing.{Thing}
 use Rattle.cgm_model.specs.declared.lists.Thing.TheVariants as things
 use Rattle.cgm_model.specs.declared.lists.Variable.{Variable}
 use Rattle.cgm_model.specs.Canonical.{statements_of, after, StandInOrder}
 use Rattle.cgm_model.specs.Formulas.{IsKnownNumber, IsKnownTruth, IsProperFormula, every_linear, formula_of as formula_of_rule, has_small_terms}
 use Rattle.cgm_model.specs.Lists.{added, no_lists}
-use Rattle.cgm_model.specs.Name.{continues_name, is_name, is_reserved, is_spelled, starts_name}
-use Rattle.cgm_model.specs.Named.{element_names, names, refinement_names, variable_names, IsNamed, thing_named}
+use Rattle.cgm_model.specs.Name.{is_name}
+use Rattle.cgm_model.specs.Named.{element_names, refinement_names, sum_names, variable_names, IsNamed, thing_named}
 use Rattle.cgm_model.specs.Statement.{IsAllowed, IsProper}
-use Rattle.cgm_model.specs.WellFormed.{IsRule, IsVariable, IsWellFormed}
+use Rattle.cgm_model.specs.WellFormed.{IsRule, IsValue, IsVariable, IsWeighing, IsWellFormed}
 use Rattle.cgm_model.proofs.Canon.{after_all, stands_in_order}
 use Rattle.cgm_model.proofs.Keeping.{IsWellFormed-added, IsWellFormed-none}
 use Rattle.cgm_model.proofs.Lookups.{place, placed, thing_named-from_named}
-use Rattle.cgm_text.specs.Back.{ArePlain, Fitting, Given, HasWidth, IsSide, IsTerm, Knows, StatementBack}
-use Rattle.cgm_text.specs.Canonical.{canonical_text, element_name, refinement_name, number_name, name_at, statement_lines, whole_line, written}
-use Rattle.cgm_text.specs.Line.{ComesTo, AreLexemesJudged, AreShallowJudged, IsNamedJudged, IsJudged, HasForm, Form, header_tokens, nests_too_deep, nothing, header, says, written as form_written}
-use Rattle.cgm_text.specs.Meaning.{is_read, statement_of}
-use Rattle.cgm_text.specs.Statements.{WrittenStatement, sort_of, sort_word, body, statement_tokens}
-use Rattle.cgm_text.specs.Text.{HasStatements, IsOutcome, IsTextOf, Lead, LineStatement, Outcome, after_line, all_added, gives, model_of, on_line}
+use Rattle.cgm_text.specs.Back.{ArePlain, Fitting, Given, HasWidth, IsSide, IsTerm, IsThere, thing_name, Knows, StatementBack}
+use Rattle.cgm_text.specs.Canonical.{canonical_text, name_at, statement_lines, whole_line, written}
+use Rattle.cgm_text.specs.Line.{ComesTo, AreLexemesJudged, AreShallowJudged, IsNamedJudged, header_tokens, nests_too_deep, nothing, header, says, written as form_written}
+use Rattle.cgm_text.specs.Meaning.{statement_of}
+use Rattle.cgm_text.specs.Statements.{WrittenStatement, statement_tokens}
+use Rattle.cgm_text.specs.Text.{HasStatements, IsTextOf, Lead, LineStatement, all_added, gives, model_of, on_line}
 use Rattle.cgm_text.specs.Uses.{first_fault, statement_uses}
 use Rattle.cgm_text.proofs.Drafts.{all_added_push}
+use Rattle.cgm_text.proofs.Spellings.{name_plain}
 use Rattle.cgm_text.proofs.StatementsBack.{statement_back}
 
 -- ---- names that stay
@@ -71,27 +67,63 @@ named_stays : (p : Lists) (s : Statement) (n : List ℕ) (t : Thing) → IsNamed
 named_stays p (statements.Element x) n (things.Element k) h = front_named (λ (y : Element). y.name) p.elements (x ∷ []) k n h
 named_stays p (statements.Element x) n (things.Refinement k) h = h
 named_stays p (statements.Element x) n (things.Var k) h = h
+named_stays p (statements.Element x) n (things.Sum k) h = h
 named_stays p (statements.Refine x) n (things.Element k) h = h
 named_stays p (statements.Refine x) n (things.Refinement k) h = front_named (λ (y : Refinement). y.name) p.refinements (x ∷ []) k n h
 named_stays p (statements.Refine x) n (things.Var k) h = h
+named_stays p (statements.Refine x) n (things.Sum k) h = h
 named_stays p (statements.Variable x) n (things.Element k) h = h
 named_stays p (statements.Variable x) n (things.Refinement k) h = h
 named_stays p (statements.Variable x) n (things.Var k) h = front_named (λ (y : Variable). y.name) p.vars (x ∷ []) k n h
+named_stays p (statements.Variable x) n (things.Sum k) h = h
+named_stays p (statements.Sum x) n (things.Element k) h = h
+named_stays p (statements.Sum x) n (things.Refinement k) h = h
+named_stays p (statements.Sum x) n (things.Var k) h = h
+named_stays p (statements.Sum x) n (things.Sum k) h = front_named (λ (y : Sum). y.name) p.sums (x ∷ []) k n h
 named_stays p (statements.Contrib x) n (things.Element k) h = h
 named_stays p (statements.Contrib x) n (things.Refinement k) h = h
 named_stays p (statements.Contrib x) n (things.Var k) h = h
+named_stays p (statements.Contrib x) n (things.Sum k) h = h
 named_stays p (statements.Conflict x) n (things.Element k) h = h
 named_stays p (statements.Conflict x) n (things.Refinement k) h = h
 named_stays p (statements.Conflict x) n (things.Var k) h = h
+named_stays p (statements.Conflict x) n (things.Sum k) h = h
 named_stays p (statements.Bind x) n (things.Element k) h = h
 named_stays p (statements.Bind x) n (things.Refinement k) h = h
 named_stays p (statements.Bind x) n (things.Var k) h = h
+named_stays p (statements.Bind x) n (things.Sum k) h = h
 named_stays p (statements.Assert x) n (things.Element k) h = h
 named_stays p (statements.Assert x) n (things.Refinement k) h = h
 named_stays p (statements.Assert x) n (things.Var k) h = h
+named_stays p (statements.Assert x) n (things.Sum k) h = h
+named_stays p (statements.Value x) n (things.Element k) h = h
+named_stays p (statements.Value x) n (things.Refinement k) h = h
+named_stays p (statements.Value x) n (things.Var k) h = h
+named_stays p (statements.Value x) n (things.Sum k) h = h
+named_stays p (statements.Reward x) n (things.Element k) h = h
+named_stays p (statements.Reward x) n (things.Refinement k) h = h
+named_stays p (statements.Reward x) n (things.Var k) h = h
+named_stays p (statements.Reward x) n (things.Sum k) h = h
+named_stays p (statements.Penalty x) n (things.Element k) h = h
+named_stays p (statements.Penalty x) n (things.Refinement k) h = h
+named_stays p (statements.Penalty x) n (things.Var k) h = h
+named_stays p (statements.Penalty x) n (things.Sum k) h = h
+named_stays p (statements.Prefer x) n (things.Element k) h = h
+named_stays p (statements.Prefer x) n (things.Refinement k) h = h
+named_stays p (statements.Prefer x) n (things.Var k) h = h
+named_stays p (statements.Prefer x) n (things.Sum k) h = h
 named_stays p (statements.Rule x) n (things.Element k) h = h
 named_stays p (statements.Rule x) n (things.Refinement k) h = h
 named_stays p (statements.Rule x) n (things.Var k) h = h
+named_stays p (statements.Rule x) n (things.Sum k) h = h
+named_stays p (statements.Interest x) n (things.Element k) h = h
+named_stays p (statements.Interest x) n (things.Refinement k) h = h
+named_stays p (statements.Interest x) n (things.Var k) h = h
+named_stays p (statements.Interest x) n (things.Sum k) h = h
+named_stays p (statements.Objective x) n (things.Element k) h = h
+named_stays p (statements.Objective x) n (things.Refinement k) h = h
+named_stays p (statements.Objective x) n (things.Var k) h = h
+named_stays p (statements.Objective x) n (things.Sum k) h = h
 
 named_after : (p : Lists) (ss : List Statement) (n : List ℕ) (t : Thing) → IsNamed p n t → IsNamed (after p ss) n t
 named_after p [] n t h = h
@@ -102,69 +134,33 @@ get_some [] k h = absurd (omega arith)
 get_some (x ∷ xs) zero h = refl
 get_some (x ∷ xs) (suc k) h = get_some xs k (omega arith)
 
--- ---- names are words
-
-start_runs : (b : ℕ) → starts_name b ≡ true → is_run_byte b ≡ true
-start_runs b e = grind (arith, nat_tests)
-
-start_is_no_digit : (b : ℕ) → starts_name b ≡ true → is_ascii_digit b ≡ false
-start_is_no_digit b e = grind (arith, nat_tests)
-
-start_is_no_minus : (b : ℕ) → starts_name b ≡ true → (b == 45) ≡ false
-start_is_no_minus b e = grind (arith, nat_tests)
-
-continue_runs : (b : ℕ) → continues_name b ≡ true → is_run_byte b ≡ true
-continue_runs b e = grind (arith, nat_tests)
-
-continues_run : (bs : List ℕ) → list_all continues_name bs ≡ true → list_all is_run_byte bs ≡ true
-continues_run [] e = refl
-continues_run (b ∷ bs) e =
-    let parts = and_parts (continues_name b) (list_all continues_name bs) e in
-    rw (continue_runs b parts.0) (continues_run bs parts.1)
-
-no_number : (b : ℕ) (bs : List ℕ) → starts_name b ≡ true → begins_number (b ∷ bs) ≡ false
-no_number b [] e = start_is_no_digit b e
-no_number b (c ∷ bs) e = rw (start_is_no_digit b e) (rw (start_is_no_minus b e) refl)
-
-name_plain : (n : List ℕ) → is_name n ≡ true → IsPlain (word n)
-name_plain [] e = cc
-name_plain (b ∷ bs) e =
-    let spelled = (and_parts (is_spelled (b ∷ bs)) (not (is_reserved (b ∷ bs))) e).0 in
-    let parts = and_parts (starts_name b) (list_all continues_name bs) spelled in
-    (omega arith, (rw (start_runs b parts.0) (continues_run bs parts.1), no_number b bs parts.0))
-
-named_plain : (p : Lists) → IsWellFormed p → (n : List ℕ) (t : Thing) → IsNamed p n t → IsPlain (word n)
-named_plain p w n t h =
-    let q = placed p n t h in
-    name_plain n (subst (λ (x : List ℕ). is_name x ≡ true) q.named (w.names.spelled (place p t) [] q.within))
-
 -- ---- what the lists before a statement know
 
-element_there : (p : Lists) (k : ℕ) → k < length p.elements → IsNamed p (element_name p k) (things.Element k)
-element_there p k h = get_some (element_names p) k (omega (arith, h, length-map p.elements (λ (x : Element). x.name)))
+-- what has a name is spelled as one
+named_spelled : (p : Lists) → IsWellFormed p → (n : List ℕ) (t : Thing) → IsNamed p n t → is_name n ≡ true
+named_spelled p w n t h =
+    let q = placed p n t h in
+    subst (λ (x : List ℕ). is_name x ≡ true) q.named (w.names.spelled (place p t) [] q.within)
 
-refinement_there : (p : Lists) (k : ℕ) → k < length p.refinements → IsNamed p (refinement_name p k) (things.Refinement k)
-refinement_there p k h = get_some (refinement_names p) k (omega (arith, h, length-map p.refinements (λ (x : Refinement). x.name)))
+there_named : (p : Lists) (t : Thing) → IsThere p t → IsNamed p (thing_name p t) t
+there_named p (things.Element k) h = get_some (element_names p) k (omega (arith, h, length-map p.elements (λ (x : Element). x.name)))
+there_named p (things.Refinement k) h = get_some (refinement_names p) k (omega (arith, h, length-map p.refinements (λ (x : Refinement). x.name)))
+there_named p (things.Var k) h = get_some (variable_names p) k (omega (arith, h, length-map p.vars (λ (x : Variable). x.name)))
+there_named p (things.Sum k) h = get_some (sum_names p) k (omega (arith, h, length-map p.sums (λ (x : Sum). x.name)))
 
-variable_there : (p : Lists) (k : ℕ) → k < length p.vars → IsNamed p (number_name p (numbers_of.Var k)) (things.Var k)
-variable_there p k h = get_some (variable_names p) k (omega (arith, h, length-map p.vars (λ (x : Variable). x.name)))
+name_is : (m : Lists) (n : List ℕ) (t : Thing) → IsNamed m n t → thing_name m t ≡ n
+name_is m n (things.Element k) h = get_or_from_slice_get (element_names m) k n [] h
+name_is m n (things.Refinement k) h = get_or_from_slice_get (refinement_names m) k n [] h
+name_is m n (things.Var k) h = get_or_from_slice_get (variable_names m) k n [] h
+name_is m n (things.Sum k) h = get_or_from_slice_get (sum_names m) k n [] h
 
 knows : (p m : Lists) (ss : List Statement) → IsWellFormed p → after p ss ≡ m → Knows p m
 knows p m ss w e =
-    let stays : (n : List ℕ) (t : Thing) → IsNamed p n t → IsNamed m n t = λ n t h. subst (λ (q : Lists). IsNamed q n t) e (named_after p ss n t h) in
-    let element_same : (k : ℕ) → k < length p.elements → element_name m k ≡ element_name p k = λ k h.
-    get_or_from_slice_get (element_names m) k (element_name p k) [] (stays (element_name p k) (things.Element k) (element_there p k h)) in
-    let refinement_same : (k : ℕ) → k < length p.refinements → refinement_name m k ≡ refinement_name p k = λ k h.
-    get_or_from_slice_get (refinement_names m) k (refinement_name p k) [] (stays (refinement_name p k) (things.Refinement k) (refinement_there p k h)) in
-    let variable_same : (k : ℕ) → k < length p.vars → number_name m (numbers_of.Var k) ≡ number_name p (numbers_of.Var k) = λ k h.
-    get_or_from_slice_get (variable_names m) k (number_name p (numbers_of.Var k)) [] (stays (number_name p (numbers_of.Var k)) (things.Var k) (variable_there p k h)) in
+    let same : (t : Thing) → IsThere p t → thing_name m t ≡ thing_name p t = λ t h.
+    name_is m (thing_name p t) t (subst (λ (q : Lists). IsNamed q (thing_name p t) t) e (named_after p ss (thing_name p t) t (there_named p t h))) in
     record {
-      elements = λ k h. ap (thing_named p) (element_same k h) ∙ thing_named-from_named p w (element_name p k) (things.Element k) (element_there p k h);
-      refinements = λ k h. ap (thing_named p) (refinement_same k h) ∙ thing_named-from_named p w (refinement_name p k) (things.Refinement k) (refinement_there p k h);
-      vars = λ k h. ap (thing_named p) (variable_same k h) ∙ thing_named-from_named p w (number_name p (numbers_of.Var k)) (things.Var k) (variable_there p k h);
-      plain_elements = λ k h. subst (λ (n : List ℕ). IsPlain (word n)) (sym (element_same k h)) (named_plain p w (element_name p k) (things.Element k) (element_there p k h));
-      plain_refinements = λ k h. subst (λ (n : List ℕ). IsPlain (word n)) (sym (refinement_same k h)) (named_plain p w (refinement_name p k) (things.Refinement k) (refinement_there p k h));
-      plain_vars = λ k h. subst (λ (n : List ℕ). IsPlain (word n)) (sym (variable_same k h)) (named_plain p w (number_name p (numbers_of.Var k)) (things.Var k) (variable_there p k h));
+      named = λ t h. ap (thing_named p) (same t h) ∙ thing_named-from_named p w (thing_name p t) t (there_named p t h);
+      spelled = λ t h. ap is_name (same t h) ∙ named_spelled p w (thing_name p t) t (there_named p t h);
     }
 
 -- ---- numbers
@@ -173,8 +169,11 @@ bound_fits : (k : ℤ) → unsigned_abs k ≤ 1000000000 → FitsSigned w64 k
 bound_fits (pos n) h = record { sfits = omega arith }
 bound_fits (negsuc n) h = record { sfits = omega arith }
 
+number_fits : (k : ℤ) → unsigned_abs k ≤ 1000000 → FitsSigned w64 k
+number_fits k h = bound_fits k (omega (arith, h))
+
 coefficient_fits : (k : ℤ) → nat_le (unsigned_abs k) 1000000 ≡ true → FitsSigned w64 k
-coefficient_fits k e = let h : unsigned_abs k ≤ 1000000 = grind (arith, nat_tests) in bound_fits k (omega (arith, h))
+coefficient_fits k e = let h : unsigned_abs k ≤ 1000000 = grind (arith, nat_tests) in number_fits k h
 
 terms_fit : (p : Lists) (ts : List (ℤ × Number)) → AllByRecursion (λ (t : ℤ × Number). IsKnownNumber p t.1) ts → list_all (λ (t : ℤ × Number). nat_le (unsigned_abs t.0) (limit_number limits.Coefficient)) ts ≡ true → AllByRecursion (IsTerm p) ts
 terms_fit p [] known small = tt
@@ -195,28 +194,45 @@ formula_given p f proper small fits = record {
   full = proper.full;
 }
 
+-- the name that a statement adds is a word
+added_plain : (p : Lists) → IsWellFormed p → (n : List ℕ) (t : Thing) → IsNamed p n t → IsPlain (word n)
+added_plain p w n t h = name_plain n (named_spelled p w n t h)
+
 fitting : (p : Lists) (s : Statement) → IsWellFormed (added p s) → IsProper p s → HasWidth s → Fitting p s
-fitting p (statements.Element e) w proper wide = named_plain (added p (statements.Element e)) w e.name (things.Element (length p.elements)) (last_named (λ (x : Element). x.name) p.elements e)
-fitting p (statements.Refine r) w proper wide = named_plain (added p (statements.Refine r)) w r.name (things.Refinement (length p.refinements)) (last_named (λ (x : Refinement). x.name) p.refinements r)
+fitting p (statements.Element e) w proper wide = added_plain (added p (statements.Element e)) w e.name (things.Element (length p.elements)) (last_named (λ (x : Element). x.name) p.elements e)
+fitting p (statements.Refine r) w proper wide = added_plain (added p (statements.Refine r)) w r.name (things.Refinement (length p.refinements)) (last_named (λ (x : Refinement). x.name) p.refinements r)
 fitting p (statements.Variable v) w proper wide =
     let is : IsVariable v = last_holds IsVariable p.vars v w.vars in
-    (named_plain (added p (statements.Variable v)) w v.name (things.Var (length p.vars)) (last_named (λ (x : Variable). x.name) p.vars v), (bound_fits v.lo is.low, bound_fits v.hi is.high))
+    (added_plain (added p (statements.Variable v)) w v.name (things.Var (length p.vars)) (last_named (λ (x : Variable). x.name) p.vars v), (bound_fits v.lo is.low, bound_fits v.hi is.high))
+fitting p (statements.Sum x) w proper wide = added_plain (added p (statements.Sum x)) w x.name (things.Sum (length p.sums)) (last_named (λ (y : Sum). y.name) p.sums x)
 fitting p (statements.Contrib e) w proper wide = tt
 fitting p (statements.Conflict e) w proper wide = tt
 fitting p (statements.Bind e) w proper wide = tt
 fitting p (statements.Assert a) w proper wide = tt
+fitting p (statements.Value v) w proper wide =
+    let is : IsValue (added p (statements.Value v)) v = last_holds (IsValue (added p (statements.Value v))) p.values v w.values in
+    number_fits v.k is.small
+fitting p (statements.Reward v) w proper wide =
+    let is : IsWeighing (added p (statements.Reward v)) v = last_holds (IsWeighing (added p (statements.Reward v))) p.rewards v w.rewards in
+    number_fits v.k is.small
+fitting p (statements.Penalty v) w proper wide =
+    let is : IsWeighing (added p (statements.Penalty v)) v = last_holds (IsWeighing (added p (statements.Penalty v))) p.penalties v w.penalties in
+    number_fits v.k is.small
+fitting p (statements.Prefer x) w proper wide = tt
 fitting p (statements.Rule r) w proper wide =
     let is : IsRule (added p (statements.Rule r)) r = last_holds (IsRule (added p (statements.Rule r))) p.rules r w.rules in
     formula_given p (formula_of_rule r) proper.formula is.small wide
+fitting p (statements.Interest k) w proper wide = tt
+fitting p (statements.Objective o) w proper wide = tt
 
 -- ---- lines
 
 comes_by : (p : Lists) (s : Statement) (v : WrittenStatement) → IsAllowed p s → StatementBack p s v → (bytes : List ℕ) → line_lexemes bytes ≡ Ok (statement_tokens v) → ComesTo (Some p) bytes (says s)
 comes_by p s v allowed back bytes e =
-    let judged : IsNamedJudged None p (Some s) (says s) = (refl, allowed) in
-    let meant : IsNamedJudged None p (statement_of p v) (says s) = subst (λ (o : Option Statement). IsNamedJudged None p o (says s)) (sym back.meaning) judged in
+    let judged : IsNamedJudged None p s (says s) = (refl, allowed) in
+    let meant : IsNamedJudged None p (statement_of p v) (says s) = subst (λ (t : Statement). IsNamedJudged None p t (says s)) (sym back.meaning) judged in
     let named : IsNamedJudged (first_fault p (statement_uses v)) p (statement_of p v) (says s) = subst (λ o. IsNamedJudged o p (statement_of p v) (says s)) (sym back.names) meant in
-    let shallow : AreShallowJudged false (Some p) (statement_tokens v) (says s) = (form_written v, ((refl, back.read), named)) in
+    let shallow : AreShallowJudged false (Some p) (statement_tokens v) (says s) = (form_written v, (refl, named)) in
     let deep : AreShallowJudged (nests_too_deep (statement_tokens v)) (Some p) (statement_tokens v) (says s) = subst (λ (b : Bool). AreShallowJudged b (Some p) (statement_tokens v) (says s)) (sym back.shallow) shallow in
     subst (λ (r : Result (List Lexeme) _). AreLexemesJudged (Some p) r (says s)) (sym e) deep
 

@@ -1,17 +1,15 @@
 -- A line comes to one thing, and always to something.
-use Rattle.std.proofs.Common.{◌≡◌, ◌≢◌, ◌↔◌, ℕ, Bool, true, false, IsTrue, List, [], ◌∷◌, Option, None, Some, Result, Ok, Err, refl, sym, ap, ◌∙◌, subst, true≢false}
+use Rattle.std.proofs.Common.{◌≡◌, ◌↔◌, ℕ, Bool, true, false, IsTrue, List, [], ◌∷◌, Option, None, Some, Result, Ok, Err, refl, sym, ap, ◌∙◌, subst, true≢false}
 use Rattle.cgm_base.specs.declared.fault.BadKind.{BadKind}
 use Rattle.cgm_base.specs.declared.fault.BadKind.TheVariants as kinds
-use Rattle.cgm_base.specs.declared.limit.Which.{Which}
 use Rattle.cgm_base.specs.declared.limit.Which.TheVariants as limits
 use Rattle.cgm_lex.specs.declared.token.Flaw.{Flaw}
-use Rattle.cgm_lex.specs.Lexemes.{Lexeme, word, line_lexemes}
+use Rattle.cgm_lex.specs.Lexemes.{Lexeme, line_lexemes}
 use Rattle.cgm_model.specs.declared.lists.Lists.{Lists}
 use Rattle.cgm_model.specs.declared.lists.Statement.{Statement}
 use Rattle.cgm_model.specs.declared.stop.AddStop.{AddStop}
 use Rattle.cgm_model.specs.declared.stop.AddStop.TheVariants as stops
 use Rattle.cgm_model.specs.declared.stop.Fault.{Fault}
-use Rattle.cgm_model.specs.declared.stop.Fault.TheVariants as faults
 use Rattle.cgm_model.specs.Graph.{IsAcyclic}
 use Rattle.cgm_model.specs.Lists.{added}
 use Rattle.cgm_model.specs.Statement.{IsAllowed, IsNotAdded, refusal}
@@ -19,44 +17,24 @@ use Rattle.cgm_model.proofs.Refusals.{IsAllowed-passed, IsNotAdded-refused}
 use Rattle.cgm_model.proofs.Verdicts.{refused_not_allowed, refused_once}
 use Rattle.cgm_text.specs.declared.fault.LineFault.{LineFault}
 use Rattle.cgm_text.specs.declared.fault.LineFault.TheVariants as line_faults
-use Rattle.cgm_text.specs.declared.written.NameWord.TheVariants as name_words
-use Rattle.cgm_text.specs.declared.written.PairWord.TheVariants as pair_words
-use Rattle.cgm_text.specs.declared.written.Sort.{Sort}
-use Rattle.cgm_text.specs.Line.{Verdict, nothing, header, says, faulty, refusal_kind, flaw_kind, header_tokens, Form, no_word, not_read, no_form, written, BeginsAs, HasForm, IsRefusedAs, IsJudged, IsNamedJudged, IsFormJudged, AreJudged, AreFirst, AreShallowJudged, nests_too_deep, AreLexemesJudged, ComesTo}
-use Rattle.cgm_text.specs.Meaning.{is_read, statement_of}
-use Rattle.cgm_text.specs.Statements.{WrittenStatement, goal, named, refinement, pair, assertion, variable, value, weight, condition, requirement, objective, sort_of, sort_word, body, statement_tokens}
+use Rattle.cgm_text.specs.Line.{Verdict, nothing, header, says, faulty, refusal_kind, flaw_kind, Form, no_word, no_form, written, HasForm, IsRefusedAs, IsJudged, IsNamedJudged, IsFormJudged, AreJudged, AreFirst, AreShallowJudged, nests_too_deep, AreLexemesJudged, ComesTo}
+use Rattle.cgm_text.specs.Meaning.{statement_of}
+use Rattle.cgm_text.specs.Statements.{sort_of, body}
 use Rattle.cgm_text.specs.Uses.{first_fault, statement_uses}
-use Rattle.cgm_text.proofs.Forms.{sort_is, statement_once}
+use Rattle.cgm_text.proofs.Forms.{statement_once}
 
 -- forms
 
-begins_apart : (tokens : List Lexeme) → BeginsAs tokens false → BeginsAs tokens true → ⊥
-begins_apart tokens a b =
-    let same = sym a.begins ∙ b.begins in
-    let words : sort_word a.sort ≡ sort_word b.sort = cc in
-    let sorts = sort_is a.sort b.sort words in
-    true≢false (sym b.reads_it ∙ (ap is_read (sym sorts) ∙ a.reads_it))
-
-begins_written : (tokens : List Lexeme) (s : WrittenStatement) → HasForm tokens (written s) → BeginsAs tokens true
-begins_written tokens s has = record { sort = sort_of s; after = body s; begins = has.0; reads_it = has.1 }
-
 form_once : (tokens : List Lexeme) (a b : Form) → HasForm tokens a → HasForm tokens b → a ≡ b
 form_once tokens no_word no_word x y = refl
-form_once tokens no_word not_read x y = absurd (x y.sort y.after y.begins)
 form_once tokens no_word no_form x y = absurd (x y.0.sort y.0.after y.0.begins)
-form_once tokens no_word (written s) x y = absurd (x (sort_of s) (body s) y.0)
-form_once tokens not_read no_word x y = absurd (y x.sort x.after x.begins)
-form_once tokens not_read not_read x y = refl
-form_once tokens not_read no_form x y = absurd (begins_apart tokens x y.0)
-form_once tokens not_read (written s) x y = absurd (begins_apart tokens x (begins_written tokens s y))
+form_once tokens no_word (written s) x y = absurd (x (sort_of s) (body s) y)
 form_once tokens no_form no_word x y = absurd (y x.0.sort x.0.after x.0.begins)
-form_once tokens no_form not_read x y = absurd (begins_apart tokens y x.0)
 form_once tokens no_form no_form x y = refl
-form_once tokens no_form (written s) x y = absurd (x.1 s y.0)
-form_once tokens (written s) no_word x y = absurd (y (sort_of s) (body s) x.0)
-form_once tokens (written s) not_read x y = absurd (begins_apart tokens y (begins_written tokens s x))
-form_once tokens (written s) no_form x y = absurd (y.1 s x.0)
-form_once tokens (written s) (written t) x y = ap written (statement_once s t (sym x.0 ∙ y.0))
+form_once tokens no_form (written s) x y = absurd (x.1 s y)
+form_once tokens (written s) no_word x y = absurd (y (sort_of s) (body s) x)
+form_once tokens (written s) no_form x y = absurd (y.1 s x)
+form_once tokens (written s) (written t) x y = ap written (statement_once s t (sym x ∙ y))
 
 -- refusals
 
@@ -83,26 +61,24 @@ refused_as_not_allowed m s (line_faults.Limit u) x allowed = refused_not_allowed
 
 -- verdicts
 
-judged_once : (m : Lists) (s : Option Statement) (v w : Verdict) → IsJudged m s v → IsJudged m s w → v ≡ w
-judged_once m None v w x y = absurd x
-judged_once m (Some s) nothing w x y = absurd x
-judged_once m (Some s) header w x y = absurd x
-judged_once m (Some s) (says t) nothing x y = absurd y
-judged_once m (Some s) (says t) header x y = absurd y
-judged_once m (Some s) (says t) (says u) x y = ap says (x.0 ∙ sym y.0)
-judged_once m (Some s) (says t) (faulty g) x y = absurd (refused_as_not_allowed m s g y x.1)
-judged_once m (Some s) (faulty f) nothing x y = absurd y
-judged_once m (Some s) (faulty f) header x y = absurd y
-judged_once m (Some s) (faulty f) (says u) x y = absurd (refused_as_not_allowed m s f x y.1)
-judged_once m (Some s) (faulty f) (faulty g) x y = ap faulty (refused_as_once m s f g x y)
+judged_once : (m : Lists) (s : Statement) (v w : Verdict) → IsJudged m s v → IsJudged m s w → v ≡ w
+judged_once m s nothing w x y = absurd x
+judged_once m s header w x y = absurd x
+judged_once m s (says t) nothing x y = absurd y
+judged_once m s (says t) header x y = absurd y
+judged_once m s (says t) (says u) x y = ap says (x.0 ∙ sym y.0)
+judged_once m s (says t) (faulty g) x y = absurd (refused_as_not_allowed m s g y x.1)
+judged_once m s (faulty f) nothing x y = absurd y
+judged_once m s (faulty f) header x y = absurd y
+judged_once m s (faulty f) (says u) x y = absurd (refused_as_not_allowed m s f x y.1)
+judged_once m s (faulty f) (faulty g) x y = ap faulty (refused_as_once m s f g x y)
 
-named_judged_once : (bad : Option BadKind) (m : Lists) (s : Option Statement) (v w : Verdict) → IsNamedJudged bad m s v → IsNamedJudged bad m s w → v ≡ w
+named_judged_once : (bad : Option BadKind) (m : Lists) (s : Statement) (v w : Verdict) → IsNamedJudged bad m s v → IsNamedJudged bad m s w → v ≡ w
 named_judged_once (Some kind) m s v w x y = x ∙ sym y
 named_judged_once None m s v w x y = judged_once m s v w x y
 
 form_judged_once : (m : Lists) (form : Form) (v w : Verdict) → IsFormJudged m form v → IsFormJudged m form w → v ≡ w
 form_judged_once m no_word v w x y = x ∙ sym y
-form_judged_once m not_read v w x y = x ∙ sym y
 form_judged_once m no_form v w x y = x ∙ sym y
 form_judged_once m (written s) v w x y = named_judged_once (first_fault m (statement_uses s)) m (statement_of m s) v w x y
 
@@ -142,70 +118,38 @@ verdict_once before line v w x y = lexemes_once before (line_lexemes line) v w x
 abbrev Never : (Verdict → Type 0) → Type 0
 Never P = (v : Verdict) → ¬ P v
 
-not_added_some : (m : Lists) (s : Statement) (stop : AddStop) → IsNotAdded m s stop → Never (IsJudged m (Some s)) → ⊥
+not_added_some : (m : Lists) (s : Statement) (stop : AddStop) → IsNotAdded m s stop → Never (IsJudged m s) → ⊥
 not_added_some m s (stops.Refused f) refused none = none (faulty (line_faults.Bad (refusal_kind f))) (f, (refused, refl))
 not_added_some m s (stops.Limit which) refused none = none (faulty (line_faults.Limit which)) refused
 not_added_some m s stops.Memory allowed none = none (says s) (refl, allowed)
 
-refused_some : (m : Lists) (s : Statement) (acyclic : Bool) (answer : Option AddStop) → refusal m s acyclic ≡ answer → IsTrue acyclic ↔ IsAcyclic (added m s).refinements → Never (IsJudged m (Some s)) → ⊥
+refused_some : (m : Lists) (s : Statement) (acyclic : Bool) (answer : Option AddStop) → refusal m s acyclic ≡ answer → IsTrue acyclic ↔ IsAcyclic (added m s).refinements → Never (IsJudged m s) → ⊥
 refused_some m s acyclic None e decides none = none (says s) (refl, IsAllowed-passed m s acyclic decides e)
 refused_some m s acyclic (Some stop) e decides none = not_added_some m s stop (IsNotAdded-refused m s acyclic stop decides e) none
 
-statement_some : (m : Lists) (s : Statement) → Never (IsJudged m (Some s)) → ⊥
+statement_some : (m : Lists) (s : Statement) → Never (IsJudged m s) → ⊥
 statement_some m s none =
     let cyclic : IsAcyclic (added m s).refinements → ⊥ =
     λ acyclic. refused_some m s true (refusal m s true) refl ((λ _. acyclic), (λ _. refl)) none in
     refused_some m s false (refusal m s false) refl ((λ e. absurd (true≢false (sym e))), (λ acyclic. absurd (cyclic acyclic))) none
 
--- a written statement whose word is read makes a statement
-pub read_makes : (m : Lists) (s : WrittenStatement) → is_read (sort_of s) ≡ true → (t : Statement) × (statement_of m s ≡ Some t)
-read_makes m (goal x must) e = (_, refl)
-read_makes m (named name_words.Task x) e = (_, refl)
-read_makes m (named name_words.Assume x) e = (_, refl)
-read_makes m (named name_words.Sum x) e = absurd (true≢false (sym e))
-read_makes m (named name_words.Interest x) e = absurd (true≢false (sym e))
-read_makes m (refinement r target first others) e = (_, refl)
-read_makes m (pair pair_words.Contrib one other) e = (_, refl)
-read_makes m (pair pair_words.Conflict one other) e = (_, refl)
-read_makes m (pair pair_words.Bind one other) e = (_, refl)
-read_makes m (pair pair_words.Prefer one other) e = absurd (true≢false (sym e))
-read_makes m (assertion x truth) e = (_, refl)
-read_makes m (variable x lo hi) e = (_, refl)
-read_makes m (value s x k) e = absurd (true≢false (sym e))
-read_makes m (weight what x k) e = absurd (true≢false (sym e))
-read_makes m (condition what x f) e = (_, refl)
-read_makes m (requirement f) e = (_, refl)
-read_makes m (objective direction quantity) e = absurd (true≢false (sym e))
+named_some : (bad : Option BadKind) (m : Lists) (s : Statement) → Never (IsNamedJudged bad m s) → ⊥
+named_some (Some kind) m s none = none (faulty (line_faults.Bad kind)) refl
+named_some None m s none = statement_some m s none
 
-named_some : (bad : Option BadKind) (m : Lists) (s : Option Statement) → (t : Statement) → s ≡ Some t → Never (IsNamedJudged bad m s) → ⊥
-named_some (Some kind) m s t e none = none (faulty (line_faults.Bad kind)) refl
-named_some None m s t e none = statement_some m t (λ v judged. none v (subst (λ o. IsJudged m o v) (sym e) judged))
-
-form_judged_some : (m : Lists) (tokens : List Lexeme) (form : Form) → HasForm tokens form → Never (IsFormJudged m form) → ⊥
-form_judged_some m tokens no_word has none = none (faulty (line_faults.Bad kinds.Statement)) refl
-form_judged_some m tokens not_read has none = none (faulty (line_faults.Bad kinds.NotYet)) refl
-form_judged_some m tokens no_form has none = none (faulty (line_faults.Bad kinds.Form)) refl
-form_judged_some m tokens (written s) has none =
-    let makes = read_makes m s has.1 in
-    named_some (first_fault m (statement_uses s)) m (statement_of m s) makes.0 makes.1 none
-
-begins_some : (tokens after : List Lexeme) (sort : Sort) (reads : Bool) → is_read sort ≡ reads → tokens ≡ word (sort_word sort) ∷ after → ((form : Form) → ¬ HasForm tokens form) → ⊥
-begins_some tokens after sort false e begins none =
-    none not_read (record { sort = sort; after = after; begins = begins; reads_it = e })
-begins_some tokens after sort true e begins none =
-    none no_form (
-      record { sort = sort; after = after; begins = begins; reads_it = e },
-      λ s is.
-          let words : sort_word (sort_of s) ≡ sort_word sort = cc in
-          none (written s) (is, ap is_read (sort_is (sort_of s) sort words) ∙ e),
-    )
+form_judged_some : (m : Lists) (form : Form) → Never (IsFormJudged m form) → ⊥
+form_judged_some m no_word none = none (faulty (line_faults.Bad kinds.Statement)) refl
+form_judged_some m no_form none = none (faulty (line_faults.Bad kinds.Form)) refl
+form_judged_some m (written s) none = named_some (first_fault m (statement_uses s)) m (statement_of m s) none
 
 form_some : (tokens : List Lexeme) → ((form : Form) → ¬ HasForm tokens form) → ⊥
-form_some tokens none = none no_word (λ sort after begins. begins_some tokens after sort (is_read sort) refl begins none)
+form_some tokens none =
+    none no_word (λ sort after begins.
+    none no_form (record { sort = sort; after = after; begins = begins }, λ s is. none (written s) is))
 
 judged_some : (m : Lists) (tokens : List Lexeme) → Never (AreJudged m tokens) → ⊥
 judged_some m tokens none =
-    form_some tokens (λ form has. form_judged_some m tokens form has (λ v judged. none v (form, (has, judged))))
+    form_some tokens (λ form has. form_judged_some m form (λ v judged. none v (form, (has, judged))))
 
 shallow_some : (deep : Bool) (before : Option Lists) (tokens : List Lexeme) → Never (AreShallowJudged deep before tokens) → ⊥
 shallow_some true before tokens none = none (faulty (line_faults.Limit limits.FormulaDepth)) refl

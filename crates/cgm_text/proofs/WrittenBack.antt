@@ -1,5 +1,5 @@
 -- The written form of a formula, read back after lists that know its names, is the formula.
-use Rattle.std.proofs.Common.{◌≡◌, ◌≢◌, ℕ, ◌+◌, ◌-◌, ◌<◌, ◌==◌, ◌≤◌, ℤ, pos, negsuc, max, Bool, true, false, ◌&&◌, nat_lt, IsTrue, List, [], ◌∷◌, ◌++◌, length, map, codes, FitsSigned, Option, None, Some, if◌then◌else◌, refl, sym, ap, ◌∙◌, subst, arith, true≢false, w64}
+use Rattle.std.proofs.Common.{◌≡◌, ◌≢◌, ℕ, ◌+◌, ◌-◌, ◌==◌, ◌≤◌, ℤ, pos, negsuc, max, Bool, true, false, ◌&&◌, nat_lt, List, [], ◌∷◌, ◌++◌, length, map, codes, FitsSigned, None, refl, sym, ap, ◌∙◌, subst, arith, true≢false, w64}
 use Rattle.std.specs.List.{AllByRecursion, list_all}
 use Rattle.std.specs.Ordering.{int_eq}
 use Rattle.std.proofs.lemmas.Bool.{and_parts, eqb-true}
@@ -15,10 +15,11 @@ use Rattle.cgm_formula.specs.declared.formula.Truth.TheVariants as truths
 use Rattle.cgm_formula.specs.Nodes.{names, names_step, comparisons, comparisons_step, is_full, full_step, depth, depth_step, greatest, linear_depth, term_depth, joined as concatenated}
 use Rattle.cgm_formula.proofs.Comparisons.{split}
 use Rattle.cgm_formula.proofs.Folds.{fold-Name, fold-Not, fold-And, fold-Or, fold-Implies, fold-Iff, fold-AtMost, fold-AtLeast, fold-Equal}
-use Rattle.cgm_formula.proofs.Induction.{Cases, by_cases}
+use Rattle.cgm_formula.proofs.Induction.{by_cases}
 use Rattle.cgm_lex.specs.Lexemes.{Lexeme, opening, closing, number, word}
 use Rattle.cgm_lex.specs.Spelling.{IsPlain}
 use Rattle.cgm_model.specs.declared.lists.Lists.{Lists}
+use Rattle.cgm_model.specs.declared.lists.Thing.{Thing}
 use Rattle.cgm_model.specs.declared.lists.Thing.TheVariants as things
 use Rattle.cgm_model.specs.Formulas.{IsKnownTruth, IsKnownNumber}
 use Rattle.cgm_model.specs.Named.{thing_named}
@@ -29,38 +30,42 @@ use Rattle.cgm_text.specs.declared.written.Joint.{Joint}
 use Rattle.cgm_text.specs.declared.written.Joint.TheVariants as joints
 use Rattle.cgm_text.specs.declared.written.Pairing.{Pairing}
 use Rattle.cgm_text.specs.declared.written.Pairing.TheVariants as pairings
-use Rattle.cgm_text.specs.Back.{ArePlain, Knows, IsTerm, IsSide, Given, Back}
-use Rattle.cgm_text.specs.Canonical.{element_name, refinement_name, truth_name, number_name, written_term, written_linear, written_step, written_formula}
+use Rattle.cgm_text.specs.Back.{ArePlain, IsThere, thing_name, Knows, IsTerm, IsSide, Given, Back}
+use Rattle.cgm_text.specs.Canonical.{truth_name, number_name, written_term, written_linear, written_step, written_formula}
 use Rattle.cgm_text.specs.Meaning.{truth_named, truth_of, number_named, number_of, term_of, linear_of, linear_with, formula_of, each_formula_of, joined_as, paired_as, compared_as}
 use Rattle.cgm_text.specs.Trees.{count_after, formulas_of, is_deeper}
-use Rattle.cgm_text.specs.Uses.{NameUse, use_as, term_name, terms_uses, linear_uses, formula_uses, formulas_uses, suits, thing_fault, first_fault}
-use Rattle.cgm_text.specs.Written.{WrittenTerm, plain, scaled, WrittenLinear, single, total, WrittenFormula, name, negation, joined, paired, compared, WrittenFormulas, no_formulas, more_formulas, joint_word, pairing_word, comparison_word, spelled_term, spelled_terms, spelled_linear, spelled, spelled_each}
+use Rattle.cgm_text.specs.Uses.{NameUse, use_as, term_name, terms_uses, linear_uses, formula_uses, formulas_uses, thing_fault, first_fault}
+use Rattle.cgm_text.specs.Written.{WrittenTerm, plain, scaled, WrittenLinear, WrittenFormula, name, negation, joined, paired, compared, WrittenFormulas, more_formulas, joint_word, pairing_word, comparison_word, spelled_term, spelled_terms, spelled_linear, spelled, spelled_each}
+use Rattle.cgm_text.proofs.Spellings.{name_plain}
 
 -- ---- names
 
+pub thing_plain : (p m : Lists) → Knows p m → (t : Thing) → IsThere p t → IsPlain (word (thing_name m t))
+thing_plain p m kn t h = name_plain (thing_name m t) (kn.spelled t h)
+
 pub truth_meaning : (p m : Lists) → Knows p m → (x : Truth) → IsKnownTruth p x → truth_named p (truth_name m x) ≡ x
-truth_meaning p m kn (truths.Element k) h = ap truth_of (kn.elements k h)
-truth_meaning p m kn (truths.Refinement k) h = ap truth_of (kn.refinements k h)
+truth_meaning p m kn (truths.Element k) h = ap truth_of (kn.named (things.Element k) h)
+truth_meaning p m kn (truths.Refinement k) h = ap truth_of (kn.named (things.Refinement k) h)
 
 pub truth_use : (p m : Lists) → Knows p m → (x : Truth) → IsKnownTruth p x → thing_fault wants.Truth (thing_named p (truth_name m x)) ≡ None
-truth_use p m kn (truths.Element k) h = ap (thing_fault wants.Truth) (kn.elements k h)
-truth_use p m kn (truths.Refinement k) h = ap (thing_fault wants.Truth) (kn.refinements k h)
+truth_use p m kn (truths.Element k) h = ap (thing_fault wants.Truth) (kn.named (things.Element k) h)
+truth_use p m kn (truths.Refinement k) h = ap (thing_fault wants.Truth) (kn.named (things.Refinement k) h)
 
 pub truth_plain : (p m : Lists) → Knows p m → (x : Truth) → IsKnownTruth p x → IsPlain (word (truth_name m x))
-truth_plain p m kn (truths.Element k) h = kn.plain_elements k h
-truth_plain p m kn (truths.Refinement k) h = kn.plain_refinements k h
+truth_plain p m kn (truths.Element k) h = thing_plain p m kn (things.Element k) h
+truth_plain p m kn (truths.Refinement k) h = thing_plain p m kn (things.Refinement k) h
 
-number_meaning : (p m : Lists) → Knows p m → (x : Number) → IsKnownNumber p x → number_named p (number_name m x) ≡ x
-number_meaning p m kn (numbers_of.Var k) h = ap number_of (kn.vars k h)
-number_meaning p m kn (numbers_of.Sum k) h = absurd h
+pub number_meaning : (p m : Lists) → Knows p m → (x : Number) → IsKnownNumber p x → number_named p (number_name m x) ≡ x
+number_meaning p m kn (numbers_of.Var k) h = ap number_of (kn.named (things.Var k) h)
+number_meaning p m kn (numbers_of.Sum k) h = ap number_of (kn.named (things.Sum k) h)
 
-number_use : (p m : Lists) → Knows p m → (x : Number) → IsKnownNumber p x → thing_fault wants.Number (thing_named p (number_name m x)) ≡ None
-number_use p m kn (numbers_of.Var k) h = ap (thing_fault wants.Number) (kn.vars k h)
-number_use p m kn (numbers_of.Sum k) h = absurd h
+pub number_use : (p m : Lists) → Knows p m → (x : Number) → IsKnownNumber p x → thing_fault wants.Number (thing_named p (number_name m x)) ≡ None
+number_use p m kn (numbers_of.Var k) h = ap (thing_fault wants.Number) (kn.named (things.Var k) h)
+number_use p m kn (numbers_of.Sum k) h = ap (thing_fault wants.Number) (kn.named (things.Sum k) h)
 
 number_plain : (p m : Lists) → Knows p m → (x : Number) → IsKnownNumber p x → IsPlain (word (number_name m x))
-number_plain p m kn (numbers_of.Var k) h = kn.plain_vars k h
-number_plain p m kn (numbers_of.Sum k) h = absurd h
+number_plain p m kn (numbers_of.Var k) h = thing_plain p m kn (things.Var k) h
+number_plain p m kn (numbers_of.Sum k) h = thing_plain p m kn (things.Sum k) h
 
 -- a name that is right adds no fault
 pub passes : (p : Lists) (u : NameUse) (us : List NameUse) → thing_fault u.wanted (thing_named p u.used) ≡ None → first_fault p (u ∷ us) ≡ first_fault p us

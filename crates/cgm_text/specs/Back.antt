@@ -1,24 +1,25 @@
 -- What it says that the written form of a formula is read back after lists: the formula itself, with no fault in its names, in plain words, and not too deep.
-use Rattle.std.specs.Prelude.{◌≡◌, ℕ, ℤ, ◌+◌, ◌<◌, ◌≤◌, true, false, List, length, FitsSigned, Option, None, Some}
+use Rattle.std.specs.Prelude.{◌≡◌, ℕ, ℤ, ◌+◌, ◌<◌, ◌≤◌, true, false, List, length, FitsSigned, None, Some}
 use Rattle.std.specs.Int.{w64}
 use Rattle.std.specs.List.{AllByRecursion}
 use Rattle.cgm_formula.specs.declared.formula.Formula.{Formula}
 use Rattle.cgm_formula.specs.declared.formula.Linear.{Linear}
 use Rattle.cgm_formula.specs.declared.formula.Number.{Number}
-use Rattle.cgm_formula.specs.declared.formula.Number.TheVariants as numbers_of
 use Rattle.cgm_formula.specs.Nodes.{names, comparisons, is_full, depth}
 use Rattle.cgm_lex.specs.Lexemes.{Lexeme, word}
 use Rattle.cgm_lex.specs.Spelling.{IsPlain}
 use Rattle.cgm_model.specs.declared.lists.Lists.{Lists}
 use Rattle.cgm_model.specs.declared.lists.Statement.{Statement}
 use Rattle.cgm_model.specs.declared.lists.Statement.TheVariants as statements
+use Rattle.cgm_model.specs.declared.lists.Thing.{Thing}
 use Rattle.cgm_model.specs.declared.lists.Thing.TheVariants as things
 use Rattle.cgm_model.specs.Formulas.{IsKnownTruth, IsKnownNumber, formula_of as formula_of_rule}
+use Rattle.cgm_model.specs.Name.{is_name}
 use Rattle.cgm_model.specs.Named.{thing_named}
-use Rattle.cgm_text.specs.Canonical.{element_name, refinement_name, number_name}
+use Rattle.cgm_text.specs.Canonical.{element_name, refinement_name, variable_name, sum_name}
 use Rattle.cgm_text.specs.Line.{nests_too_deep}
-use Rattle.cgm_text.specs.Meaning.{formula_of, is_read, statement_of}
-use Rattle.cgm_text.specs.Statements.{WrittenStatement, sort_of, statement_tokens}
+use Rattle.cgm_text.specs.Meaning.{formula_of, statement_of}
+use Rattle.cgm_text.specs.Statements.{WrittenStatement, statement_tokens}
 use Rattle.cgm_text.specs.Trees.{is_deeper}
 use Rattle.cgm_text.specs.Uses.{NameUse, formula_uses, first_fault, statement_uses}
 use Rattle.cgm_text.specs.Written.{WrittenFormula, spelled}
@@ -26,14 +27,23 @@ use Rattle.cgm_text.specs.Written.{WrittenFormula, spelled}
 abbrev pub ArePlain : List Lexeme → Type 0
 ArePlain ts = AllByRecursion IsPlain ts
 
--- the lists have the names that these other lists give to what is there, and those are words
+-- there is a thing of this number
+abbrev pub IsThere : Lists → Thing → Type 0
+IsThere p (things.Element k) = k < length p.elements
+IsThere p (things.Refinement k) = k < length p.refinements
+IsThere p (things.Var k) = k < length p.vars
+IsThere p (things.Sum k) = k < length p.sums
+
+abbrev pub thing_name : Lists → Thing → List ℕ
+thing_name m (things.Element k) = element_name m k
+thing_name m (things.Refinement k) = refinement_name m k
+thing_name m (things.Var k) = variable_name m k
+thing_name m (things.Sum k) = sum_name m k
+
+-- the lists have the names that these other lists give to what is there
 pub record Knows (p m : Lists) : Type 0 where
-  pub elements : (k : ℕ) → k < length p.elements → thing_named p (element_name m k) ≡ Some (things.Element k)
-  pub refinements : (k : ℕ) → k < length p.refinements → thing_named p (refinement_name m k) ≡ Some (things.Refinement k)
-  pub vars : (k : ℕ) → k < length p.vars → thing_named p (number_name m (numbers_of.Var k)) ≡ Some (things.Var k)
-  pub plain_elements : (k : ℕ) → k < length p.elements → IsPlain (word (element_name m k))
-  pub plain_refinements : (k : ℕ) → k < length p.refinements → IsPlain (word (refinement_name m k))
-  pub plain_vars : (k : ℕ) → k < length p.vars → IsPlain (word (number_name m (numbers_of.Var k)))
+  pub named : (t : Thing) → IsThere p t → thing_named p (thing_name m t) ≡ Some t
+  pub spelled : (t : Thing) → IsThere p t → is_name (thing_name m t) ≡ true
 
 -- a term whose number is there and whose coefficient has 64 bits
 abbrev pub IsTerm : Lists → ℤ × Number → Type 0
@@ -56,8 +66,7 @@ pub record Back (p m : Lists) (f : Formula) (w : WrittenFormula) : Type 0 where
   pub shallow : (most count : ℕ) (after : List Lexeme) → count + depth f ≤ most → is_deeper most count (spelled w after) ≡ is_deeper most count after
 
 pub record StatementBack (p : Lists) (s : Statement) (w : WrittenStatement) : Type 0 where
-  pub read : is_read (sort_of w) ≡ true
-  pub meaning : statement_of p w ≡ Some s
+  pub meaning : statement_of p w ≡ s
   pub names : first_fault p (statement_uses w) ≡ None
   pub words : ArePlain (statement_tokens w)
   pub shallow : nests_too_deep (statement_tokens w) ≡ false
@@ -67,6 +76,10 @@ abbrev pub Fitting : Lists → Statement → Type 0
 Fitting p (statements.Element e) = IsPlain (word e.name)
 Fitting p (statements.Refine r) = IsPlain (word r.name)
 Fitting p (statements.Variable v) = IsPlain (word v.name) × (FitsSigned w64 v.lo × FitsSigned w64 v.hi)
+Fitting p (statements.Sum x) = IsPlain (word x.name)
+Fitting p (statements.Value v) = FitsSigned w64 v.k
+Fitting p (statements.Reward w) = FitsSigned w64 w.k
+Fitting p (statements.Penalty w) = FitsSigned w64 w.k
 Fitting p (statements.Rule r) = Given p (formula_of_rule r)
 Fitting p s = Unit {0}
 

@@ -1,5 +1,5 @@
 -- The canonical text of a model: the header, then the line of each statement, group by group in the order of the model's lists.
-use Rattle.std.specs.Prelude.{ℕ, ℤ, pos, Bool, if◌then◌else◌, List, [], ◌∷◌, ◌++◌, map, slice_index_or}
+use Rattle.std.specs.Prelude.{ℕ, ℤ, pos, Bool, true, false, if◌then◌else◌, List, [], ◌∷◌, ◌++◌, codes, map, slice_index_or}
 use Rattle.std.specs.Ordering.{int_eq}
 use Rattle.cgm_formula.specs.declared.formula.Formula.{Formula}
 use Rattle.cgm_formula.specs.declared.formula.Formula.TheFolds.{fold-Formula}
@@ -10,25 +10,29 @@ use Rattle.cgm_formula.specs.declared.formula.Truth.{Truth}
 use Rattle.cgm_formula.specs.declared.formula.Truth.TheVariants as truths
 use Rattle.cgm_lex.specs.Lexemes.{Lexeme}
 use Rattle.cgm_lex.specs.Spelling.{spelled_line}
-use Rattle.cgm_model.specs.declared.lists.Element.{Element}
 use Rattle.cgm_model.specs.declared.lists.ElementKind.{ElementKind}
 use Rattle.cgm_model.specs.declared.lists.ElementKind.TheVariants as element_kinds
 use Rattle.cgm_model.specs.declared.lists.Lists.{Lists}
+use Rattle.cgm_model.specs.declared.lists.Quantity.{Quantity}
+use Rattle.cgm_model.specs.declared.lists.Quantity.TheVariants as quantities
 use Rattle.cgm_model.specs.declared.lists.Rule.{Rule}
 use Rattle.cgm_model.specs.declared.lists.Rule.TheVariants as rules_of
 use Rattle.cgm_model.specs.declared.lists.Statement.{Statement}
 use Rattle.cgm_model.specs.declared.lists.Statement.TheVariants as statements
 use Rattle.cgm_model.specs.Canonical.{statements_of}
-use Rattle.cgm_model.specs.Named.{element_names, refinement_names, variable_names}
+use Rattle.cgm_model.specs.Named.{element_names, refinement_names, sum_names, variable_names}
 use Rattle.cgm_text.specs.declared.written.Comparison.TheVariants as comparisons
 use Rattle.cgm_text.specs.declared.written.ConditionWord.TheVariants as condition_words
+use Rattle.cgm_text.specs.declared.written.Direction.{Direction}
+use Rattle.cgm_text.specs.declared.written.Direction.TheVariants as directions
 use Rattle.cgm_text.specs.declared.written.Joint.{Joint}
 use Rattle.cgm_text.specs.declared.written.Joint.TheVariants as joints
 use Rattle.cgm_text.specs.declared.written.NameWord.TheVariants as name_words
 use Rattle.cgm_text.specs.declared.written.PairWord.TheVariants as pair_words
 use Rattle.cgm_text.specs.declared.written.Pairing.TheVariants as pairings
+use Rattle.cgm_text.specs.declared.written.WeightWord.TheVariants as weight_words
 use Rattle.cgm_text.specs.Line.{header_tokens}
-use Rattle.cgm_text.specs.Statements.{WrittenStatement, goal, named, refinement, pair, assertion, variable, condition, requirement, statement_tokens}
+use Rattle.cgm_text.specs.Statements.{WrittenStatement, goal, named, refinement, pair, assertion, variable, value, weight, condition, requirement, objective, statement_tokens}
 use Rattle.cgm_text.specs.Trees.{formulas_of}
 use Rattle.cgm_text.specs.Written.{WrittenTerm, plain, scaled, WrittenLinear, single, total, WrittenFormula, name, negation, joined, paired, compared}
 
@@ -42,13 +46,19 @@ element_name m k = name_at (element_names m) k
 abbrev pub refinement_name : Lists → ℕ → List ℕ
 refinement_name m k = name_at (refinement_names m) k
 
+abbrev pub variable_name : Lists → ℕ → List ℕ
+variable_name m k = name_at (variable_names m) k
+
+abbrev pub sum_name : Lists → ℕ → List ℕ
+sum_name m k = name_at (sum_names m) k
+
 abbrev pub truth_name : Lists → Truth → List ℕ
 truth_name m (truths.Element k) = element_name m k
 truth_name m (truths.Refinement k) = refinement_name m k
 
 abbrev pub number_name : Lists → Number → List ℕ
-number_name m (numbers.Var k) = name_at (variable_names m) k
-number_name m (numbers.Sum k) = []
+number_name m (numbers.Var k) = variable_name m k
+number_name m (numbers.Sum k) = sum_name m k
 
 -- a term with the coefficient 1 is its bare name
 abbrev pub written_term : Lists → ℤ × Number → WrittenTerm
@@ -94,16 +104,38 @@ written_rule m (rules_of.Positive x f) = condition condition_words.Positive (tru
 written_rule m (rules_of.Negative x f) = condition condition_words.Negative (truth_name m x) (written_formula m f)
 written_rule m (rules_of.Require f) = requirement (written_formula m f)
 
+-- a built-in quantity has its word
+abbrev pub quantity_name : Lists → Quantity → List ℕ
+quantity_name m (quantities.Var k) = variable_name m k
+quantity_name m (quantities.Sum k) = sum_name m k
+quantity_name m quantities.Weight = codes "weight"
+quantity_name m quantities.UnsatPrefs = codes "unsat_prefs"
+quantity_name m quantities.UnsatReqs = codes "unsat_reqs"
+quantity_name m quantities.SatTasks = codes "sat_tasks"
+quantity_name m quantities.Familiarity = codes "familiarity"
+quantity_name m quantities.Effort = codes "effort"
+
+abbrev pub direction_of : Bool → Direction
+direction_of false = directions.Min
+direction_of true = directions.Max
+
 -- the statement as it is written, with the names of these lists
 abbrev pub written : Lists → Statement → WrittenStatement
 written m (statements.Element e) = written_element e.name e.kind e.must
 written m (statements.Refine r) = written_refinement r.name (element_name m r.target) (map (element_name m) r.sources)
 written m (statements.Variable v) = variable v.name v.lo v.hi
+written m (statements.Sum s) = named name_words.Sum s.name
 written m (statements.Contrib e) = pair pair_words.Contrib (element_name m e.from) (element_name m e.to)
 written m (statements.Conflict e) = pair pair_words.Conflict (element_name m e.from) (element_name m e.to)
 written m (statements.Bind e) = pair pair_words.Bind (refinement_name m e.from) (refinement_name m e.to)
 written m (statements.Assert a) = assertion (element_name m a.element) a.truth
+written m (statements.Value v) = value (sum_name m v.sum) (truth_name m v.of) v.k
+written m (statements.Reward w) = weight weight_words.Reward (element_name m w.element) w.k
+written m (statements.Penalty w) = weight weight_words.Penalty (element_name m w.element) w.k
+written m (statements.Prefer p) = pair pair_words.Prefer (truth_name m p.better) (truth_name m p.worse)
 written m (statements.Rule r) = written_rule m r
+written m (statements.Interest k) = named name_words.Interest (element_name m k)
+written m (statements.Objective o) = objective (direction_of o.max) (quantity_name m o.of)
 
 -- the line of these tokens, with its line feed
 abbrev pub whole_line : List Lexeme → List ℕ

@@ -2,7 +2,6 @@
 use Rattle.std.specs.Prelude.{◌≡◌, ◌≢◌, ℕ, pos, Bool, true, false, List, [], ◌∷◌, codes, Option, None, Some, Result, Ok, Err}
 use Rattle.cgm_base.specs.declared.fault.BadKind.{BadKind}
 use Rattle.cgm_base.specs.declared.fault.BadKind.TheVariants as kinds
-use Rattle.cgm_base.specs.declared.limit.Which.{Which}
 use Rattle.cgm_base.specs.declared.limit.Which.TheVariants as limits
 use Rattle.cgm_base.specs.Words.{limit_number}
 use Rattle.cgm_lex.specs.declared.token.Flaw.{Flaw}
@@ -17,8 +16,8 @@ use Rattle.cgm_model.specs.Statement.{IsAllowed, IsRefused}
 use Rattle.cgm_text.specs.declared.fault.LineFault.{LineFault}
 use Rattle.cgm_text.specs.declared.fault.LineFault.TheVariants as line_faults
 use Rattle.cgm_text.specs.declared.written.Sort.{Sort}
-use Rattle.cgm_text.specs.Meaning.{is_read, statement_of}
-use Rattle.cgm_text.specs.Statements.{WrittenStatement, sort_of, sort_word, statement_tokens, BeginsNoStatement}
+use Rattle.cgm_text.specs.Meaning.{statement_of}
+use Rattle.cgm_text.specs.Statements.{WrittenStatement, sort_word, statement_tokens, BeginsNoStatement}
 use Rattle.cgm_text.specs.Trees.{is_deeper}
 use Rattle.cgm_text.specs.Uses.{first_fault, statement_uses}
 
@@ -50,22 +49,19 @@ header_tokens = word (codes "cgm") ∷ number (pos 1) ∷ []
 -- what tokens come to by their form alone
 pub data Form : Type 0 where
   no_word : Form
-  not_read : Form
   no_form : Form
   written : WrittenStatement → Form
 
--- the first token is the word of a statement that is read, or of one that isn't
-pub record BeginsAs (tokens : List Lexeme) (reads : Bool) : Type 0 where
+-- the first token is a statement word
+pub record BeginsStatement (tokens : List Lexeme) : Type 0 where
   pub sort : Sort
   pub after : List Lexeme
   pub begins : tokens ≡ word (sort_word sort) ∷ after
-  pub reads_it : is_read sort ≡ reads
 
 abbrev pub HasForm : List Lexeme → Form → Type 0
 HasForm tokens no_word = BeginsNoStatement tokens
-HasForm tokens not_read = BeginsAs tokens false
-HasForm tokens no_form = BeginsAs tokens true × ((s : WrittenStatement) → tokens ≢ statement_tokens s)
-HasForm tokens (written s) = (tokens ≡ statement_tokens s) × (is_read (sort_of s) ≡ true)
+HasForm tokens no_form = BeginsStatement tokens × ((s : WrittenStatement) → tokens ≢ statement_tokens s)
+HasForm tokens (written s) = tokens ≡ statement_tokens s
 
 -- this is the fault of the first test that the statement fails after these lists
 abbrev pub IsRefusedAs : Lists → Statement → LineFault → Type 0
@@ -73,21 +69,19 @@ IsRefusedAs m s (line_faults.Bad kind) = (fault : Fault) × (IsRefused m s (stop
 IsRefusedAs m s (line_faults.Limit which) = IsRefused m s (stops.Limit which)
 
 -- a statement whose names are right
-abbrev pub IsJudged : Lists → Option Statement → Verdict → Type 0
-IsJudged m None v = ⊥
-IsJudged m (Some s) nothing = ⊥
-IsJudged m (Some s) header = ⊥
-IsJudged m (Some s) (says t) = (t ≡ s) × IsAllowed m s
-IsJudged m (Some s) (faulty fault) = IsRefusedAs m s fault
+abbrev pub IsJudged : Lists → Statement → Verdict → Type 0
+IsJudged m s nothing = ⊥
+IsJudged m s header = ⊥
+IsJudged m s (says t) = (t ≡ s) × IsAllowed m s
+IsJudged m s (faulty fault) = IsRefusedAs m s fault
 
 -- a statement after what is wrong with the first of its names
-abbrev pub IsNamedJudged : Option BadKind → Lists → Option Statement → Verdict → Type 0
+abbrev pub IsNamedJudged : Option BadKind → Lists → Statement → Verdict → Type 0
 IsNamedJudged (Some kind) m s v = v ≡ faulty (line_faults.Bad kind)
 IsNamedJudged None m s v = IsJudged m s v
 
 abbrev pub IsFormJudged : Lists → Form → Verdict → Type 0
 IsFormJudged m no_word v = v ≡ faulty (line_faults.Bad kinds.Statement)
-IsFormJudged m not_read v = v ≡ faulty (line_faults.Bad kinds.NotYet)
 IsFormJudged m no_form v = v ≡ faulty (line_faults.Bad kinds.Form)
 IsFormJudged m (written s) v = IsNamedJudged (first_fault m (statement_uses s)) m (statement_of m s) v
 

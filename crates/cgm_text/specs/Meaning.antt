@@ -11,17 +11,22 @@ use Rattle.cgm_model.specs.declared.lists.Edge.{Edge}
 use Rattle.cgm_model.specs.declared.lists.ElementKind.{ElementKind}
 use Rattle.cgm_model.specs.declared.lists.ElementKind.TheVariants as element_kinds
 use Rattle.cgm_model.specs.declared.lists.Lists.{Lists}
+use Rattle.cgm_model.specs.declared.lists.Quantity.{Quantity}
+use Rattle.cgm_model.specs.declared.lists.Quantity.TheVariants as quantities
 use Rattle.cgm_model.specs.declared.lists.Rule.{Rule}
 use Rattle.cgm_model.specs.declared.lists.Rule.TheVariants as rules_of
 use Rattle.cgm_model.specs.declared.lists.Statement.{Statement}
 use Rattle.cgm_model.specs.declared.lists.Statement.TheVariants as statements
 use Rattle.cgm_model.specs.declared.lists.Thing.{Thing}
 use Rattle.cgm_model.specs.declared.lists.Thing.TheVariants as things
+use Rattle.cgm_model.specs.declared.lists.Weighing.{Weighing}
 use Rattle.cgm_model.specs.Named.{thing_named}
 use Rattle.cgm_text.specs.declared.written.Comparison.{Comparison}
 use Rattle.cgm_text.specs.declared.written.Comparison.TheVariants as comparisons
 use Rattle.cgm_text.specs.declared.written.ConditionWord.{ConditionWord}
 use Rattle.cgm_text.specs.declared.written.ConditionWord.TheVariants as condition_words
+use Rattle.cgm_text.specs.declared.written.Direction.{Direction}
+use Rattle.cgm_text.specs.declared.written.Direction.TheVariants as directions
 use Rattle.cgm_text.specs.declared.written.Joint.{Joint}
 use Rattle.cgm_text.specs.declared.written.Joint.TheVariants as joints
 use Rattle.cgm_text.specs.declared.written.NameWord.{NameWord}
@@ -30,9 +35,9 @@ use Rattle.cgm_text.specs.declared.written.PairWord.{PairWord}
 use Rattle.cgm_text.specs.declared.written.PairWord.TheVariants as pair_words
 use Rattle.cgm_text.specs.declared.written.Pairing.{Pairing}
 use Rattle.cgm_text.specs.declared.written.Pairing.TheVariants as pairings
-use Rattle.cgm_text.specs.declared.written.Sort.{Sort}
-use Rattle.cgm_text.specs.declared.written.Sort.TheVariants as sorts
-use Rattle.cgm_text.specs.Statements.{WrittenStatement, goal, named, refinement, pair, assertion, variable, value, weight, condition, requirement, objective}
+use Rattle.cgm_text.specs.declared.written.WeightWord.{WeightWord}
+use Rattle.cgm_text.specs.declared.written.WeightWord.TheVariants as weight_words
+use Rattle.cgm_text.specs.Statements.{WrittenStatement, built_in, goal, named, refinement, pair, assertion, variable, value, weight, condition, requirement, objective}
 use Rattle.cgm_text.specs.Written.{WrittenTerm, plain, scaled, WrittenLinear, single, total, WrittenFormula, name, negation, joined, paired, compared, WrittenFormulas, no_formulas, more_formulas}
 
 -- the number of an element; what is none reads as 0, here and below
@@ -40,25 +45,36 @@ abbrev pub element_of : Option Thing → ℕ
 element_of (Some (things.Element k)) = k
 element_of (Some (things.Refinement k)) = 0
 element_of (Some (things.Var k)) = 0
+element_of (Some (things.Sum k)) = 0
 element_of None = 0
 
 abbrev pub refinement_of : Option Thing → ℕ
 refinement_of (Some (things.Element k)) = 0
 refinement_of (Some (things.Refinement k)) = k
 refinement_of (Some (things.Var k)) = 0
+refinement_of (Some (things.Sum k)) = 0
 refinement_of None = 0
 
 abbrev pub truth_of : Option Thing → Truth
 truth_of (Some (things.Element k)) = truths.Element k
 truth_of (Some (things.Refinement k)) = truths.Refinement k
 truth_of (Some (things.Var k)) = truths.Element 0
+truth_of (Some (things.Sum k)) = truths.Element 0
 truth_of None = truths.Element 0
 
 abbrev pub number_of : Option Thing → Number
 number_of (Some (things.Element k)) = numbers.Var 0
 number_of (Some (things.Refinement k)) = numbers.Var 0
 number_of (Some (things.Var k)) = numbers.Var k
+number_of (Some (things.Sum k)) = numbers.Sum k
 number_of None = numbers.Var 0
+
+abbrev pub sum_of : Option Thing → ℕ
+sum_of (Some (things.Element k)) = 0
+sum_of (Some (things.Refinement k)) = 0
+sum_of (Some (things.Var k)) = 0
+sum_of (Some (things.Sum k)) = k
+sum_of None = 0
 
 abbrev pub element_named : Lists → List ℕ → ℕ
 element_named m x = element_of (thing_named m x)
@@ -71,6 +87,9 @@ truth_named m x = truth_of (thing_named m x)
 
 abbrev pub number_named : Lists → List ℕ → Number
 number_named m x = number_of (thing_named m x)
+
+abbrev pub sum_named : Lists → List ℕ → ℕ
+sum_named m x = sum_of (thing_named m x)
 
 -- a name alone has the coefficient 1
 abbrev pub term_of : Lists → WrittenTerm → ℤ × Number
@@ -115,60 +134,60 @@ element_with x kind must = statements.Element (record { name = x; kind = kind; m
 abbrev pub edge_with : ℕ → ℕ → Edge
 edge_with from to = record { from = from; to = to }
 
--- what a statement with this word and one name declares, where such statements are read
-abbrev pub declared_by : NameWord → List ℕ → Option Statement
-declared_by name_words.Task x = Some (element_with x element_kinds.Task false)
-declared_by name_words.Assume x = Some (element_with x element_kinds.Assume false)
-declared_by name_words.Sum x = None
-declared_by name_words.Interest x = None
+-- what a statement with this word and one name says
+abbrev pub named_of : Lists → NameWord → List ℕ → Statement
+named_of m name_words.Task x = element_with x element_kinds.Task false
+named_of m name_words.Assume x = element_with x element_kinds.Assume false
+named_of m name_words.Sum x = statements.Sum (record { name = x })
+named_of m name_words.Interest x = statements.Interest (element_named m x)
 
--- what a statement with this word and two names says, where such statements are read
-abbrev pub pair_of : Lists → PairWord → List ℕ → List ℕ → Option Statement
-pair_of m pair_words.Contrib one other = Some (statements.Contrib (edge_with (element_named m one) (element_named m other)))
-pair_of m pair_words.Conflict one other = Some (statements.Conflict (edge_with (element_named m one) (element_named m other)))
-pair_of m pair_words.Bind one other = Some (statements.Bind (edge_with (refinement_named m one) (refinement_named m other)))
-pair_of m pair_words.Prefer one other = None
+-- what a statement with this word and two names says
+abbrev pub pair_of : Lists → PairWord → List ℕ → List ℕ → Statement
+pair_of m pair_words.Contrib one other = statements.Contrib (edge_with (element_named m one) (element_named m other))
+pair_of m pair_words.Conflict one other = statements.Conflict (edge_with (element_named m one) (element_named m other))
+pair_of m pair_words.Bind one other = statements.Bind (edge_with (refinement_named m one) (refinement_named m other))
+pair_of m pair_words.Prefer one other =
+    statements.Prefer (record { better = truth_named m one; worse = truth_named m other })
+
+-- what a statement with this word, an element and a number says
+abbrev pub weight_of : WeightWord → Weighing → Statement
+weight_of weight_words.Reward w = statements.Reward w
+weight_of weight_words.Penalty w = statements.Penalty w
 
 abbrev pub condition_of : ConditionWord → Truth → Formula → Rule
 condition_of condition_words.Positive x f = rules_of.Positive x f
 condition_of condition_words.Negative x f = rules_of.Negative x f
 
--- the statement that a written one makes, where such statements are read
-abbrev pub statement_of : Lists → WrittenStatement → Option Statement
-statement_of m (goal x must) = Some (element_with x element_kinds.Goal must)
-statement_of m (named what x) = declared_by what x
+abbrev pub is_max : Direction → Bool
+is_max directions.Min = false
+is_max directions.Max = true
+
+abbrev pub quantity_of : Option Quantity → Number → Quantity
+quantity_of (Some quantity) x = quantity
+quantity_of None (numbers.Var k) = quantities.Var k
+quantity_of None (numbers.Sum k) = quantities.Sum k
+
+-- a built-in quantity, or else the variable or sum with this name
+abbrev pub quantity_named : Lists → List ℕ → Quantity
+quantity_named m x = quantity_of (built_in x) (number_named m x)
+
+-- the statement that a written one makes
+abbrev pub statement_of : Lists → WrittenStatement → Statement
+statement_of m (goal x must) = element_with x element_kinds.Goal must
+statement_of m (named what x) = named_of m what x
 statement_of m (refinement r target first others) =
-    Some (statements.Refine (record { name = r; target = element_named m target; sources = map (element_named m) (first ∷ others) }))
+    statements.Refine (record { name = r; target = element_named m target; sources = map (element_named m) (first ∷ others) })
 statement_of m (pair what one other) = pair_of m what one other
-statement_of m (assertion x truth) = Some (statements.Assert (record { element = element_named m x; truth = truth }))
-statement_of m (variable x lo hi) = Some (statements.Variable (record { name = x; lo = lo; hi = hi }))
-statement_of m (value s x k) = None
-statement_of m (weight what x k) = None
-statement_of m (condition what x f) = Some (statements.Rule (condition_of what (truth_named m x) (formula_of m f)))
-statement_of m (requirement f) = Some (statements.Rule (rules_of.Require (formula_of m f)))
-statement_of m (objective direction quantity) = None
+statement_of m (assertion x truth) = statements.Assert (record { element = element_named m x; truth = truth })
+statement_of m (variable x lo hi) = statements.Variable (record { name = x; lo = lo; hi = hi })
+statement_of m (value s x k) = statements.Value (record { sum = sum_named m s; of = truth_named m x; k = k })
+statement_of m (weight what x k) = weight_of what (record { element = element_named m x; k = k })
+statement_of m (condition what x f) = statements.Rule (condition_of what (truth_named m x) (formula_of m f))
+statement_of m (requirement f) = statements.Rule (rules_of.Require (formula_of m f))
+statement_of m (objective direction x) =
+    statements.Objective (record { max = is_max direction; of = quantity_named m x })
 
--- whether statements with this word are read
-abbrev pub is_read : Sort → Bool
-is_read sorts.Goal = true
-is_read (sorts.Name name_words.Task) = true
-is_read (sorts.Name name_words.Assume) = true
-is_read (sorts.Name name_words.Sum) = false
-is_read (sorts.Name name_words.Interest) = false
-is_read sorts.Refine = true
-is_read (sorts.Pair pair_words.Contrib) = true
-is_read (sorts.Pair pair_words.Conflict) = true
-is_read (sorts.Pair pair_words.Bind) = true
-is_read (sorts.Pair pair_words.Prefer) = false
-is_read sorts.Assert = true
-is_read sorts.Var = true
-is_read sorts.Value = false
-is_read (sorts.Weight what) = false
-is_read (sorts.Condition what) = true
-is_read sorts.Require = true
-is_read sorts.Objective = false
-
--- the words that a written statement declares as names
+-- the words of a written statement that stand where a name may be declared
 abbrev pub declared_words : WrittenStatement → List (List ℕ)
 declared_words (goal x must) = x ∷ []
 declared_words (named what x) = x ∷ []

@@ -1,7 +1,10 @@
 -- What a text that is being written comes to when more tokens follow.
-use Rattle.std.specs.Prelude.{◌≡◌, ℕ, Bool, ◌&&◌, not, if◌then◌else◌, List, [], ◌∷◌, ◌++◌, codes}
+use Rattle.std.specs.Prelude.{◌≡◌, ℕ, Bool, ◌&&◌, not, if◌then◌else◌, List, [], ◌∷◌, ◌++◌, codes, map}
 use Rattle.cgm_lex.specs.Lexemes.{Lexeme, word}
 use Rattle.cgm_lex.specs.Spelling.{is_closing, is_opening, spelled_line, text_of}
+use Rattle.cgm_model.specs.declared.lists.Lists.{Lists}
+use Rattle.cgm_model.specs.declared.lists.Statement.{Statement}
+use Rattle.cgm_model.specs.declared.lists.Statement.TheVariants as statements
 use Rattle.cgm_text.specs.declared.printer.Printer.{Printer}
 
 abbrev pub space_before : Bool → Lexeme → List ℕ
@@ -32,3 +35,34 @@ IsLine old new tokens = followed new [] ≡ old.text.items ++ spelled_line token
 abbrev pub words_before : List (List ℕ) → List Lexeme → List Lexeme
 words_before [] after = after
 words_before (x ∷ xs) after = word x ∷ words_before xs after
+
+-- the statements of lists in four parts, in canonical order: what declares names
+abbrev pub declaring : Lists → List Statement
+declaring m =
+    map (λ x. statements.Element x) m.elements
+    ++ (map (λ x. statements.Refine x) m.refinements
+    ++ (map (λ x. statements.Variable x) m.vars
+    ++ map (λ x. statements.Sum x) m.sums))
+
+-- what relates elements and refinements, or asserts them
+abbrev pub relating : Lists → List Statement
+relating m =
+    map (λ x. statements.Contrib x) m.contribs
+    ++ (map (λ x. statements.Conflict x) m.conflicts
+    ++ (map (λ x. statements.Bind x) m.binds
+    ++ map (λ x. statements.Assert x) m.asserts))
+
+-- numbers and preferences
+abbrev pub weighing : Lists → List Statement
+weighing m =
+    map (λ x. statements.Value x) m.values
+    ++ (map (λ x. statements.Reward x) m.rewards
+    ++ (map (λ x. statements.Penalty x) m.penalties
+    ++ map (λ x. statements.Prefer x) m.prefers))
+
+-- rules, interests and objectives
+abbrev pub demanding : Lists → List Statement
+demanding m =
+    map (λ x. statements.Rule x) m.rules
+    ++ (map (λ x. statements.Interest x) m.interests
+    ++ map (λ x. statements.Objective x) m.objectives)

@@ -1,5 +1,5 @@
 -- What the reader keeps of the lines so far, and what one more line makes of it.
-use Rattle.std.specs.Prelude.{◌≡◌, ℕ, true, false, List, [], ◌++◌, Option, None, Some, Result, Ok}
+use Rattle.std.specs.Prelude.{◌≡◌, ℕ, true, false, List, [], ◌++◌, Option, None, Some, Ok}
 use Rattle.std.specs.Option.{option_map}
 use Rattle.cgm_base.specs.declared.fault.BadKind.TheVariants as kinds
 use Rattle.cgm_base.specs.Words.{limit_number}
@@ -19,8 +19,8 @@ use Rattle.cgm_text.specs.declared.reader.Reading.{Reading}
 use Rattle.cgm_text.specs.declared.reader.TextStop.{TextStop}
 use Rattle.cgm_text.specs.declared.reader.TextStop.TheVariants as stops
 use Rattle.cgm_text.specs.Line.{Verdict, nothing, header, says, faulty, refusal_kind, AreJudged, AreLexemesJudged}
-use Rattle.cgm_text.specs.Meaning.{is_read, statement_of}
-use Rattle.cgm_text.specs.Statements.{WrittenStatement, sort_of, statement_tokens}
+use Rattle.cgm_text.specs.Meaning.{statement_of}
+use Rattle.cgm_text.specs.Statements.{WrittenStatement, statement_tokens}
 use Rattle.cgm_text.specs.Text.{LineStatement, after_line, model_of, rule_line, rule_lines}
 use Rattle.cgm_text.specs.Uses.{first_fault, statement_uses}
 
@@ -33,9 +33,8 @@ IsStop P line_stops.Memory = Unit {0}
 pub record IsMade (m : Lists) (tokens : List Lexeme) (s : Statement) : Type 0 where
   pub source : WrittenStatement
   pub spelled : tokens ≡ statement_tokens source
-  pub read : is_read (sort_of source) ≡ true
   pub names : first_fault m (statement_uses source) ≡ None
-  pub meaning : statement_of m source ≡ Some s
+  pub meaning : statement_of m source ≡ s
 
 pub record IsBegun (said : List LineStatement) (draft : Draft) : Type 0 where
   pub header : draft.has_header ≡ true

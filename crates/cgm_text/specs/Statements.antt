@@ -1,6 +1,9 @@
 -- Statements as they are written, and the tokens of each.
-use Rattle.std.specs.Prelude.{◌≡◌, ◌≢◌, ℕ, ℤ, Bool, true, false, List, [], ◌∷◌, codes, map}
+use Rattle.std.specs.Prelude.{◌≡◌, ◌≢◌, ℕ, ℤ, Bool, true, false, if◌then◌else◌, List, [], ◌∷◌, codes, map, Option, None, Some}
+use Rattle.std.specs.Str.{bytes_eq}
 use Rattle.cgm_lex.specs.Lexemes.{Lexeme, colon, number, word}
+use Rattle.cgm_model.specs.declared.lists.Quantity.{Quantity}
+use Rattle.cgm_model.specs.declared.lists.Quantity.TheVariants as quantities
 use Rattle.cgm_text.specs.declared.written.ConditionWord.{ConditionWord}
 use Rattle.cgm_text.specs.declared.written.ConditionWord.TheVariants as condition_words
 use Rattle.cgm_text.specs.declared.written.Direction.{Direction}
@@ -98,6 +101,17 @@ truth_word false = codes "false"
 abbrev pub direction_word : Direction → List ℕ
 direction_word directions.Min = codes "min"
 direction_word directions.Max = codes "max"
+
+-- the built-in quantity with this word
+abbrev pub built_in : List ℕ → Option Quantity
+built_in x =
+    if bytes_eq (codes "weight") x then Some quantities.Weight
+    else if bytes_eq (codes "unsat_prefs") x then Some quantities.UnsatPrefs
+    else if bytes_eq (codes "unsat_reqs") x then Some quantities.UnsatReqs
+    else if bytes_eq (codes "sat_tasks") x then Some quantities.SatTasks
+    else if bytes_eq (codes "familiarity") x then Some quantities.Familiarity
+    else if bytes_eq (codes "effort") x then Some quantities.Effort
+    else None
 
 -- the tokens after the statement word
 abbrev pub body : WrittenStatement → List Lexeme

@@ -1,17 +1,20 @@
 -- The names that a written statement uses, from the left, and what is wrong with the first of them that is unknown or of a wrong kind.
-use Rattle.std.specs.Prelude.{ℕ, Bool, true, false, if◌then◌else◌, List, [], ◌∷◌, ◌++◌, map, Option, None, Some}
+use Rattle.std.specs.Prelude.{ℕ, Bool, true, false, if◌then◌else◌, List, [], ◌∷◌, map, Option, None, Some}
 use Rattle.std.specs.Option.{option_or}
 use Rattle.cgm_base.specs.declared.fault.BadKind.{BadKind}
 use Rattle.cgm_base.specs.declared.fault.BadKind.TheVariants as kinds
 use Rattle.cgm_model.specs.declared.lists.Lists.{Lists}
+use Rattle.cgm_model.specs.declared.lists.Quantity.{Quantity}
 use Rattle.cgm_model.specs.declared.lists.Thing.{Thing}
 use Rattle.cgm_model.specs.declared.lists.Thing.TheVariants as things
 use Rattle.cgm_model.specs.Named.{thing_named}
 use Rattle.cgm_text.specs.declared.names.Wanted.{Wanted}
 use Rattle.cgm_text.specs.declared.names.Wanted.TheVariants as wants
+use Rattle.cgm_text.specs.declared.written.NameWord.{NameWord}
+use Rattle.cgm_text.specs.declared.written.NameWord.TheVariants as name_words
 use Rattle.cgm_text.specs.declared.written.PairWord.{PairWord}
 use Rattle.cgm_text.specs.declared.written.PairWord.TheVariants as pair_words
-use Rattle.cgm_text.specs.Statements.{WrittenStatement, goal, named, refinement, pair, assertion, variable, value, weight, condition, requirement, objective}
+use Rattle.cgm_text.specs.Statements.{WrittenStatement, built_in, goal, named, refinement, pair, assertion, variable, value, weight, condition, requirement, objective}
 use Rattle.cgm_text.specs.Written.{WrittenTerm, plain, scaled, WrittenLinear, single, total, WrittenFormula, name, negation, joined, paired, compared, WrittenFormulas, no_formulas, more_formulas}
 
 -- a name that is used, with what its place wants
@@ -48,6 +51,13 @@ abbrev mutual
   formulas_uses no_formulas after = after
   formulas_uses (more_formulas part parts) after = formula_uses part (formulas_uses parts after)
 
+-- the name after such a word is declared or used
+abbrev pub named_uses : NameWord → List ℕ → List NameUse
+named_uses name_words.Task x = []
+named_uses name_words.Assume x = []
+named_uses name_words.Sum x = []
+named_uses name_words.Interest x = use_as wants.Element x ∷ []
+
 -- what the two names of a statement with this word are
 abbrev pub end_of : PairWord → Wanted
 end_of pair_words.Contrib = wants.Element
@@ -55,34 +65,47 @@ end_of pair_words.Conflict = wants.Element
 end_of pair_words.Bind = wants.Refinement
 end_of pair_words.Prefer = wants.Truth
 
--- the names that a statement uses; the statements that aren't read yet have none here
+-- a word that is no built-in quantity is the name of a variable or sum
+abbrev pub quantity_uses : Option Quantity → List ℕ → List NameUse
+quantity_uses (Some quantity) x = []
+quantity_uses None x = use_as wants.Number x ∷ []
+
+-- the names that a statement uses
 abbrev pub statement_uses : WrittenStatement → List NameUse
 statement_uses (goal x must) = []
-statement_uses (named what x) = []
+statement_uses (named what x) = named_uses what x
 statement_uses (refinement r target first others) = map (use_as wants.Element) (target ∷ first ∷ others)
 statement_uses (pair what one other) = use_as (end_of what) one ∷ use_as (end_of what) other ∷ []
 statement_uses (assertion x truth) = use_as wants.Element x ∷ []
 statement_uses (variable x lo hi) = []
-statement_uses (value s x k) = []
-statement_uses (weight what x k) = []
+statement_uses (value s x k) = use_as wants.Sum s ∷ use_as wants.Truth x ∷ []
+statement_uses (weight what x k) = use_as wants.Element x ∷ []
 statement_uses (condition what x f) = use_as wants.Truth x ∷ formula_uses f []
 statement_uses (requirement f) = formula_uses f []
-statement_uses (objective direction quantity) = []
+statement_uses (objective direction x) = quantity_uses (built_in x) x
 
 -- whether the thing is what is wanted
 abbrev pub suits : Wanted → Thing → Bool
 suits wants.Element (things.Element k) = true
 suits wants.Element (things.Refinement k) = false
 suits wants.Element (things.Var k) = false
+suits wants.Element (things.Sum k) = false
 suits wants.Refinement (things.Element k) = false
 suits wants.Refinement (things.Refinement k) = true
 suits wants.Refinement (things.Var k) = false
+suits wants.Refinement (things.Sum k) = false
 suits wants.Truth (things.Element k) = true
 suits wants.Truth (things.Refinement k) = true
 suits wants.Truth (things.Var k) = false
+suits wants.Truth (things.Sum k) = false
 suits wants.Number (things.Element k) = false
 suits wants.Number (things.Refinement k) = false
 suits wants.Number (things.Var k) = true
+suits wants.Number (things.Sum k) = true
+suits wants.Sum (things.Element k) = false
+suits wants.Sum (things.Refinement k) = false
+suits wants.Sum (things.Var k) = false
+suits wants.Sum (things.Sum k) = true
 
 -- what is wrong with a name that stands for this
 abbrev pub thing_fault : Wanted → Option Thing → Option BadKind

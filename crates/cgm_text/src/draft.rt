@@ -89,7 +89,7 @@ impl Draft {
     fn add(&mut self, s: Statement, number: u32) -> Result<(), LineStop>
         requires { IsProper self.old.builder s }
         ensures put { OnOk result (IsPut number s self.old self.new) }
-        ensures stop { IfErr result (IsStop (IsJudged self.old.builder (Some s))) }
+        ensures stop { IfErr result (IsStop (IsJudged self.old.builder s)) }
     {
         let has_line = is_rule(&s);
         match self.builder.add(s) {

@@ -1,6 +1,6 @@
 ghost use Rattle.std.specs.Prelude.{◌≡◌, ℤ, map, OnOk};
 ghost use Rattle.cgm_model.specs.Model.{lists_of};
-ghost use Rattle.cgm_text.specs.Canonical.{element_name as name_of_element, joined_with, number_name as name_of_number, refinement_name as name_of_refinement, truth_name as name_of_truth, written_formula, written_linear, written_term};
+ghost use Rattle.cgm_text.specs.Canonical.{element_name as name_of_element, joined_with, number_name as name_of_number, refinement_name as name_of_refinement, sum_name as name_of_sum, truth_name as name_of_truth, variable_name as name_of_variable, written_formula, written_linear, written_term};
 ghost use Rattle.cgm_text.specs.Printing.{Writes};
 ghost use Rattle.cgm_text.specs.Written.{compared as written_comparison, comparison_word as word_of_comparison, joint_word as word_of_joint, spelled, spelled_each, spelled_linear, spelled_term, spelled_terms};
 ghost use Rattle.cgm_text.specs.Trees.{formulas_of};
@@ -39,15 +39,30 @@ pub(crate) fn truth_name(m: &Model, x: Truth) -> &[u8]
     }
 }
 
+pub(crate) fn variable_name(m: &Model, k: u32) -> &[u8]
+    ensures { result.now ≡ name_of_variable (lists_of m.now) k }
+{
+    match at(m.vars.as_slice(), k as usize) {
+        None => b"",
+        Some(variable) => variable.name.as_slice(),
+    }
+}
+
+pub(crate) fn sum_name(m: &Model, k: u32) -> &[u8]
+    ensures { result.now ≡ name_of_sum (lists_of m.now) k }
+{
+    match at(m.sums.as_slice(), k as usize) {
+        None => b"",
+        Some(sum) => sum.name.as_slice(),
+    }
+}
+
 fn number_name(m: &Model, x: Number) -> &[u8]
     ensures { result.now ≡ name_of_number (lists_of m.now) x }
 {
     match x {
-        Number::Var(k) => match at(m.vars.as_slice(), k as usize) {
-            None => b"",
-            Some(variable) => variable.name.as_slice(),
-        },
-        Number::Sum(_) => b"",
+        Number::Var(k) => variable_name(m, k),
+        Number::Sum(k) => sum_name(m, k),
     }
 }
 

@@ -3,7 +3,6 @@ ghost use Rattle.cgm_lex.specs.Lexemes.{word};
 ghost use Rattle.cgm_lex.specs.Spelling.{IsPlain};
 ghost use Rattle.cgm_model.specs.declared.lists.Lists.{Lists};
 ghost use Rattle.cgm_text.specs.Line.{AreJudged, HasForm, written};
-ghost use Rattle.cgm_text.specs.Meaning.{is_read};
 ghost use Rattle.cgm_text.specs.Progress.{IsMade, IsStop};
 ghost use Rattle.cgm_text.specs.Statements.{sort_word, statement_in};
 ghost use Rattle.cgm_text.specs.Trees.{seen_all};
@@ -14,26 +13,11 @@ use crate::keyword::sort_of_word;
 use crate::meaning::statement;
 use crate::names::statement_fault;
 use crate::take::{bytes_in, take_word};
-use crate::written::{FormStop, NameWord, PairWord, Sort, Written};
+use crate::written::{FormStop, Sort, Written};
 use cgm_base::BadKind;
 use cgm_lex::Token;
 use cgm_model::{ModelBuilder, Statement};
 use std::alloc::Global;
-
-/// Says whether statements with this word are read.
-fn is_read(sort: Sort) -> bool
-    ensures { result ≡ is_read sort }
-{
-    match sort {
-        Sort::Name(NameWord::Sum) => false,
-        Sort::Name(NameWord::Interest) => false,
-        Sort::Pair(PairWord::Prefer) => false,
-        Sort::Value => false,
-        Sort::Weight(_) => false,
-        Sort::Objective => false,
-        _ => true,
-    }
-}
 
 fn bad(kind: BadKind) -> LineStop
     ensures { result ≡ LineStop.Faulty (LineFault.Bad kind) }
@@ -51,14 +35,10 @@ fn form_of_sort(
     ensures found { IfOk result (λ s. HasForm (word (sort_word sort) ∷ seen_all line.now tokens.now) (written (statement_in line.now s))) }
     ensures stop { IfErr result (λ stop. (m : Lists) → IsStop (AreJudged m (word (sort_word sort) ∷ seen_all line.now tokens.now)) stop) }
 {
-    if is_read(sort) {
-        match statement_of_sort(alloc, line, sort, tokens) {
-            Ok(written) => Ok(written),
-            Err(FormStop::Form) => Err(bad(BadKind::Form)),
-            Err(FormStop::Memory) => Err(LineStop::Memory),
-        }
-    } else {
-        Err(bad(BadKind::NotYet))
+    match statement_of_sort(alloc, line, sort, tokens) {
+        Ok(written) => Ok(written),
+        Err(FormStop::Form) => Err(bad(BadKind::Form)),
+        Err(FormStop::Memory) => Err(LineStop::Memory),
     }
 }
 
@@ -91,8 +71,7 @@ pub(crate) fn statement_of_tokens(
     match statement_fault(builder, line, &written) {
         Some(kind) => Err(bad(kind)),
         None => match statement(alloc, builder, line, &written) {
-            Ok(Some(statement)) => Ok(statement),
-            Ok(None) => unreachable!(),
+            Ok(statement) => Ok(statement),
             Err(_) => Err(LineStop::Memory),
         },
     }

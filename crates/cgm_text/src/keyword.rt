@@ -1,4 +1,5 @@
 ghost use Rattle.std.specs.Prelude.{◌≡◌, ◌≢◌, Bool, IfSome, IfNone};
+ghost use Rattle.std.specs.Str.{bytes_eq};
 ghost use Rattle.cgm_text.specs.declared.written.ConditionWord.{ConditionWord};
 ghost use Rattle.cgm_text.specs.declared.written.Connective.{Connective};
 ghost use Rattle.cgm_text.specs.declared.written.Direction.{Direction};
@@ -6,7 +7,7 @@ ghost use Rattle.cgm_text.specs.declared.written.NameWord.{NameWord};
 ghost use Rattle.cgm_text.specs.declared.written.PairWord.{PairWord};
 ghost use Rattle.cgm_text.specs.declared.written.Sort.{Sort};
 ghost use Rattle.cgm_text.specs.declared.written.WeightWord.{WeightWord};
-ghost use Rattle.cgm_text.specs.Statements.{IsNoSingle, condition_word, direction_word, name_word, pair_word, sort_word, truth_word, weight_word};
+ghost use Rattle.cgm_text.specs.Statements.{IsNoSingle, built_in, condition_word, direction_word, name_word, pair_word, sort_word, truth_word, weight_word};
 ghost use Rattle.cgm_text.specs.Written.{connective_word};
 
 use crate::word::is;
@@ -14,6 +15,7 @@ use crate::written::{
     Comparison, ConditionWord, Connective, Direction, Joint, NameWord, PairWord, Pairing, Sort,
     WeightWord,
 };
+use cgm_model::Quantity;
 
 /// The connective with this word.
 pub(crate) fn connective_of(word: &[u8]) -> Option<Connective>
@@ -171,6 +173,33 @@ pub(crate) fn direction_of_word(word: &[u8]) -> Option<Direction>
         Some(Direction::Min)
     } else if is(word, "max") {
         Some(Direction::Max)
+    } else {
+        None
+    }
+}
+
+fn has_text(word: &[u8], text: &str) -> bool
+    ensures { result ≡ bytes_eq text.now word.now }
+{
+    text.as_bytes() == word
+}
+
+/// The built-in quantity with this word.
+pub(crate) fn built_in(word: &[u8]) -> Option<Quantity>
+    ensures { result ≡ built_in word.now }
+{
+    if has_text(word, "weight") {
+        Some(Quantity::Weight)
+    } else if has_text(word, "unsat_prefs") {
+        Some(Quantity::UnsatPrefs)
+    } else if has_text(word, "unsat_reqs") {
+        Some(Quantity::UnsatReqs)
+    } else if has_text(word, "sat_tasks") {
+        Some(Quantity::SatTasks)
+    } else if has_text(word, "familiarity") {
+        Some(Quantity::Familiarity)
+    } else if has_text(word, "effort") {
+        Some(Quantity::Effort)
     } else {
         None
     }

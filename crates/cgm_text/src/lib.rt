@@ -13,6 +13,7 @@ mod laws;
 mod line;
 mod linear;
 mod meaning;
+mod model_printer;
 mod names;
 mod printer;
 mod printing_laws;
@@ -27,8 +28,8 @@ pub use fault::LineFault;
 pub use laws::{
     text_has_model_or_fault, text_has_one_fault, text_has_one_model, tokens_have_one_statement,
 };
+pub use model_printer::print;
 pub use printing_laws::{
     canonical_formula_is_read_back, canonical_statement_is_read_back, canonical_text_is_read_back,
 };
 pub use reader::{Reading, TextStop, read};
-pub use statement_printer::print;

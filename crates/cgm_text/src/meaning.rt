@@ -1,18 +1,21 @@
 ghost use Rattle.std.specs.Prelude.{◌≡◌, ◌∷◌, map, All, IfOk};
 ghost use Rattle.std.specs.Str.{IsUtf8};
-ghost use Rattle.cgm_text.specs.Meaning.{compared_as, condition_of, declared_by, declared_words, each_formula_of, element_named, formula_of, joined_as, linear_of, number_named, pair_of, paired_as, refinement_named, statement_of, term_of, truth_named};
+ghost use Rattle.cgm_text.specs.Meaning.{compared_as, condition_of, declared_words, each_formula_of, element_named, formula_of, is_max, joined_as, linear_of, named_of, number_named, pair_of, paired_as, quantity_named, quantity_of, refinement_named, statement_of, sum_named, term_of, truth_named, weight_of};
 ghost use Rattle.cgm_text.specs.Statements.{statement_in};
 ghost use Rattle.cgm_text.specs.Trees.{formula_in, formulas_of, linear_in, term_in, word_in};
 
+use crate::keyword::built_in;
 use crate::take::bytes_in;
 use crate::word::name_of;
 use crate::written;
 use crate::written::{
-    Comparison, ConditionWord, Joint, NameWord, PairWord, Pairing, Term, Tree, Word, Written,
+    Comparison, ConditionWord, Direction, Joint, NameWord, PairWord, Pairing, Term, Tree,
+    WeightWord, Word, Written,
 };
 use cgm_model::{
-    Assertion, Edge, Element, ElementKind, Formula, Linear, ModelBuilder, Number, Parts,
-    Refinement, Rule, Statement, Thing, Truth, Variable,
+    Assertion, Edge, Element, ElementKind, Formula, Linear, ModelBuilder, Number, Objective, Parts,
+    Preference, Quantity, Refinement, Rule, Statement, Sum, SumValue, Thing, Truth, Variable,
+    Weighing,
 };
 use sqlite_items::Boxed;
 use std::alloc::{AllocError as OutOfMemory, Global};
@@ -51,7 +54,17 @@ fn number(builder: &ModelBuilder, line: &[u8], w: Word) -> Number
 {
     match builder.find(bytes_in(line, w)) {
         Some(Thing::Var(k)) => Number::Var(k),
+        Some(Thing::Sum(k)) => Number::Sum(k),
         _ => Number::Var(0),
+    }
+}
+
+fn sum(builder: &ModelBuilder, line: &[u8], w: Word) -> u32
+    ensures { result ≡ sum_named builder.now (word_in line.now w) }
+{
+    match builder.find(bytes_in(line, w)) {
+        Some(Thing::Sum(k)) => k,
+        _ => 0,
     }
 }
 
@@ -220,35 +233,40 @@ fn declared(
     }))
 }
 
-fn named(alloc: Global, what: NameWord, name: &[u8]) -> Result<Option<Statement>, OutOfMemory>
-    requires text { IsUtf8 name.now }
-    ensures { IfOk result (λ s. s ≡ declared_by what name.now) }
+fn named(
+    alloc: Global,
+    builder: &ModelBuilder,
+    line: &[u8],
+    what: NameWord,
+    name: Word,
+) -> Result<Statement, OutOfMemory>
+    requires text { IsUtf8 (word_in line.now name) }
+    ensures { IfOk result (λ s. s ≡ named_of builder.now what (word_in line.now name)) }
 {
     match what {
-        NameWord::Task => Ok(Some(declared(alloc, name, ElementKind::Task, false)?)),
-        NameWord::Assume => Ok(Some(declared(alloc, name, ElementKind::Assume, false)?)),
-        NameWord::Sum => Ok(None),
-        NameWord::Interest => Ok(None),
+        NameWord::Task => declared(alloc, bytes_in(line, name), ElementKind::Task, false),
+        NameWord::Assume => declared(alloc, bytes_in(line, name), ElementKind::Assume, false),
+        NameWord::Sum => Ok(Statement::Sum(Sum {
+            name: name_of(alloc, bytes_in(line, name))?,
+        })),
+        NameWord::Interest => Ok(Statement::Interest(element(builder, line, name))),
     }
 }
 
-fn pair(
-    builder: &ModelBuilder,
-    line: &[u8],
-    what: PairWord,
-    one: Word,
-    other: Word,
-) -> Option<Statement>
+fn pair(builder: &ModelBuilder, line: &[u8], what: PairWord, one: Word, other: Word) -> Statement
     ensures { result ≡ pair_of builder.now what (word_in line.now one) (word_in line.now other) }
 {
     match what {
-        PairWord::Contrib => Some(Statement::Contrib(element_edge(builder, line, one, other))),
-        PairWord::Conflict => Some(Statement::Conflict(element_edge(builder, line, one, other))),
-        PairWord::Bind => Some(Statement::Bind(Edge {
+        PairWord::Contrib => Statement::Contrib(element_edge(builder, line, one, other)),
+        PairWord::Conflict => Statement::Conflict(element_edge(builder, line, one, other)),
+        PairWord::Bind => Statement::Bind(Edge {
             from: refinement(builder, line, one),
             to: refinement(builder, line, other),
-        })),
-        PairWord::Prefer => None,
+        }),
+        PairWord::Prefer => Statement::Prefer(Preference {
+            better: truth(builder, line, one),
+            worse: truth(builder, line, other),
+        }),
     }
 }
 
@@ -270,42 +288,80 @@ fn condition(what: ConditionWord, name: Truth, formula: Formula) -> Rule
     }
 }
 
-/// The statement that a written one makes after those of the builder; none where it isn't read.
+fn weight(what: WeightWord, weighing: Weighing) -> Statement
+    ensures { result ≡ weight_of what weighing }
+{
+    match what {
+        WeightWord::Reward => Statement::Reward(weighing),
+        WeightWord::Penalty => Statement::Penalty(weighing),
+    }
+}
+
+fn is_max(direction: Direction) -> bool
+    ensures { result ≡ is_max direction }
+{
+    match direction {
+        Direction::Min => false,
+        Direction::Max => true,
+    }
+}
+
+fn quantity(built_in: Option<Quantity>, number: Number) -> Quantity
+    ensures { result ≡ quantity_of built_in number }
+{
+    match built_in {
+        Some(quantity) => quantity,
+        None => match number {
+            Number::Var(k) => Quantity::Var(k),
+            Number::Sum(k) => Quantity::Sum(k),
+        },
+    }
+}
+
+/// The statement that a written one makes after those of the builder.
 pub(crate) fn statement(
     alloc: Global,
     builder: &ModelBuilder,
     line: &[u8],
     written: &Written,
-) -> Result<Option<Statement>, OutOfMemory>
+) -> Result<Statement, OutOfMemory>
     requires texts { All IsUtf8 (declared_words (statement_in line.now written.now)) }
     ensures { IfOk result (λ s. s ≡ statement_of builder.now (statement_in line.now written.now)) }
 {
     match written {
         Written::Goal { name, must } => {
-            let goal = declared(alloc, bytes_in(line, *name), ElementKind::Goal, *must)?;
-            Ok(Some(goal))
+            declared(alloc, bytes_in(line, *name), ElementKind::Goal, *must)
         }
-        Written::Name { what, name } => named(alloc, *what, bytes_in(line, *name)),
+        Written::Name { what, name } => named(alloc, builder, line, *what, *name),
         Written::Refine {
             name,
             target,
             first,
             others,
-        } => Ok(Some(Statement::Refine(Refinement {
+        } => Ok(Statement::Refine(Refinement {
             name: name_of(alloc, bytes_in(line, *name))?,
             target: element(builder, line, *target),
             sources: elements(alloc, builder, line, *first, others.as_slice())?,
-        }))),
+        })),
         Written::Pair { what, one, other } => Ok(pair(builder, line, *what, *one, *other)),
-        Written::Assert { name, truth } => Ok(Some(Statement::Assert(Assertion {
+        Written::Assert { name, truth } => Ok(Statement::Assert(Assertion {
             element: element(builder, line, *name),
             truth: *truth,
-        }))),
-        Written::Var { name, lo, hi } => Ok(Some(Statement::Variable(Variable {
+        })),
+        Written::Var { name, lo, hi } => Ok(Statement::Variable(Variable {
             name: name_of(alloc, bytes_in(line, *name))?,
             lo: *lo,
             hi: *hi,
-        }))),
+        })),
+        Written::Value { sum: name, of, k } => Ok(Statement::Value(SumValue {
+            sum: sum(builder, line, *name),
+            of: truth(builder, line, *of),
+            k: *k,
+        })),
+        Written::Weight { what, name, k } => {
+            let element = element(builder, line, *name);
+            Ok(weight(*what, Weighing { element, k: *k }))
+        }
         Written::Condition {
             what,
             name,
@@ -313,12 +369,21 @@ pub(crate) fn statement(
         } => {
             let formula = formula(alloc, builder, line, tree)?;
             let name = truth(builder, line, *name);
-            Ok(Some(Statement::Rule(condition(*what, name, formula))))
+            Ok(Statement::Rule(condition(*what, name, formula)))
         }
         Written::Require { formula: tree } => {
             let formula = formula(alloc, builder, line, tree)?;
-            Ok(Some(Statement::Rule(Rule::Require(formula))))
+            Ok(Statement::Rule(Rule::Require(formula)))
         }
-        _ => Ok(None),
+        Written::Objective {
+            direction,
+            quantity: name,
+        } => Ok(Statement::Objective(Objective {
+            max: is_max(*direction),
+            of: quantity(
+                built_in(bytes_in(line, *name)),
+                number(builder, line, *name),
+            ),
+        })),
     }
 }

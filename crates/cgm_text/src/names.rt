@@ -2,12 +2,13 @@ ghost use Rattle.std.specs.Prelude.{◌≡◌, List, [], ◌∷◌, map};
 ghost use Rattle.std.specs.Option.{option_or};
 ghost use Rattle.cgm_model.specs.Named.{thing_named};
 ghost use Rattle.cgm_text.specs.declared.names.Wanted.TheVariants as wants;
-ghost use Rattle.cgm_text.specs.Statements.{statement_in};
+ghost use Rattle.cgm_text.specs.Statements.{built_in, statement_in};
 ghost use Rattle.cgm_text.specs.Trees.{formula_in, formulas_of, linear_in, term_in, word_in};
-ghost use Rattle.cgm_text.specs.Uses.{NameUse, end_of, first_fault, formula_uses, formulas_uses, linear_uses, statement_uses, suits, terms_uses, thing_fault, use_as};
+ghost use Rattle.cgm_text.specs.Uses.{NameUse, end_of, first_fault, formula_uses, formulas_uses, linear_uses, named_uses, quantity_uses, statement_uses, suits, terms_uses, thing_fault, use_as};
 
+use crate::keyword::built_in;
 use crate::take::bytes_in;
-use crate::written::{Linear, PairWord, Term, Tree, Word, Written};
+use crate::written::{Linear, NameWord, PairWord, Term, Tree, Word, Written};
 use cgm_base::BadKind;
 use cgm_model::{ModelBuilder, Thing};
 
@@ -18,8 +19,9 @@ pub(crate) enum Wanted {
     Refinement,
     /// An element or a refinement.
     Truth,
-    /// A variable.
+    /// A variable or a sum.
     Number,
+    Sum,
 }
 
 fn suits(wanted: Wanted, thing: Thing) -> bool
@@ -31,18 +33,28 @@ fn suits(wanted: Wanted, thing: Thing) -> bool
             Wanted::Refinement => false,
             Wanted::Truth => true,
             Wanted::Number => false,
+            Wanted::Sum => false,
         },
         Thing::Refinement(_) => match wanted {
             Wanted::Element => false,
             Wanted::Refinement => true,
             Wanted::Truth => true,
             Wanted::Number => false,
+            Wanted::Sum => false,
         },
         Thing::Var(_) => match wanted {
             Wanted::Element => false,
             Wanted::Refinement => false,
             Wanted::Truth => false,
             Wanted::Number => true,
+            Wanted::Sum => false,
+        },
+        Thing::Sum(_) => match wanted {
+            Wanted::Element => false,
+            Wanted::Refinement => false,
+            Wanted::Truth => false,
+            Wanted::Number => true,
+            Wanted::Sum => true,
         },
     }
 }
@@ -174,6 +186,34 @@ fn end_of(what: PairWord) -> Wanted
     }
 }
 
+fn named_fault(builder: &ModelBuilder, line: &[u8], what: NameWord, name: Word) -> Option<BadKind>
+    ensures { result ≡ first_fault builder.now (named_uses what (word_in line.now name)) }
+{
+    match what {
+        NameWord::Interest => word_fault(builder, line, Wanted::Element, name),
+        _ => None,
+    }
+}
+
+fn value_fault(builder: &ModelBuilder, line: &[u8], sum: Word, of: Word) -> Option<BadKind>
+    ensures { result ≡ first_fault builder.now (use_as wants.Sum (word_in line.now sum) ∷ use_as wants.Truth (word_in line.now of) ∷ []) }
+{
+    match word_fault(builder, line, Wanted::Sum, sum) {
+        Some(kind) => Some(kind),
+        None => word_fault(builder, line, Wanted::Truth, of),
+    }
+}
+
+/// What is wrong with the word of a quantity.
+fn quantity_fault(builder: &ModelBuilder, line: &[u8], quantity: Word) -> Option<BadKind>
+    ensures { result ≡ first_fault builder.now (quantity_uses (built_in (word_in line.now quantity)) (word_in line.now quantity)) }
+{
+    match built_in(bytes_in(line, quantity)) {
+        Some(_) => None,
+        None => word_fault(builder, line, Wanted::Number, quantity),
+    }
+}
+
 /// What is wrong with the first bad name that a statement uses.
 pub(crate) fn statement_fault(
     builder: &ModelBuilder,
@@ -205,6 +245,18 @@ pub(crate) fn statement_fault(
             None => formula_fault(builder, line, formula),
         },
         Written::Require { formula } => formula_fault(builder, line, formula),
-        _ => None,
+        Written::Name { what, name } => named_fault(builder, line, *what, *name),
+        Written::Value { sum, of, k: _ } => value_fault(builder, line, *sum, *of),
+        Written::Weight {
+            what: _,
+            name,
+            k: _,
+        } => word_fault(builder, line, Wanted::Element, *name),
+        Written::Objective {
+            direction: _,
+            quantity,
+        } => quantity_fault(builder, line, *quantity),
+        Written::Goal { .. } => None,
+        Written::Var { .. } => None,
     }
 }

@@ -1,18 +1,21 @@
-ghost use Rattle.std.specs.Prelude.{◌≡◌, ◌∷◌, [], ◌++◌, codes, map, IfOk, OnOk};
+ghost use Rattle.std.specs.Prelude.{◌≡◌, ◌∷◌, [], codes, map, OnOk};
 ghost use Rattle.cgm_lex.specs.Lexemes.{number, word};
 ghost use Rattle.cgm_model.specs.Model.{lists_of};
-ghost use Rattle.cgm_text.specs.Canonical.{canonical_text, element_name as name_of_element, statement_lines, truth_name as name_of_truth, written, written_element, written_formula, written_rule};
 ghost use Rattle.cgm_model.specs.declared.lists.Statement.TheVariants as Statement;
+ghost use Rattle.cgm_text.specs.Canonical.{direction_of, element_name as name_of_element, quantity_name as name_of_quantity, truth_name as name_of_truth, written, written_element, written_formula, written_rule};
 ghost use Rattle.cgm_text.specs.Printing.{Begins, IsLine, Writes, words_before};
-ghost use Rattle.cgm_text.specs.Statements.{goal, statement_tokens, truth_word as word_of_truth};
+ghost use Rattle.cgm_text.specs.Statements.{direction_word as word_of_direction, goal, statement_tokens, truth_word as word_of_truth};
 ghost use Rattle.cgm_text.specs.Written.{spelled};
 
-use crate::formula_printer::{element_name, formula, refinement_name, truth_name};
+use crate::formula_printer::{
+    element_name, formula, refinement_name, sum_name, truth_name, variable_name,
+};
 use crate::printer::Printer;
 use cgm_model::{
-    Assertion, Edge, Element, ElementKind, Formula, Model, Refinement, Rule, Truth, Variable,
+    Assertion, Edge, Element, ElementKind, Formula, Model, Objective, Preference, Quantity,
+    Refinement, Rule, Sum, SumValue, Truth, Variable, Weighing,
 };
-use std::alloc::{AllocError as OutOfMemory, Global};
+use std::alloc::AllocError as OutOfMemory;
 
 /// Begins a line with a statement word and a name.
 fn named_line(p: &mut Printer, first: &[u8], name: &[u8]) -> Result<(), OutOfMemory>
@@ -34,7 +37,7 @@ fn goal_line(p: &mut Printer, name: &[u8], must: bool) -> Result<(), OutOfMemory
 }
 
 /// Writes the line of an element, without its line feed, here and below.
-fn element(p: &mut Printer, e: &Element) -> Result<(), OutOfMemory>
+pub(crate) fn element(p: &mut Printer, e: &Element) -> Result<(), OutOfMemory>
     ensures { OnOk result (IsLine p.old p.new (statement_tokens (written_element e.now.name e.now.kind e.now.must))) }
 {
     match e.kind {
@@ -54,7 +57,7 @@ fn source_names(p: &mut Printer, m: &Model, numbers: &[u32]) -> Result<(), OutOf
     Ok(())
 }
 
-fn refinement(p: &mut Printer, m: &Model, r: &Refinement) -> Result<(), OutOfMemory>
+pub(crate) fn refinement(p: &mut Printer, m: &Model, r: &Refinement) -> Result<(), OutOfMemory>
     ensures { OnOk result (IsLine p.old p.new (statement_tokens (written (lists_of m.now) (Statement.Refine r.now)))) }
 {
     named_line(p, b"refine", r.name.as_slice())?;
@@ -68,7 +71,7 @@ fn refinement(p: &mut Printer, m: &Model, r: &Refinement) -> Result<(), OutOfMem
     Ok(())
 }
 
-fn variable(p: &mut Printer, v: &Variable) -> Result<(), OutOfMemory>
+pub(crate) fn variable(p: &mut Printer, v: &Variable) -> Result<(), OutOfMemory>
     ensures { OnOk result (IsLine p.old p.new (word (codes "var") ∷ word v.now.name ∷ number v.now.lo ∷ number v.now.hi ∷ [])) }
 {
     named_line(p, b"var", v.name.as_slice())?;
@@ -85,7 +88,7 @@ fn pair(p: &mut Printer, first: &[u8], one: &[u8], other: &[u8]) -> Result<(), O
     Ok(())
 }
 
-fn contribution(p: &mut Printer, m: &Model, e: &Edge) -> Result<(), OutOfMemory>
+pub(crate) fn contribution(p: &mut Printer, m: &Model, e: &Edge) -> Result<(), OutOfMemory>
     ensures { OnOk result (IsLine p.old p.new (statement_tokens (written (lists_of m.now) (Statement.Contrib e.now)))) }
 {
     pair(
@@ -97,7 +100,7 @@ fn contribution(p: &mut Printer, m: &Model, e: &Edge) -> Result<(), OutOfMemory>
     Ok(())
 }
 
-fn conflict(p: &mut Printer, m: &Model, e: &Edge) -> Result<(), OutOfMemory>
+pub(crate) fn conflict(p: &mut Printer, m: &Model, e: &Edge) -> Result<(), OutOfMemory>
     ensures { OnOk result (IsLine p.old p.new (statement_tokens (written (lists_of m.now) (Statement.Conflict e.now)))) }
 {
     pair(
@@ -109,7 +112,7 @@ fn conflict(p: &mut Printer, m: &Model, e: &Edge) -> Result<(), OutOfMemory>
     Ok(())
 }
 
-fn binding(p: &mut Printer, m: &Model, e: &Edge) -> Result<(), OutOfMemory>
+pub(crate) fn binding(p: &mut Printer, m: &Model, e: &Edge) -> Result<(), OutOfMemory>
     ensures { OnOk result (IsLine p.old p.new (statement_tokens (written (lists_of m.now) (Statement.Bind e.now)))) }
 {
     pair(
@@ -127,7 +130,7 @@ fn truth_word(truth: bool) -> &'static [u8]
     if truth { b"true" } else { b"false" }
 }
 
-fn assertion(p: &mut Printer, m: &Model, a: &Assertion) -> Result<(), OutOfMemory>
+pub(crate) fn assertion(p: &mut Printer, m: &Model, a: &Assertion) -> Result<(), OutOfMemory>
     ensures { OnOk result (IsLine p.old p.new (statement_tokens (written (lists_of m.now) (Statement.Assert a.now)))) }
 {
     pair(
@@ -135,6 +138,98 @@ fn assertion(p: &mut Printer, m: &Model, a: &Assertion) -> Result<(), OutOfMemor
         b"assert",
         element_name(m, a.element),
         truth_word(a.truth),
+    )?;
+    Ok(())
+}
+
+pub(crate) fn sum(p: &mut Printer, s: &Sum) -> Result<(), OutOfMemory>
+    ensures { OnOk result (IsLine p.old p.new (word (codes "sum") ∷ word s.now.name ∷ [])) }
+{
+    named_line(p, b"sum", s.name.as_slice())?;
+    Ok(())
+}
+
+pub(crate) fn value(p: &mut Printer, m: &Model, v: &SumValue) -> Result<(), OutOfMemory>
+    ensures { OnOk result (IsLine p.old p.new (statement_tokens (written (lists_of m.now) (Statement.Value v.now)))) }
+{
+    named_line(p, b"value", sum_name(m, v.sum))?;
+    p.word(truth_name(m, v.of))?;
+    p.number(v.k)?;
+    Ok(())
+}
+
+fn weighing(p: &mut Printer, m: &Model, first: &[u8], w: &Weighing) -> Result<(), OutOfMemory>
+    ensures { OnOk result (IsLine p.old p.new (word first.now ∷ word (name_of_element (lists_of m.now) w.now.element) ∷ number w.now.k ∷ [])) }
+{
+    named_line(p, first, element_name(m, w.element))?;
+    p.number(w.k)?;
+    Ok(())
+}
+
+pub(crate) fn reward(p: &mut Printer, m: &Model, w: &Weighing) -> Result<(), OutOfMemory>
+    ensures { OnOk result (IsLine p.old p.new (statement_tokens (written (lists_of m.now) (Statement.Reward w.now)))) }
+{
+    weighing(p, m, b"reward", w)
+}
+
+pub(crate) fn penalty(p: &mut Printer, m: &Model, w: &Weighing) -> Result<(), OutOfMemory>
+    ensures { OnOk result (IsLine p.old p.new (statement_tokens (written (lists_of m.now) (Statement.Penalty w.now)))) }
+{
+    weighing(p, m, b"penalty", w)
+}
+
+pub(crate) fn preference(
+    p: &mut Printer,
+    m: &Model,
+    preferred: &Preference,
+) -> Result<(), OutOfMemory>
+    ensures { OnOk result (IsLine p.old p.new (statement_tokens (written (lists_of m.now) (Statement.Prefer preferred.now)))) }
+{
+    pair(
+        p,
+        b"prefer",
+        truth_name(m, preferred.better),
+        truth_name(m, preferred.worse),
+    )?;
+    Ok(())
+}
+
+pub(crate) fn interest(p: &mut Printer, m: &Model, k: u32) -> Result<(), OutOfMemory>
+    ensures { OnOk result (IsLine p.old p.new (statement_tokens (written (lists_of m.now) (Statement.Interest k)))) }
+{
+    named_line(p, b"interest", element_name(m, k))?;
+    Ok(())
+}
+
+fn direction_word(max: bool) -> &'static [u8]
+    ensures { result.now ≡ word_of_direction (direction_of max) }
+{
+    if max { b"max" } else { b"min" }
+}
+
+fn quantity_name(m: &Model, q: Quantity) -> &[u8]
+    ensures { result.now ≡ name_of_quantity (lists_of m.now) q }
+{
+    match q {
+        Quantity::Var(k) => variable_name(m, k),
+        Quantity::Sum(k) => sum_name(m, k),
+        Quantity::Weight => b"weight",
+        Quantity::UnsatPrefs => b"unsat_prefs",
+        Quantity::UnsatReqs => b"unsat_reqs",
+        Quantity::SatTasks => b"sat_tasks",
+        Quantity::Familiarity => b"familiarity",
+        Quantity::Effort => b"effort",
+    }
+}
+
+pub(crate) fn objective(p: &mut Printer, m: &Model, o: &Objective) -> Result<(), OutOfMemory>
+    ensures { OnOk result (IsLine p.old p.new (statement_tokens (written (lists_of m.now) (Statement.Objective o.now)))) }
+{
+    pair(
+        p,
+        b"objective",
+        direction_word(o.max),
+        quantity_name(m, o.of),
     )?;
     Ok(())
 }
@@ -161,7 +256,7 @@ fn requirement(p: &mut Printer, m: &Model, f: &Formula) -> Result<(), OutOfMemor
     Ok(())
 }
 
-fn rule(p: &mut Printer, m: &Model, r: &Rule) -> Result<(), OutOfMemory>
+pub(crate) fn rule(p: &mut Printer, m: &Model, r: &Rule) -> Result<(), OutOfMemory>
     ensures { OnOk result (IsLine p.old p.new (statement_tokens (written_rule (lists_of m.now) r.now))) }
 {
     match r {
@@ -170,104 +265,4 @@ fn rule(p: &mut Printer, m: &Model, r: &Rule) -> Result<(), OutOfMemory>
         Rule::Require(f) => requirement(p, m, f)?,
     }
     Ok(())
-}
-
-fn elements(p: &mut Printer, m: &Model, all: &[Element]) -> Result<(), OutOfMemory>
-    ensures { OnOk result (p.new.text.items ≡ p.old.text.items ++ statement_lines (lists_of m.now) (map (λ x. Statement.Element x) all.now)) }
-{
-    for one in all {
-        element(p, one)?;
-        p.end_line()?;
-    }
-    Ok(())
-}
-
-fn refinements(p: &mut Printer, m: &Model, all: &[Refinement]) -> Result<(), OutOfMemory>
-    ensures { OnOk result (p.new.text.items ≡ p.old.text.items ++ statement_lines (lists_of m.now) (map (λ x. Statement.Refine x) all.now)) }
-{
-    for one in all {
-        refinement(p, m, one)?;
-        p.end_line()?;
-    }
-    Ok(())
-}
-
-fn variables(p: &mut Printer, m: &Model, all: &[Variable]) -> Result<(), OutOfMemory>
-    ensures { OnOk result (p.new.text.items ≡ p.old.text.items ++ statement_lines (lists_of m.now) (map (λ x. Statement.Variable x) all.now)) }
-{
-    for one in all {
-        variable(p, one)?;
-        p.end_line()?;
-    }
-    Ok(())
-}
-
-fn contributions(p: &mut Printer, m: &Model, all: &[Edge]) -> Result<(), OutOfMemory>
-    ensures { OnOk result (p.new.text.items ≡ p.old.text.items ++ statement_lines (lists_of m.now) (map (λ x. Statement.Contrib x) all.now)) }
-{
-    for one in all {
-        contribution(p, m, one)?;
-        p.end_line()?;
-    }
-    Ok(())
-}
-
-fn conflicts(p: &mut Printer, m: &Model, all: &[Edge]) -> Result<(), OutOfMemory>
-    ensures { OnOk result (p.new.text.items ≡ p.old.text.items ++ statement_lines (lists_of m.now) (map (λ x. Statement.Conflict x) all.now)) }
-{
-    for one in all {
-        conflict(p, m, one)?;
-        p.end_line()?;
-    }
-    Ok(())
-}
-
-fn bindings(p: &mut Printer, m: &Model, all: &[Edge]) -> Result<(), OutOfMemory>
-    ensures { OnOk result (p.new.text.items ≡ p.old.text.items ++ statement_lines (lists_of m.now) (map (λ x. Statement.Bind x) all.now)) }
-{
-    for one in all {
-        binding(p, m, one)?;
-        p.end_line()?;
-    }
-    Ok(())
-}
-
-fn assertions(p: &mut Printer, m: &Model, all: &[Assertion]) -> Result<(), OutOfMemory>
-    ensures { OnOk result (p.new.text.items ≡ p.old.text.items ++ statement_lines (lists_of m.now) (map (λ x. Statement.Assert x) all.now)) }
-{
-    for one in all {
-        assertion(p, m, one)?;
-        p.end_line()?;
-    }
-    Ok(())
-}
-
-fn rules(p: &mut Printer, m: &Model, all: &[Rule]) -> Result<(), OutOfMemory>
-    ensures { OnOk result (p.new.text.items ≡ p.old.text.items ++ statement_lines (lists_of m.now) (map (λ x. Statement.Rule x) all.now)) }
-{
-    for one in all {
-        rule(p, m, one)?;
-        p.end_line()?;
-    }
-    Ok(())
-}
-
-/// The canonical text of a model.
-pub fn print(alloc: Global, m: &Model) -> Result<Vec<u8>, OutOfMemory>
-    ensures { IfOk result (λ bytes. bytes.items ≡ canonical_text (lists_of m.now)) }
-{
-    let mut p = Printer::new(alloc);
-    p.begin_line(b"cgm")?;
-    p.number(1)?;
-    p.end_line()?;
-    elements(&mut p, m, m.elements.as_slice())?;
-    refinements(&mut p, m, m.refinements.as_slice())?;
-    variables(&mut p, m, m.vars.as_slice())?;
-    contributions(&mut p, m, m.contribs.as_slice())?;
-    conflicts(&mut p, m, m.conflicts.as_slice())?;
-    bindings(&mut p, m, m.binds.as_slice())?;
-    assertions(&mut p, m, m.asserts.as_slice())?;
-    rules(&mut p, m, m.rules.as_slice())?;
-    let Printer { text, is_due: _ } = p;
-    Ok(text)
 }

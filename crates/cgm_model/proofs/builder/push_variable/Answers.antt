@@ -3,19 +3,25 @@ use Rattle.std.specs.Str.{bytes_eq}
 use Rattle.cgm_model.specs.declared.aids.Aids.{Aids}
 use Rattle.cgm_model.specs.declared.lists.Variable.{Variable}
 use Rattle.cgm_model.specs.declared.lists.Thing.TheVariants as things
+use Rattle.cgm_model.specs.Keeping.{AreFor}
 use Rattle.cgm_model.specs.NameTable.{found}
-use Rattle.cgm_model.proofs.Aiding.{AreFor-declared, AreFor-variable, after_variable}
+use Rattle.cgm_model.proofs.Aiding.{AreFor-names, AreFor-declared, AreFor-variable, after_push}
 use Rattle.cgm_model.proofs.Fresh.{fresh_variable}
 use Rattle.cgm_model.proofs.builder.push_variable.Goals as goal
+
+pub returns-in_err-declare-clause-aids : goal.returns-in_err-declare-clause-aids
+returns-in_err-declare-clause-aids c =
+    AreFor-names c.args.m.now c.args.aids.now c.declare.new.names c.in_err-declare.ensures.others c.requires.aids
 
 pub returns-clause-aids : goal.returns-clause-aids
 returns-clause-aids c =
     let m = c.args.m.now in
     let v = c.args.v in
     let old : Aids = c.args.aids.now in
-    let S : List ℕ → ℕ → Type 0 = λ n k. (q : List ℕ) → found c.declare.new.aids.names q ≡ cond (bytes_eq q n) (Some (things.Var k)) (found old.names q) in
+    let new : Aids = record old { names = c.declare.new.names } in
+    let S : List ℕ → ℕ → Type 0 = λ n k. (q : List ℕ) → found c.declare.new.names q ≡ cond (bytes_eq q n) (Some (things.Var k)) (found old.names q) in
     let set : S v.name (length m.vars) = subst (λ n. S n (length m.vars)) c.as_slice-2.ensures (subst (λ (xs : List Variable). S c.as_slice-2.result.now (length xs)) c.as_slice.ensures c.in_ok-declare.ensures.set) in
     let fresh = fresh_variable m v c.requires.allowed in
-    let before = AreFor-declared m v.name (things.Var (length m.vars)) old c.declare.new.aids set c.in_ok-declare.ensures.graph c.in_ok-declare.ensures.node_room fresh c.requires.aids in
-    let after = AreFor-variable m v old c.declare.new.aids set c.in_ok-declare.ensures.graph c.in_ok-declare.ensures.node_room fresh c.requires.aids in
-    after_variable (is_ok c.push.result) m v c.push.new.self c.declare.new.aids c.push.ensures.items before after
+    let before = AreFor-declared m v.name (things.Var (length m.vars)) old c.declare.new.names set fresh c.requires.aids in
+    let after = AreFor-variable m v old c.declare.new.names set fresh c.requires.aids in
+    after_push (λ (xs : List Variable). AreFor (record m { vars = xs }) new) (is_ok c.push.result) m.vars v c.push.new.self c.push.ensures.items before after

@@ -1,4 +1,4 @@
-use Rattle.std.proofs.Common.{◌≡◌, ◌≢◌, ◌∙◌, ◌∷◌, pos, codes, arith, subst, ℤ, to_z, of_z, w64}
+use Rattle.std.proofs.Common.{◌≡◌, ◌≢◌, ◌∷◌, pos, codes, arith, subst, ℤ, to_z, of_z, w64}
 use Rattle.std.proofs.lemmas.Int.{ints}
 use Rattle.cgm_lex.specs.Lexemes.{opening, closing, number, word}
 use Rattle.cgm_model.specs.Model.{lists_of}

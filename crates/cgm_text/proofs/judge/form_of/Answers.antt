@@ -1,5 +1,5 @@
 use Rattle.std.proofs.Common.{◌∷◌, IfErr, sym, ap, ◌∙◌, subst}
-use Rattle.cgm_lex.specs.Lexemes.{Lexeme, word}
+use Rattle.cgm_lex.specs.Lexemes.{word}
 use Rattle.cgm_model.specs.declared.lists.Lists.{Lists}
 use Rattle.cgm_text.specs.Line.{AreJudged}
 use Rattle.cgm_text.specs.Progress.{IsStop}

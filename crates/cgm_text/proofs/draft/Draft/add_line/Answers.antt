@@ -1,8 +1,6 @@
-use Rattle.std.proofs.Common.{List, Result, Ok, sym, ap, ◌∙◌}
+use Rattle.std.proofs.Common.{List, Ok, sym, ap, ◌∙◌}
 use Rattle.std.specs.Option.{option_map}
-use Rattle.cgm_lex.specs.declared.token.Flaw.{Flaw}
 use Rattle.cgm_lex.specs.declared.token.Token.{Token}
-use Rattle.cgm_lex.specs.Lexemes.{Lexeme}
 use Rattle.cgm_lex.proofs.Plain.{line_is_plain}
 use Rattle.cgm_text.specs.Text.{model_of}
 use Rattle.cgm_text.specs.Trees.{seen_all}

@@ -1,0 +1,49 @@
+-- Lines without a fault, and one line more.
+use Rattle.std.proofs.Common.{◌≡◌, ℕ, ◌++◌, List, [], ◌∷◌, map, Option, None, Some, Result, Ok, refl, sym, ap, ◌∙◌, subst, append-nil}
+use Rattle.std.specs.List.{filter}
+use Rattle.std.proofs.lemmas.List.{map_push}
+use Rattle.std.proofs.lemmas.List.Elements.{filter-append}
+use Rattle.cgm_lex.specs.declared.token.Flaw.{Flaw}
+use Rattle.cgm_lex.specs.Lexemes.{Lexeme, line_lexemes}
+use Rattle.cgm_evolve.specs.Line.{header_tokens, pair_tokens}
+use Rattle.cgm_evolve.specs.Pairs.{ArePairs, Pair}
+use Rattle.cgm_evolve.specs.Progress.{Follows, IsPassed}
+use Rattle.cgm_evolve.specs.Text.{Give, has_tokens, pairs_of, tokens_of}
+use Rattle.cgm_evolve.proofs.Pushing.{ArePairs-push, no_pairs}
+
+abbrev pub good : List Lexeme → Result (List Lexeme) Flaw
+good ts = Ok ts
+
+pub give_none : Give [] None
+give_none = record { tokens = []; lexed = refl; said = refl; proper = no_pairs }
+
+lexed_more : (front : List (List ℕ)) (bytes : List ℕ) (all : List (List Lexeme)) (ts : List Lexeme) → map line_lexemes front ≡ map good all → line_lexemes bytes ≡ Ok ts → map line_lexemes (front ++ bytes ∷ []) ≡ map good (all ++ ts ∷ [])
+lexed_more front bytes all ts e f =
+    map_push line_lexemes front bytes ∙ (ap (λ rs. rs ++ line_lexemes bytes ∷ []) e ∙ (ap (λ r. map good all ++ r ∷ []) f ∙ sym (map_push good all ts)))
+
+said_more : (all : List (List Lexeme)) (ts : List Lexeme) (so_far next : Option (List Pair)) → filter has_tokens all ≡ tokens_of so_far → tokens_of so_far ++ filter has_tokens (ts ∷ []) ≡ tokens_of next → filter has_tokens (all ++ ts ∷ []) ≡ tokens_of next
+said_more all ts so_far next e f = filter-append has_tokens all (ts ∷ []) ∙ (ap (λ xs. xs ++ filter has_tokens (ts ∷ [])) e ∙ f)
+
+record Goes (so_far : Option (List Pair)) (ts : List Lexeme) (next : Option (List Pair)) : Type 0 where
+  said : tokens_of so_far ++ filter has_tokens (ts ∷ []) ≡ tokens_of next
+  proper : ArePairs (pairs_of so_far) → ArePairs (pairs_of next)
+
+goes : (so_far : Option (List Pair)) (ts : List Lexeme) (next : Option (List Pair)) → Follows so_far ts next → Goes so_far ts next
+goes so_far [] next follows = subst (Goes so_far []) (sym follows) (record { said = append-nil (tokens_of so_far); proper = λ h. h })
+goes None (t ∷ ts) next follows =
+    subst (Goes None (t ∷ ts)) (sym follows.1) (record { said = ap (λ xs. xs ∷ []) follows.0; proper = λ h. h })
+goes (Some pairs) (t ∷ ts) next (p, (says, fine, is)) =
+    subst (Goes (Some pairs) (t ∷ ts)) (sym is) (record {
+      said = ap (λ xs. (header_tokens ∷ map pair_tokens pairs) ++ xs ∷ []) says.0 ∙ ap (λ xs. header_tokens ∷ xs) (sym (map_push pair_tokens pairs p));
+      proper = λ h. ArePairs-push pairs p h says.1 fine;
+    })
+
+pub give_more : (front : List (List ℕ)) (bytes : List ℕ) (so_far next : Option (List Pair)) → Give front so_far → IsPassed bytes so_far next → Give (front ++ bytes ∷ []) next
+give_more front bytes so_far next g passed =
+    let step = goes so_far passed.tokens next passed.follows in
+    record {
+      tokens = g.tokens ++ passed.tokens ∷ [];
+      lexed = lexed_more front bytes g.tokens passed.tokens g.lexed passed.lexed;
+      said = said_more g.tokens passed.tokens so_far next g.said step.said;
+      proper = step.proper g.proper;
+    }

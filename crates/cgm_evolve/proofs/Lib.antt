@@ -1,0 +1,7 @@
+pub mod Counts
+pub mod Drafts
+pub mod Giving
+pub mod Outcomes
+pub mod Pushing
+pub mod Spelled
+pub mod TextBack

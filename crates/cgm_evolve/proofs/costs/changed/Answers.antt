@@ -1,0 +1,13 @@
+use Rattle.std.proofs.Common.{arith}
+use Rattle.std.proofs.Math.Logic.{∥∥₁_elim}
+use Rattle.std.proofs.Props.{props}
+use Rattle.cgm_model.specs.Model.{lists_of}
+use Rattle.cgm_evolve.specs.Costs.{is_changed}
+use Rattle.cgm_evolve.proofs.Counts.{leaf_tasks_few}
+use Rattle.cgm_evolve.proofs.costs.changed.Goals as goal
+
+pub returns-then-is_empty-clause-few : goal.returns-then-is_empty-clause-few
+returns-then-is_empty-clause-few c =
+    let m = lists_of c.args.m.now in
+    ∥∥₁_elim c.args.m.now.well_formed (hlevel props)
+    (λ w. omega (arith, leaf_tasks_few m (is_changed m c.args.e.now.pairs c.args.a.now) w, c.changed_leaf_tasks.ensures))

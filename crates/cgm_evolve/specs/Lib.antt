@@ -1,0 +1,7 @@
+pub mod Costs
+pub mod Index
+pub mod Leaves
+pub mod Line
+pub mod Pairs
+pub mod Progress
+pub mod Text

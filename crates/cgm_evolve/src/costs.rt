@@ -1,0 +1,173 @@
+ghost use Rattle.std.specs.Prelude.{◌≡◌, ◌≤◌, [], pos, length, count_by};
+ghost use Rattle.std.specs.List.{slice_index_or};
+ghost use Rattle.cgm_base.specs.declared.limit.Which.TheVariants as limits;
+ghost use Rattle.cgm_base.specs.Words.{limit_number};
+ghost use Rattle.cgm_model.specs.Assignment.{Fits};
+ghost use Rattle.cgm_model.specs.Model.{lists_of};
+ghost use Rattle.cgm_model.specs.Named.{element_names};
+ghost use Rattle.cgm_evolve.specs.Costs as costs;
+ghost use Rattle.cgm_evolve.specs.Leaves.{leaf_tasks};
+
+use crate::earlier::Earlier;
+use crate::leaves::is_leaf_task;
+use cgm_model::{Assignment, Model};
+
+/// The number of elements.
+fn element_count(m: &Model) -> u32
+    ensures count { result ≡ length m.now.elements }
+    ensures few { result ≤ limit_number limits.Elements }
+{
+    m.elements.as_slice().len() as u32
+}
+
+/// The name of an element, or an empty one where there is no such element.
+fn element_name(m: &Model, element: u32) -> &[u8]
+    ensures { result.now ≡ slice_index_or (element_names (lists_of m.now)) element [] }
+{
+    match m.elements.as_slice().get(element as usize) {
+        None => b"",
+        Some(e) => e.name.as_slice(),
+    }
+}
+
+fn is_true(a: &Assignment, element: u32) -> bool
+    ensures { result ≡ costs.is_true a.now element }
+{
+    match a.elements.as_slice().get(element as usize) {
+        None => false,
+        Some(truth) => *truth,
+    }
+}
+
+fn earlier_truth(m: &Model, e: &Earlier, element: u32) -> Option<bool>
+    ensures { result ≡ costs.earlier_truth (lists_of m.now) e.now.pairs element }
+{
+    e.truth_of(element_name(m, element))
+}
+
+fn differs(earlier: Option<bool>, truth: bool) -> bool
+    ensures { result ≡ costs.differs earlier truth }
+{
+    match earlier {
+        None => truth,
+        Some(before) => { if before { !truth } else { truth } }
+    }
+}
+
+fn is_changed(m: &Model, e: &Earlier, a: &Assignment, element: u32) -> bool
+    ensures { result ≡ costs.is_changed (lists_of m.now) e.now.pairs a.now element }
+{
+    differs(earlier_truth(m, e, element), is_true(a, element))
+}
+
+fn was_true(earlier: Option<bool>) -> bool
+    ensures { result ≡ costs.was_true earlier }
+{
+    match earlier {
+        None => false,
+        Some(truth) => truth,
+    }
+}
+
+fn is_new_work(m: &Model, e: &Earlier, a: &Assignment, element: u32) -> bool
+    ensures { result ≡ costs.is_new_work (lists_of m.now) e.now.pairs a.now element }
+{
+    is_leaf_task(m, element) && is_true(a, element) && !was_true(earlier_truth(m, e, element))
+}
+
+/// The elements on interest lines.
+fn interests(m: &Model) -> &[u32]
+    ensures items { result.now ≡ m.now.interests }
+    ensures few { length result.now ≤ limit_number limits.Statements }
+{
+    m.interests.as_slice()
+}
+
+/// How many of these elements changed.
+fn changed_among(m: &Model, e: &Earlier, a: &Assignment, elements: &[u32]) -> usize
+    ensures { result ≡ count_by (costs.is_changed (lists_of m.now) e.now.pairs a.now) elements.now }
+{
+    elements
+        .iter()
+        .filter(|element| is_changed(m, e, a, **element))
+        .count()
+}
+
+/// How many leaf tasks changed.
+fn changed_leaf_tasks(m: &Model, e: &Earlier, a: &Assignment) -> usize
+    ensures { result ≡ count_by (costs.is_changed (lists_of m.now) e.now.pairs a.now) (leaf_tasks (lists_of m.now)) }
+{
+    (0..element_count(m))
+        .filter(|element| is_leaf_task(m, *element))
+        .filter(|element| is_changed(m, e, a, *element))
+        .count()
+}
+
+/// How many elements of interest changed.
+fn changed(m: &Model, e: &Earlier, a: &Assignment) -> usize
+    ensures count { result ≡ costs.familiarity (lists_of m.now) e.now.pairs a.now }
+    ensures few { result ≤ limit_number limits.Statements }
+{
+    let interests = interests(m);
+    if interests.is_empty() {
+        return changed_leaf_tasks(m, e, a);
+    }
+    changed_among(m, e, a, interests)
+}
+
+/// How many of these elements are new work.
+fn new_work_among(m: &Model, e: &Earlier, a: &Assignment, elements: &[u32]) -> usize
+    ensures { result ≡ count_by (costs.is_new_work (lists_of m.now) e.now.pairs a.now) elements.now }
+{
+    elements
+        .iter()
+        .filter(|element| is_new_work(m, e, a, **element))
+        .count()
+}
+
+/// How many leaf tasks are new work.
+fn new_work_of_leaf_tasks(m: &Model, e: &Earlier, a: &Assignment) -> usize
+    ensures { result ≡ count_by (costs.is_new_work (lists_of m.now) e.now.pairs a.now) (leaf_tasks (lists_of m.now)) }
+{
+    (0..element_count(m))
+        .filter(|element| is_leaf_task(m, *element))
+        .filter(|element| is_new_work(m, e, a, *element))
+        .count()
+}
+
+/// How many elements of interest are new work.
+fn new_work(m: &Model, e: &Earlier, a: &Assignment) -> usize
+    ensures count { result ≡ costs.effort (lists_of m.now) e.now.pairs a.now }
+    ensures few { result ≤ limit_number limits.Statements }
+{
+    let interests = interests(m);
+    if interests.is_empty() {
+        return new_work_of_leaf_tasks(m, e, a);
+    }
+    new_work_among(m, e, a, interests)
+}
+
+fn number(count: usize) -> i64
+    requires { count ≤ limit_number limits.Statements }
+    ensures { result ≡ pos count }
+{
+    count as i64
+}
+
+/// The familiarity of an assignment that fits: how many elements of interest have another truth than
+/// the earlier one, or aren't known there and are true. It takes no memory.
+pub fn familiarity(m: &Model, e: &Earlier, a: &Assignment) -> i64
+    requires { Fits (lists_of m.now) a.now }
+    ensures { result ≡ pos (costs.familiarity (lists_of m.now) e.now.pairs a.now) }
+{
+    number(changed(m, e, a))
+}
+
+/// The effort of an assignment that fits: how many elements of interest are leaf tasks that are true,
+/// and were false or aren't known in the earlier realization. It takes no memory.
+pub fn effort(m: &Model, e: &Earlier, a: &Assignment) -> i64
+    requires { Fits (lists_of m.now) a.now }
+    ensures { result ≡ pos (costs.effort (lists_of m.now) e.now.pairs a.now) }
+{
+    number(new_work(m, e, a))
+}

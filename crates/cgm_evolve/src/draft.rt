@@ -1,0 +1,176 @@
+ghost use Rattle.std.specs.Prelude.{◌≡◌, ◌≢◌, ◌≤◌, ℕ, List, Option, true, IsTrue, IfOk, IfErr, OnOk, length, map};
+ghost use Rattle.cgm_base.specs.declared.fault.BadKind.TheVariants.{Header};
+ghost use Rattle.cgm_lex.specs.Lexemes.{IsLineStop, line_lexemes, seen};
+ghost use Rattle.cgm_model.specs.Name.{is_spelled};
+ghost use Rattle.cgm_evolve.specs.declared.fault.LineFault.TheVariants.{Bad};
+ghost use Rattle.cgm_evolve.specs.declared.fault.LineStop.TheVariants.{Faulty};
+ghost use Rattle.cgm_evolve.specs.Index.{Indexes};
+ghost use Rattle.cgm_evolve.specs.Line.{AreFaulty, IsFaulty, header_tokens, name_fault};
+ghost use Rattle.cgm_evolve.specs.Pairs.{Pair};
+ghost use Rattle.cgm_evolve.specs.Progress.{Follows, IsDraft, IsFinished, IsFinishStop, IsKept, IsPairAdded, IsPairStop, IsPassed, IsPut, IsStep, IsStop, IsStopAfter};
+
+use crate::earlier::Earlier;
+use crate::fault::{LineFault, LineStop};
+use crate::form::{is_end, is_header, pair_of};
+use crate::index::Index;
+use crate::reader::EarlierStop;
+use cgm_base::{BadKind, Which, limits};
+use cgm_formula::{Name, OutOfMemory, Parts};
+use cgm_lex::{LexFault, LexStop, Token, tokens_of_line};
+use std::alloc::Global;
+
+/// What the lines so far give.
+#[derive(Drop)]
+pub(crate) struct Draft {
+    has_header: bool,
+    pairs: Vec<(Name, bool)>,
+    index: Index,
+}
+
+fn lex_stop(stop: LexStop) -> LineStop
+    ensures { (number : ℕ) (line : List ℕ) → IsLineStop number line stop → (so_far : Option (List Pair)) → IsStop (IsFaulty so_far (line_lexemes line)) result }
+{
+    match stop {
+        LexStop::Fault(LexFault::BadByte { line: _ }) => LineStop::Faulty(LineFault::Bad(
+            BadKind::BadByte,
+        )),
+        LexStop::Fault(LexFault::BadNumber { line: _ }) => LineStop::Faulty(LineFault::Bad(
+            BadKind::BadNumber,
+        )),
+        LexStop::Memory => LineStop::Memory,
+    }
+}
+
+/// The name with these bytes.
+fn name_of(alloc: Global, bytes: &[u8]) -> Result<Name, OutOfMemory>
+    requires { IsTrue (is_spelled bytes.now) }
+    ensures { IfOk result (λ name. name ≡ bytes.now) }
+{
+    Ok(Name::of(String::from_utf8_lossy(alloc, bytes)?))
+}
+
+/// What is wrong with a name after those of this index, if anything is.
+fn name_fault(index: &Index, name: &[u8]) -> Option<LineFault>
+    ensures { (pairs : List Pair) → Indexes pairs index.now → result ≡ name_fault pairs name.now }
+{
+    if name.len() > limits::NAME_BYTES as usize {
+        return Some(LineFault::Limit(Which::NameBytes));
+    }
+    if index.get(name).is_some() {
+        return Some(LineFault::Bad(BadKind::DoubleName));
+    }
+    None
+}
+
+impl Draft {
+    /// The draft before the first line.
+    pub(crate) fn new(alloc: Global) -> Draft
+        ensures { IsDraft None result }
+    {
+        Draft {
+            has_header: false,
+            pairs: Vec::new(alloc),
+            index: Index::new(alloc),
+        }
+    }
+
+    /// Adds a pair.
+    fn put(&mut self, alloc: Global, name: &[u8], truth: bool) -> Result<(), OutOfMemory>
+        requires { IsTrue (is_spelled name.now) }
+        ensures { OnOk result (IsPut (name.now, truth) self.old self.new) }
+    {
+        let kept = name_of(alloc, name)?;
+        self.index.set(alloc, name, truth)?;
+        match self.pairs.push((kept, truth)) {
+            Ok(()) => Ok(()),
+            Err(_) => Err(OutOfMemory),
+        }
+    }
+
+    /// Adds the pair that a line's tokens say.
+    fn add_pair(&mut self, alloc: Global, line: &[u8], tokens: &[Token]) -> Result<(), LineStop>
+        ensures added { OnOk result (IsPairAdded (map (seen line.now) tokens.now) self.old self.new) }
+        ensures stop { IfErr result (IsPairStop (map (seen line.now) tokens.now) self.old.index) }
+    {
+        match pair_of(line, tokens) {
+            None => Err(LineStop::Faulty(LineFault::Bad(BadKind::Form))),
+            Some((name, truth)) => match name_fault(&self.index, name) {
+                Some(fault) => Err(LineStop::Faulty(fault)),
+                None => match self.put(alloc, name, truth) {
+                    Ok(()) => Ok(()),
+                    Err(_) => Err(LineStop::Memory),
+                },
+            },
+        }
+    }
+
+    /// Takes the first tokens of the text, which are to be the header.
+    fn begin(&mut self, line: &[u8], tokens: &[Token]) -> Result<(), LineStop>
+        ensures begun { OnOk result (map (seen line.now) tokens.now ≡ header_tokens) }
+        ensures header { OnOk result (self.new.has_header ≡ true) }
+        ensures pairs { self.new.pairs.items ≡ self.old.pairs.items }
+        ensures index { self.new.index ≡ self.old.index }
+        ensures stop { IfErr result (λ stop. (map (seen line.now) tokens.now ≢ header_tokens) × (stop ≡ Faulty (Bad Header))) }
+    {
+        if !is_header(line, tokens) {
+            return Err(LineStop::Faulty(LineFault::Bad(BadKind::Header)));
+        }
+        self.has_header = true;
+        Ok(())
+    }
+
+    /// Adds what a line's tokens say.
+    fn add_tokens(&mut self, alloc: Global, line: &[u8], tokens: &[Token]) -> Result<(), LineStop>
+        ensures step { OnOk result (IsStep (λ so_far next. Follows so_far (map (seen line.now) tokens.now) next) self.old self.new) }
+        ensures stop { IfErr result (IsStopAfter (λ so_far. AreFaulty so_far (map (seen line.now) tokens.now)) self.old) }
+    {
+        if is_end(tokens) {
+            return Ok(());
+        }
+        if self.has_header {
+            self.add_pair(alloc, line, tokens)
+        } else {
+            self.begin(line, tokens)
+        }
+    }
+
+    /// Adds what a line says.
+    pub(crate) fn add_line(
+        &mut self,
+        alloc: Global,
+        line: &[u8],
+        number: u32,
+    ) -> Result<(), LineStop>
+        requires { length line.now ≤ 16777216 }
+        ensures step { OnOk result (IsStep (IsPassed line.now) self.old self.new) }
+        ensures stop { IfErr result (IsStopAfter (λ so_far. IsFaulty so_far (line_lexemes line.now)) self.old) }
+    {
+        match tokens_of_line(alloc, line, number) {
+            Ok(tokens) => self.add_tokens(alloc, line, tokens.as_slice()),
+            Err(stop) => Err(lex_stop(stop)),
+        }
+    }
+
+    /// The earlier realization of the lines so far; there is none before the header.
+    pub(crate) fn finish(self) -> Result<Earlier, EarlierStop>
+        requires { IsKept self }
+        ensures finished { IfOk result (λ e. IsFinished self e.pairs) }
+        ensures stop { IfErr result (IsFinishStop self) }
+    {
+        if !self.has_header {
+            return Err(EarlierStop::Bad {
+                line: 1,
+                kind: BadKind::Header,
+            });
+        }
+        let Draft {
+            has_header: _,
+            pairs,
+            index,
+        } = self;
+        Ok(Earlier {
+            pairs: Parts::of(pairs),
+            index,
+        })
+    }
+}

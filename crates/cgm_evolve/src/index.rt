@@ -1,0 +1,39 @@
+ghost use Rattle.std.specs.Prelude.{◌≡◌, List, ℕ, OnOk, if◌then◌else◌};
+ghost use Rattle.std.specs.Str.{bytes_eq};
+ghost use Rattle.cgm_evolve.specs.Index.{found};
+
+use cgm_formula::OutOfMemory;
+use indexmap::IndexMap;
+use std::alloc::Global;
+
+/// The truth of each name.
+#[derive(Debug, Drop)]
+pub(crate) struct Index {
+    entries: IndexMap<Vec<u8>, bool>,
+}
+
+impl Index {
+    /// The index of no names.
+    pub(crate) fn new(alloc: Global) -> Index
+        ensures { (name : List ℕ) → found result name ≡ None }
+    {
+        Index {
+            entries: IndexMap::new(alloc),
+        }
+    }
+
+    pub(crate) fn get(&self, name: &[u8]) -> Option<bool>
+        ensures { result ≡ found self.now name.now }
+    {
+        self.entries.get(name).copied()
+    }
+
+    /// Says the name's truth, whatever it was before.
+    pub(crate) fn set(&mut self, alloc: Global, name: &[u8], truth: bool) -> Result<(), OutOfMemory>
+        ensures { OnOk result ((q : List ℕ) → found self.new q ≡ (if bytes_eq q name.now then Some truth else found self.old q)) }
+    {
+        let key = Vec::from_slice(alloc, name)?;
+        self.entries.insert(key, truth)?;
+        Ok(())
+    }
+}

@@ -1,0 +1,29 @@
+ghost use Rattle.std.specs.Prelude.{◌≡◌, ℕ, List};
+ghost use Rattle.cgm_evolve.specs.declared.fault.LineFault.{LineFault};
+ghost use Rattle.cgm_evolve.specs.Pairs.{ArePairs, Pair};
+ghost use Rattle.cgm_evolve.specs.Text.{HasFault, IsTextOf, canonical_text};
+
+/// The law that an earlier text has pairs or a first fault: never both, and never neither.
+pub fn earlier_text_has_pairs_or_fault()
+    ensures one { (text : List ℕ) (pairs : List Pair) (line : ℕ) (fault : LineFault)
+        → IsTextOf text pairs → ¬ HasFault text line fault }
+    ensures some { (text : List ℕ) → ((pairs : List Pair) → ¬ IsTextOf text pairs)
+        → ¬ ((line : ℕ) (fault : LineFault) → ¬ HasFault text line fault) }
+{}
+
+/// The law that an earlier text has one list of pairs at most.
+pub fn earlier_text_has_one_list()
+    ensures { (text : List ℕ) (one other : List Pair) → IsTextOf text one → IsTextOf text other → one ≡ other }
+{}
+
+/// The law that an earlier text has one first fault at most: its line, and its kind or limit.
+pub fn earlier_text_has_one_fault()
+    ensures { (text : List ℕ) (line other : ℕ) (fault other_fault : LineFault)
+        → HasFault text line fault → HasFault text other other_fault
+        → (line ≡ other) × (fault ≡ other_fault) }
+{}
+
+/// The law that the canonical text of pairs is a text of these pairs.
+pub fn canonical_earlier_text_is_read_back()
+    ensures { (pairs : List Pair) → ArePairs pairs → IsTextOf (canonical_text pairs) pairs }
+{}

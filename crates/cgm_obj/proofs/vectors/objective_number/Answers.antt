@@ -1,0 +1,17 @@
+use Rattle.std.proofs.Common.{◌≤◌, ℤ, sym, subst, arith}
+use Rattle.std.specs.Prelude.{unsigned_abs}
+use Rattle.std.proofs.Math.Logic.{∥∥₁_elim}
+use Rattle.std.proofs.Props.{props}
+use Rattle.std.proofs.lemmas.Int.{ints}
+use Rattle.cgm_model.specs.Model.{lists_of}
+use Rattle.cgm_obj.proofs.Sizes.{quantity_size}
+use Rattle.cgm_obj.proofs.vectors.objective_number.Goals as goal
+
+pub negated-requires : goal.negated-requires
+negated-requires c =
+    let m = lists_of c.args.m.now in
+    ∥∥₁_elim c.args.m.now.well_formed (hlevel props)
+    (λ w.
+    let small = quantity_size m w c.args.e.now.pairs c.args.a.now c.requires.fits c.args.o.of in
+    let here : unsigned_abs c.quantity-number.result ≤ 1000000000000 = subst (λ (x : ℤ). unsigned_abs x ≤ 1000000000000) (sym c.quantity-number.ensures.value) small in
+    omega (arith, ints, here))

@@ -1,0 +1,4 @@
+pub mod Counts
+pub mod Least
+pub mod Order
+pub mod Vector

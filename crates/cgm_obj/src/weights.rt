@@ -1,0 +1,73 @@
+ghost use Rattle.std.specs.Prelude.{◌≡◌, ◌+◌, ◌*◌, ◌^◌, ◌<◌, ◌≤◌, ◌+ℤ◌, ◌-ℤ◌, All, length, unsigned_abs};
+ghost use Rattle.cgm_base.specs.declared.limit.Which.TheVariants as limits;
+ghost use Rattle.cgm_base.specs.Words.{limit_number};
+ghost use Rattle.cgm_model.specs.Model.{lists_of};
+ghost use Rattle.cgm_model.specs.Sums as sums;
+
+use crate::counts::is_true;
+use cgm_model::{Assignment, Model, Weighing};
+
+fn plus(x: i64, y: i64) -> i64
+    requires { unsigned_abs x + unsigned_abs y < 2 ^ 63 }
+    ensures { result ≡ x +ℤ y }
+{
+    x + y
+}
+
+fn minus(x: i64, y: i64) -> i64
+    requires { unsigned_abs x + unsigned_abs y < 2 ^ 63 }
+    ensures { result ≡ x -ℤ y }
+{
+    x - y
+}
+
+/// The number of the line, where its element is true; else 0.
+fn number_for(a: &Assignment, w: &Weighing) -> i64
+    requires { unsigned_abs w.now.k ≤ limit_number limits.Coefficient }
+    ensures number { result ≡ sums.weight_for a.now w.now }
+    ensures small { unsigned_abs result ≤ limit_number limits.Coefficient }
+{
+    if is_true(a, w.element) {
+        return w.k;
+    }
+    0
+}
+
+/// The numbers of these lines whose elements are true, added up.
+fn total(a: &Assignment, lines: &[Weighing]) -> i64
+    requires small { All (λ w. unsigned_abs w.k ≤ limit_number limits.Coefficient) lines.now }
+    requires few { length lines.now ≤ limit_number limits.Statements }
+    ensures total { result ≡ sums.total_by (sums.weight_for a.now) lines.now }
+    ensures small { unsigned_abs result ≤ 1000000000000 }
+{
+    let mut total = 0;
+    for line in lines {
+        total = plus(total, number_for(a, line));
+    }
+    total
+}
+
+fn penalties(m: &Model) -> &[Weighing]
+    ensures items { result.now ≡ m.now.penalties }
+    ensures small { All (λ w. unsigned_abs w.k ≤ limit_number limits.Coefficient) result.now }
+    ensures few { length result.now ≤ limit_number limits.Statements }
+{
+    m.penalties.as_slice()
+}
+
+fn rewards(m: &Model) -> &[Weighing]
+    ensures items { result.now ≡ m.now.rewards }
+    ensures small { All (λ w. unsigned_abs w.k ≤ limit_number limits.Coefficient) result.now }
+    ensures few { length result.now ≤ limit_number limits.Statements }
+{
+    m.rewards.as_slice()
+}
+
+/// The penalties of true elements minus the rewards of true elements.
+pub(crate) fn weight(m: &Model, a: &Assignment) -> i64
+    ensures { result ≡ sums.weight (lists_of m.now) a.now }
+{
+    let penalty = total(a, penalties(m));
+    let reward = total(a, rewards(m));
+    minus(penalty, reward)
+}

@@ -3,6 +3,7 @@
 
 mod command;
 mod file;
+mod found;
 mod numbers;
 mod options;
 mod print;

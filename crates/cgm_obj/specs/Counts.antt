@@ -1,5 +1,5 @@
 -- Preferences and requirements that aren't met, and leaf tasks that are true.
-use Rattle.std.specs.Prelude.{ℕ, ◌==◌, Bool, true, false, ◌&&◌, ◌||◌, not, List, Option, None, Some, count_by, slice_get}
+use Rattle.std.specs.Prelude.{ℕ, ◌==◌, Bool, true, false, ◌&&◌, ◌||◌, not, Option, None, Some, count_by, slice_get}
 use Rattle.std.specs.List.{list_any}
 use Rattle.cgm_formula.specs.declared.assignment.Assignment.{Assignment}
 use Rattle.cgm_formula.specs.Reading.{name_in}
@@ -19,9 +19,13 @@ is_met a p = name_in a p.better || not (name_in a p.worse)
 abbrev pub unsat_prefs : Lists → Assignment → ℕ
 unsat_prefs m a = count_by (λ p. not (is_met a p)) m.prefers
 
+-- the element is a source of a refinement
+abbrev pub is_source : Lists → ℕ → Bool
+is_source m element = list_any (λ r. list_any (λ source. source == element) r.sources) m.refinements
+
 -- the element is a source of no refinement
 abbrev pub is_root : Lists → ℕ → Bool
-is_root m element = not (list_any (λ r. list_any (λ source. source == element) r.sources) m.refinements)
+is_root m element = not (is_source m element)
 
 abbrev pub is_goal : ElementKind → Bool
 is_goal kinds.Goal = true

@@ -1,5 +1,5 @@
 -- The quantities of a model under an assignment, and its vector: one number for each objective, in order.
-use Rattle.std.specs.Prelude.{ℕ, ℤ, pos, neg_ℤ, List, map, slice_index_or, if◌then◌else◌}
+use Rattle.std.specs.Prelude.{ℤ, pos, neg_ℤ, List, map, slice_index_or, if◌then◌else◌}
 use Rattle.cgm_formula.specs.declared.assignment.Assignment.{Assignment}
 use Rattle.cgm_model.specs.declared.lists.Lists.{Lists}
 use Rattle.cgm_model.specs.declared.lists.Objective.{Objective}

@@ -1,5 +1,4 @@
-ghost use Rattle.std.specs.Prelude.{◌≡◌, ◌==◌, ◌&&◌, ◌≤◌, not, false, pos, count_by, length, slice_get, slice_index_or};
-ghost use Rattle.std.specs.List.{list_any};
+ghost use Rattle.std.specs.Prelude.{◌≡◌, ◌&&◌, ℕ, IfOk, ◌≤◌, not, false, pos, count_by, length, slice_get, slice_index_or};
 ghost use Rattle.cgm_base.specs.declared.limit.Which.TheVariants as limits;
 ghost use Rattle.cgm_base.specs.Words.{limit_number};
 ghost use Rattle.cgm_formula.specs.Reading.{name_in};
@@ -7,8 +6,10 @@ ghost use Rattle.cgm_model.specs.Model.{lists_of};
 ghost use Rattle.cgm_evolve.specs.Costs as costs;
 ghost use Rattle.cgm_obj.specs.Counts as counts;
 
+use crate::sources::source_marks;
 use cgm_evolve::is_leaf_task;
-use cgm_model::{Assignment, ElementKind, Model, Preference, Refinement, Truth};
+use cgm_model::{Assignment, ElementKind, Model, Preference, Truth};
+use std::alloc::{AllocError, Global};
 
 /// Says whether the element is true; what isn't there is false, here and below.
 pub(crate) fn is_true(a: &Assignment, element: u32) -> bool
@@ -71,26 +72,6 @@ pub(crate) fn unsat_prefs(m: &Model, a: &Assignment) -> i64
     number(unmet_among(a, prefers(m)))
 }
 
-fn is_among(element: u32, sources: &[u32]) -> bool
-    ensures { result ≡ list_any (λ source. source == element) sources.now }
-{
-    sources.iter().any(|source| *source == element)
-}
-
-fn is_source(element: u32, refinements: &[Refinement]) -> bool
-    ensures { result ≡ list_any (λ r. list_any (λ source. source == element) r.sources) refinements.now }
-{
-    refinements
-        .iter()
-        .any(|r| is_among(element, r.sources.as_slice()))
-}
-
-fn is_root(m: &Model, element: u32) -> bool
-    ensures { result ≡ counts.is_root (lists_of m.now) element }
-{
-    !is_source(element, m.refinements.as_slice())
-}
-
 fn is_goal(kind: ElementKind) -> bool
     ensures { result ≡ counts.is_goal kind }
 {
@@ -110,11 +91,22 @@ fn is_free_goal(m: &Model, element: u32) -> bool
     }
 }
 
+/// The mark at an element's number; false past the end.
+fn is_marked(marks: &[bool], element: u32) -> bool
+    ensures { result ≡ slice_index_or marks.now element false }
+{
+    match marks.get(element as usize) {
+        None => false,
+        Some(mark) => *mark,
+    }
+}
+
 /// Says whether the element is a false requirement without `must`.
-fn is_unmet_requirement(m: &Model, a: &Assignment, element: u32) -> bool
+fn is_unmet_requirement(m: &Model, a: &Assignment, sources: &[bool], element: u32) -> bool
+    requires { (k : ℕ) → slice_index_or sources.now k false ≡ counts.is_source (lists_of m.now) k }
     ensures { result ≡ (counts.is_free_requirement (lists_of m.now) element && not (costs.is_true a.now element)) }
 {
-    is_free_goal(m, element) && !is_true(a, element) && is_root(m, element)
+    is_free_goal(m, element) && !is_marked(sources, element) && !is_true(a, element)
 }
 
 fn element_count(m: &Model) -> u32
@@ -123,20 +115,22 @@ fn element_count(m: &Model) -> u32
     m.elements.as_slice().len() as u32
 }
 
-fn unmet_requirements(m: &Model, a: &Assignment) -> usize
+fn unmet_requirements(m: &Model, a: &Assignment, sources: &[bool]) -> usize
+    requires { (k : ℕ) → slice_index_or sources.now k false ≡ counts.is_source (lists_of m.now) k }
     ensures count { result ≡ counts.unsat_reqs (lists_of m.now) a.now }
     ensures few { result ≤ limit_number limits.Statements }
 {
     (0..element_count(m))
-        .filter(|element| is_unmet_requirement(m, a, *element))
+        .filter(|element| is_unmet_requirement(m, a, sources, *element))
         .count()
 }
 
 /// How many requirements without `must` are false.
-pub(crate) fn unsat_reqs(m: &Model, a: &Assignment) -> i64
-    ensures { result ≡ pos (counts.unsat_reqs (lists_of m.now) a.now) }
+pub(crate) fn unsat_reqs(alloc: Global, m: &Model, a: &Assignment) -> Result<i64, AllocError>
+    ensures { IfOk result (λ number. number ≡ pos (counts.unsat_reqs (lists_of m.now) a.now)) }
 {
-    number(unmet_requirements(m, a))
+    let sources = source_marks(alloc, m)?;
+    Ok(number(unmet_requirements(m, a, sources.as_slice())))
 }
 
 fn true_leaf_tasks(m: &Model, a: &Assignment) -> usize

@@ -5,6 +5,7 @@ mod counts;
 mod laws;
 mod order;
 mod quantities;
+mod sources;
 mod vectors;
 mod weights;
 

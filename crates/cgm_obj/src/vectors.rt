@@ -1,4 +1,4 @@
-ghost use Rattle.std.specs.Prelude.{◌≡◌, ◌<◌, ◌^◌, ◌≤◌, unsigned_abs, neg_ℤ, IfOk};
+ghost use Rattle.std.specs.Prelude.{◌≡◌, ◌≤◌, unsigned_abs, neg_ℤ, IfOk};
 ghost use Rattle.cgm_model.specs.Assignment.{Fits};
 ghost use Rattle.cgm_model.specs.Model.{lists_of};
 ghost use Rattle.cgm_model.specs.Sums.{sums_of};
@@ -18,21 +18,22 @@ fn negated(x: i64) -> i64
 
 /// The number of an objective in the vector.
 fn objective_number(
+    alloc: Global,
     m: &Model,
     e: &Earlier,
     a: &Assignment,
     sums: &[i64],
     o: Objective,
-) -> i64
+) -> Result<i64, AllocError>
     requires fits { Fits (lists_of m.now) a.now }
     requires sums { sums.now ≡ sums_of (lists_of m.now) a.now }
-    ensures { result ≡ number_of_objective (lists_of m.now) e.now.pairs a.now o }
+    ensures { IfOk result (λ number. number ≡ number_of_objective (lists_of m.now) e.now.pairs a.now o) }
 {
-    let number = quantity(m, e, a, sums, o.of);
+    let number = quantity(alloc, m, e, a, sums, o.of)?;
     if o.max {
-        return negated(number);
+        return Ok(negated(number));
     }
-    number
+    Ok(number)
 }
 
 /// The vector of an assignment: one number for each objective, in order, the quantity for `min` and
@@ -51,7 +52,7 @@ pub fn vector(
 {
     let mut numbers = Vec::new(alloc);
     for o in m.objectives.as_slice() {
-        numbers.push(objective_number(m, e, a, sums, *o))?;
+        numbers.push(objective_number(alloc, m, e, a, sums, *o)?)?;
     }
     Ok(numbers)
 }

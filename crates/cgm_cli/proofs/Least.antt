@@ -1,5 +1,5 @@
 -- Least realizations among some assignments: of two parts together, and of a smaller part.
-use Rattle.std.proofs.Common.{◌≡◌, ◌⊎◌, List, [], ◌∷◌, length, map, ℤ, Option, Some, None, Result, Ok, Err, IfOk, IfSome, IsSomeAnd, refl, sym, ap, ◌∙◌, subst, inl, inr}
+use Rattle.std.proofs.Common.{◌≡◌, ◌⊎◌, List, [], length, ℤ, Option, Some, None, Result, Ok, Err, IfOk, IfSome, IsSomeAnd, refl, sym, ap, ◌∙◌, subst, inl, inr}
 use Rattle.std.specs.declared.alloc.AllocError.{AllocError}
 use Rattle.std.proofs.lemmas.List.{length-map}
 use Rattle.cgm_formula.specs.declared.assignment.Assignment.{Assignment}
@@ -9,7 +9,7 @@ use Rattle.cgm_obj.specs.Order.{IsLess}
 use Rattle.cgm_obj.specs.Vector.{objective_number, vector_of}
 use Rattle.cgm_cli.specs.declared.found.Found.{Found}
 use Rattle.cgm_obj.specs.Least.{Realizes}
-use Rattle.cgm_cli.specs.Search.{IsFound, IsLeastAmong, IsLesserOf}
+use Rattle.cgm_cli.specs.Search.{BeginsWith, IsFound, IsLeastAmong, IsLeastOf, IsLesserOf}
 use Rattle.cgm_cli.proofs.Order.{between, irreflexive, nothing_below_empty, transitive}
 
 -- every vector has a number for each objective
@@ -90,3 +90,18 @@ pub comparable : (P Q : Assignment → Type 0) (m : Lists) (pairs : List Pair) (
 comparable P Q m pairs None y one other = tt
 comparable P Q m pairs (Some f) None one other = tt
 comparable P Q m pairs (Some f) (Some g) one other = same_length P Q m pairs f g one other
+
+-- every assignment begins with no truth value at all
+pub least_of_all : (m : Lists) (pairs : List Pair) (x : Option Found) → IsLeastAmong (BeginsWith []) m pairs x → IsLeastOf m pairs x
+least_of_all m pairs None least = λ a realizes. least a refl realizes
+least_of_all m pairs (Some f) least = (
+  least.0,
+  record {
+    realizes = least.0.realizes;
+    least = λ b realizes less. least.1 b refl realizes (subst (λ v. IsLess (vector_of m pairs b) v) (sym least.0.vector_is) less);
+  },
+)
+
+pub ok_least_of_all : (m : Lists) (pairs : List Pair) (r : Result (Option Found) AllocError) → IfOk r (λ x. IsLeastAmong (BeginsWith []) m pairs x) → IfOk r (λ x. IsLeastOf m pairs x)
+ok_least_of_all m pairs (Ok x) least = least_of_all m pairs x least
+ok_least_of_all m pairs (Err e) least = tt

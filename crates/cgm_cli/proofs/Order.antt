@@ -1,5 +1,5 @@
 -- The lexicographic order is strict, and of any three vectors the middle one is on one side or the other.
-use Rattle.std.proofs.Common.{◌≡◌, ◌⊎◌, List, [], ◌∷◌, length, ℤ, ◌<ℤ◌, refl, ap, ◌∙◌, sym, inl, inr, arith, subst}
+use Rattle.std.proofs.Common.{◌≡◌, ◌⊎◌, List, [], ◌∷◌, length, ℤ, ◌<ℤ◌, ◌∙◌, sym, inl, inr, arith, subst}
 use Rattle.std.proofs.lemmas.Int.{by_lt_z, ints}
 use Rattle.cgm_obj.specs.Order.{IsLess}
 

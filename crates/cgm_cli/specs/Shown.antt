@@ -12,11 +12,14 @@ use Rattle.cgm_cli.specs.Report.{line, number_line, objective_word, element_line
 abbrev pub shown : Bool → ℤ → ℤ
 shown max number = if max then neg_ℤ number else number
 
+-- the line of an objective with its number in a vector
+unfoldable pub shown_line : Lists → Objective → ℤ → List ℕ
+shown_line m o number = number_line (objective_word o.max) (quantity_name m o.of) (shown o.max number)
+
 abbrev pub vector_lines : Lists → List Objective → List ℤ → List ℕ
 vector_lines m [] vector = []
 vector_lines m (o ∷ objectives) [] = []
-vector_lines m (o ∷ objectives) (number ∷ vector) =
-    number_line (objective_word o.max) (quantity_name m o.of) (shown o.max number) ++ vector_lines m objectives vector
+vector_lines m (o ∷ objectives) (number ∷ vector) = shown_line m o number ++ vector_lines m objectives vector
 
 abbrev pub shown_lines : Lists → List ℤ → Assignment → List ℕ
 shown_lines m vector a =

@@ -1,10 +1,9 @@
 ghost use Rattle.std.specs.Prelude.{◌≡◌, ◌++◌, length, OnOk, IfOk};
-ghost use Rattle.std.specs.List.{slice_index_or};
 ghost use Rattle.cgm_model.specs.Assignment.{Fits};
 ghost use Rattle.cgm_model.specs.Model.{lists_of};
 ghost use Rattle.cgm_text.specs.Canonical.{quantity_name, sum_name, variable_name};
 ghost use Rattle.cgm_cli.specs.Report.{element_word, truth_word, objective_word, found_line, number_line, element_lines, refinement_lines, variable_lines, sum_lines};
-ghost use Rattle.cgm_cli.specs.Shown.{shown, vector_lines, shown_report};
+ghost use Rattle.cgm_cli.specs.Shown.{shown, shown_line, shown_report, vector_lines};
 
 use crate::found::Found;
 use cgm_model::{
@@ -179,6 +178,22 @@ fn shown(max: bool, number: i64) -> i128
     if max { -number } else { number }
 }
 
+/// Adds the line of an objective with its number in a vector.
+fn push_objective(
+    alloc: Global,
+    report: &mut Vec<u8>,
+    m: &Model,
+    objective: &Objective,
+    number: i64,
+) -> Result<(), AllocError>
+    ensures { OnOk result (report.new.items ≡ report.old.items ++ shown_line (lists_of m.now)
+        objective.now number) }
+{
+    let word = objective_word(objective.max);
+    let name = quantity_name(m, objective.of);
+    push_number(alloc, report, word, name, shown(objective.max, number))
+}
+
 fn push_objectives(
     alloc: Global,
     report: &mut Vec<u8>,
@@ -191,9 +206,7 @@ fn push_objectives(
         objectives.now vector.now) }
 {
     for (at, objective) in objectives.iter().enumerate() {
-        let number = shown(objective.max, vector[at]);
-        let name = quantity_name(m, objective.of);
-        push_number(alloc, report, objective_word(objective.max), name, number)?;
+        push_objective(alloc, report, m, objective, vector[at])?;
     }
     Ok(())
 }

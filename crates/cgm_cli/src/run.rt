@@ -77,7 +77,7 @@ fn solve_file<F: Shelf, O: Sink>(
     shelf: &mut F,
     out: &mut O,
 ) -> Status
-    ensures outcome { HasFileOutcome (HasEarlierOutcome (option_map (λ file. file.now) earlier)
+    ensures outcome { HasFileOutcome (HasEarlierOutcome (option_map (λ file. file.now) earlier.entry)
         (shelving (F.files shelf.old) (F.read_faults shelf.old) (F.read_faults shelf.new)))
         name.now
         (shelving (F.files shelf.old) (F.read_faults shelf.old) (F.read_faults shelf.new))
@@ -100,7 +100,7 @@ fn solve_with<F: Shelf, O: Sink>(
     shelf: &mut F,
     out: &mut O,
 ) -> Status
-    ensures outcome { HasEarlierOutcome (option_map (λ file. file.now) earlier)
+    ensures outcome { HasEarlierOutcome (option_map (λ file. file.now) earlier.entry)
         (shelving (F.files shelf.old) (F.read_faults shelf.old) (F.read_faults shelf.new))
         (lists_of m.now)
         (printing (O.written out.old) (O.written out.new) (O.faults out.old) (O.faults out.new))

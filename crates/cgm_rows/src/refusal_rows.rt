@@ -164,12 +164,6 @@ fn cycle(rt: HostRuntime) -> Result<(), Fail> {
 }
 
 #[test]
-fn sum_not_yet(rt: HostRuntime) -> Result<(), Fail> {
-    let rows = [("cgm 1\nsum cost\n", "fault text 2 not-yet\n")];
-    all_tell(&rt, rt.alloc(), Status::Text, &rows)
-}
-
-#[test]
 fn number_past_64_bits(rt: HostRuntime) -> Result<(), Fail> {
     let rows = [(
         "cgm 1\nvar x 0 9223372036854775808\n",
@@ -194,7 +188,10 @@ fn word_of_each_kind(rt: HostRuntime) -> Result<(), Fail> {
         ("cgm 1\ntask 1T\n", "fault text 2 bad-number\n"),
         ("\ntask T\n", "fault text 2 header\n"),
         ("cgm 1\nfly T\n", "fault text 2 statement\n"),
-        ("cgm 1\n\nobjective min T\n", "fault text 3 not-yet\n"),
+        (
+            "cgm 1\n\nobjective min T\n",
+            "fault text 3 unknown-name\n",
+        ),
         ("cgm 1\ntask T U\n", "fault text 2 form\n"),
         ("cgm 1\nassert T true\n", "fault text 2 unknown-name\n"),
         (
@@ -211,6 +208,10 @@ fn word_of_each_kind(rt: HostRuntime) -> Result<(), Fail> {
         (
             "cgm 1\nvar X 0 1\nrequire (<= (+ X X) 1)\n",
             "fault text 3 double-term\n",
+        ),
+        (
+            "cgm 1\ntask T\ninterest T\ninterest T\n",
+            "fault text 4 double-interest\n",
         ),
         (
             "cgm 1\ngoal G\ntask T\nrefine R T : G\n",

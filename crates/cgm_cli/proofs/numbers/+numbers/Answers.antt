@@ -1,4 +1,4 @@
-use Rattle.std.proofs.Common.{rules, refl, ◌≡◌, ◌++◌, ◌∷◌, [], length, ◌<◌, get_or, subst, sym, ap, ◌∙◌, arith, ◌+ℤ◌, pos, w64, to_z, of_z, FitsSigned, None}
+use Rattle.std.proofs.Common.{rules, refl, ◌≡◌, ◌++◌, ◌∷◌, [], length, ◌<◌, get_or, subst, sym, ap, ◌∙◌, arith, ◌+ℤ◌, pos, w64, to_z, of_z, FitsSigned}
 use Rattle.std.proofs.lemmas.Grind.{common_steps}
 use Rattle.std.proofs.lemmas.Int.{ints}
 use Rattle.cgm_model.specs.Model.{lists_of}

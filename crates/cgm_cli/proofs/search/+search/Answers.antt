@@ -1,4 +1,4 @@
-use Rattle.std.proofs.Common.{◌+◌, ◌≤◌, ◌≡◌, [], ◌∷◌, ◌++◌, length, true, false, refl, subst, arith, rules}
+use Rattle.std.proofs.Common.{◌+◌, ◌≤◌, [], ◌∷◌, ◌++◌, length, true, false, refl, subst, arith, rules}
 use Rattle.std.proofs.lemmas.Grind.{common_steps}
 use Rattle.cgm_model.specs.Model.{lists_of}
 use Rattle.cgm_cli.specs.Search.{BeginsWith, IsLeastAmong, truth_count}

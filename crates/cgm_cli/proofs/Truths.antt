@@ -1,12 +1,13 @@
--- Assignments by their truth values, and the realizations that begin with some of them.
-use Rattle.std.proofs.Common.{◌≡◌, ◌+◌, ◌<◌, ◌≤◌, Bool, true, false, List, [], ◌∷◌, ◌++◌, length, get_or, take, Option, None, Some, refl, ap, ◌∙◌, arith, Result, Ok, Err, IfOk, IfNone}
-use Rattle.std.specs.declared.alloc.AllocError.{AllocError}
+-- Assignments by their truth values: with a further truth value they are of two parts.
+use Rattle.std.proofs.Common.{◌≡◌, ◌+◌, ◌<◌, ◌≤◌, ◌⊎◌, Bool, true, false, List, [], ◌∷◌, ◌++◌, length, get_or, take, refl, sym, ap, ◌∙◌, inl, inr, arith}
+use Rattle.std.proofs.Math.Seq.{take-length}
 use Rattle.std.proofs.lemmas.List.{length-append, take_more}
 use Rattle.cgm_formula.specs.declared.assignment.Assignment.{Assignment}
 use Rattle.cgm_model.specs.Assignment.{Fits}
 use Rattle.cgm_model.specs.declared.lists.Lists.{Lists}
-use Rattle.cgm_model.specs.Realization.{IsRealization}
-use Rattle.cgm_cli.specs.Search.{truth_count, truths_of, NoneBeginsWith}
+use Rattle.cgm_obj.specs.Least.{Realizes}
+use Rattle.cgm_cli.specs.Search.{truth_count, truths_of, BeginsWith, Continues}
+use Rattle.cgm_cli.proofs.Least.{Splits}
 
 count_is : (m : Lists) (a : Assignment) → Fits m a → length (truths_of a) ≡ truth_count m
 count_is m a fits = omega (arith, length-append a.elements a.refinements, fits.elements, fits.refinements)
@@ -19,19 +20,17 @@ next_begins truths more next within begins e =
     ∙ ap (λ last. truths ++ last ∷ []) e
     )
 
-none_with_next : (m : Lists) (truths : List Bool) → length truths + 1 ≤ truth_count m → NoneBeginsWith m (truths ++ false ∷ []) → NoneBeginsWith m (truths ++ true ∷ []) → (a : Assignment) → Fits m a → take (length truths) (truths_of a) ≡ truths → IsRealization m a [] → (next : Bool) → get_or (truths_of a) (length truths) false ≡ next → ⊥
-none_with_next m truths room without with_it a fits begins r false e =
-    without a fits (next_begins truths (truths_of a) false (omega (arith, count_is m a fits)) begins e) r
-none_with_next m truths room without with_it a fits begins r true e =
-    with_it a fits (next_begins truths (truths_of a) true (omega (arith, count_is m a fits)) begins e) r
+next_is : (truths : List Bool) (a : Assignment) (next : Bool) → length truths < length (truths_of a) → BeginsWith truths a → get_or (truths_of a) (length truths) false ≡ next → BeginsWith (truths ++ false ∷ []) a ⊎ BeginsWith (truths ++ true ∷ []) a
+next_is truths a false within begins e = inl (next_begins truths (truths_of a) false within begins e)
+next_is truths a true within begins e = inr (next_begins truths (truths_of a) true within begins e)
 
 -- a further truth value is false or true
-none_with_either : (m : Lists) (truths : List Bool) → length truths + 1 ≤ truth_count m → NoneBeginsWith m (truths ++ false ∷ []) → NoneBeginsWith m (truths ++ true ∷ []) → NoneBeginsWith m truths
-none_with_either m truths room without with_it a fits begins r =
-    none_with_next m truths room without with_it a fits begins r (get_or (truths_of a) (length truths) false) refl
+pub next_truth : (m : Lists) (truths : List Bool) → length truths + 1 ≤ truth_count m → Splits (BeginsWith (truths ++ false ∷ [])) (BeginsWith (truths ++ true ∷ [])) (BeginsWith truths) m
+next_truth m truths room a realizes begins =
+    next_is truths a (get_or (truths_of a) (length truths) false) (omega (arith, room, count_is m a realizes.fits)) begins refl
 
--- the answer of a search with the further truth value true, after one with false that found none
-pub found_with_either : (m : Lists) (truths : List Bool) (r : Result (Option Assignment) AllocError) → length truths + 1 ≤ truth_count m → NoneBeginsWith m (truths ++ false ∷ []) → IfOk r (λ found. IfNone found (NoneBeginsWith m (truths ++ true ∷ []))) → IfOk r (λ found. IfNone found (NoneBeginsWith m truths))
-found_with_either m truths (Ok None) room without with_it = none_with_either m truths room without with_it
-found_with_either m truths (Ok (Some a)) room without with_it = tt
-found_with_either m truths (Err e) room without with_it = tt
+-- truth values that are all there begin with nothing less
+pub all_truths : (m : Lists) (truths : List Bool) (a : Assignment) → length truths ≡ truth_count m → Realizes m a → BeginsWith truths a → Continues truths [] a
+all_truths m truths a count realizes begins =
+    let all : take (length (truths_of a)) (truths_of a) ≡ truths = rw (count_is m a realizes.fits, ← count) begins in
+    record { truths_are = sym (take-length (truths_of a)) ∙ all; begins = refl }

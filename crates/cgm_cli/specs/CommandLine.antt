@@ -1,27 +1,65 @@
 -- Which words, after the program's own name, are a command line, and the command that they give.
-use Rattle.std.specs.Prelude.{ℕ, Bool, true, not, ◌==◌, List, [], ◌∷◌, Option, Some, None, codes, if◌then◌else◌}
+use Rattle.std.specs.Prelude.{true, List, [], ◌∷◌, ◌++◌, Option, Some, None, codes, map, option_and_then, option_map, if◌then◌else◌}
 use Rattle.std.specs.Str.{bytes_eq}
+use Rattle.clap.specs.Faults.{fault_of}
+use Rattle.clap.specs.Kinds.{Kinds}
+use Rattle.clap.specs.Simple.{App, matches_of, new_rule, new_shape}
+use Rattle.clap.specs.Walk.{Row, Rule, Text, first_of}
+
+-- ---- the words that each command takes
+
+-- a word that is wanted in its place
+abbrev pub positional : Text → Rule
+positional id = record (new_rule id) { required = true }
+
+-- `--NAME=VALUE`, which may be left out
+abbrev pub option : Text → Rule
+option name = record (new_rule name) { long = Some name }
+
+-- a command word with its positional words and its options, without help and version
+abbrev pub options_of : Text → List Text → List Text → App
+options_of word positionals names = record {
+  top = record (new_shape word) { rules = map positional positionals ++ map option names; disable_help_flag = true };
+  subs = [];
+}
+
+-- `solve MODEL --earlier=FILE`
+abbrev pub solve_options : App
+solve_options = options_of (codes "solve") (codes "model" ∷ []) (codes "earlier" ∷ [])
+
+-- `show MODEL`
+abbrev pub show_options : App
+show_options = options_of (codes "show") (codes "model" ∷ []) []
+
+abbrev pub unless_faulty : Kinds → List Row → Option (List Row)
+unless_faulty [] rows = Some rows
+unless_faulty (fault ∷ faults) rows = None
+
+-- what the words give to each name; none where they aren't what the command takes
+unfoldable pub given : App → List Text → Option (List Row)
+given options words = unless_faulty (fault_of options words) (matches_of options words)
+
+-- ---- commands
 
 pub data Command : Type 0 where
-  -- `solve MODEL`, with the model's file name
-  solve : List ℕ → Command
-  -- `show MODEL`
-  show : List ℕ → Command
+  -- `solve`, with the name of the model's file and that of the earlier realization's file
+  solve : Text → Option Text → Command
+  -- `show`, with the name of the model's file
+  show : Text → Command
 
--- a word that names a file doesn't begin with `-`
-abbrev pub is_positional : List ℕ → Bool
-is_positional [] = true
-is_positional (byte ∷ bytes) = not (byte == 45)
+abbrev pub solve_with : List Row → Option Command
+solve_with rows = option_map (λ model. solve model (first_of (codes "earlier") rows)) (first_of (codes "model") rows)
 
--- the command of this word for a model's file
-abbrev pub command_of : List ℕ → List ℕ → Option Command
-command_of word model =
-    if bytes_eq word (codes "solve") then Some (solve model)
-    else if bytes_eq word (codes "show") then Some (show model)
+abbrev pub show_with : List Row → Option Command
+show_with rows = option_map show (first_of (codes "model") rows)
+
+-- the command of the first word, which the words begin with
+abbrev pub command_of : Text → List Text → Option Command
+command_of word words =
+    if bytes_eq word (codes "solve") then option_and_then solve_with (given solve_options words)
+    else if bytes_eq word (codes "show") then option_and_then show_with (given show_options words)
     else None
 
-abbrev pub command_line : List (List ℕ) → Option Command
+abbrev pub command_line : List Text → Option Command
 command_line [] = None
-command_line (word ∷ []) = None
-command_line (word ∷ model ∷ []) = if is_positional model then command_of word model else None
-command_line (word ∷ model ∷ other ∷ words) = None
+command_line (word ∷ words) = command_of word (word ∷ words)

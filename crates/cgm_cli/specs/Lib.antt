@@ -4,3 +4,4 @@ pub mod Outcome
 pub mod Placed
 pub mod Report
 pub mod Search
+pub mod Shown

@@ -4,20 +4,22 @@ use Rattle.cgm_base.specs.declared.fault.BadKind.{BadKind}
 use Rattle.cgm_base.specs.declared.limit.Which.TheVariants as limits
 use Rattle.cgm_base.specs.declared.limit.Limit.{Limit}
 use Rattle.cgm_base.specs.declared.status.Status.{Status}
-use Rattle.cgm_base.specs.declared.status.Status.TheVariants.{Done, Unrealizable, Usage, Text, Limit as LimitPassed, Read, Write, Memory}
+use Rattle.cgm_base.specs.declared.status.Status.TheVariants.{Done, Unrealizable, Usage, Text, Earlier, Limit as LimitPassed, Read, Write, Memory}
 use Rattle.cgm_base.specs.Words.{limit_number}
 use Rattle.cgm_shelf.specs.Faults.{Rose}
 use Rattle.cgm_shelf.specs.Shelf.{Files, WhereTold, MissingOrRose}
 use Rattle.cgm_shelf.specs.Sink.{Adds, AddsPart}
 use Rattle.cgm_formula.specs.declared.assignment.Assignment.{Assignment}
-use Rattle.cgm_model.specs.Assignment.{Fits}
 use Rattle.cgm_model.specs.declared.lists.Lists.{Lists}
-use Rattle.cgm_model.specs.Realization.{IsRealization}
 use Rattle.cgm_text.specs.declared.fault.LineFault.TheVariants as line_faults
 use Rattle.cgm_text.specs.Canonical.{canonical_text}
 use Rattle.cgm_text.specs.Text.{IsTextOf, HasFault}
+use Rattle.cgm_evolve.specs.declared.fault.LineFault.TheVariants as earlier_faults
+use Rattle.cgm_evolve.specs.Pairs.{Pair}
+use Rattle.cgm_evolve.specs.Text.{IsTextOf as IsEarlierTextOf, HasFault as HasEarlierFault}
+use Rattle.cgm_obj.specs.Least.{IsLeastRealization, Realizes}
 use Rattle.cgm_cli.specs.CommandLine.{Command, solve, show, command_line}
-use Rattle.cgm_cli.specs.Report.{realized, unrealizable, usage_fault, text_fault, limit_fault, read_fault, memory_fault}
+use Rattle.cgm_cli.specs.Report.{realized, unrealizable, usage_fault, text_fault, earlier_fault, limit_fault, read_fault, memory_fault}
 
 -- what a call does to the sink: its bytes, where it tells them, and its count of faults, before and after
 pub record Printing : Type 0 where
@@ -62,28 +64,25 @@ abbrev pub TellsOrLacksMemory : Printing → List ℕ → Status → Status → 
 TellsOrLacksMemory sink fault_line status answer =
     ((answer ≡ status) × IsTold sink fault_line) ⊎ ((answer ≡ Memory) × IsTold sink memory_fault)
 
--- the assignment fits the model and is a realization of it; there are no sums
-pub record Realizes (m : Lists) (a : Assignment) : Type 0 where
-  pub fits : Fits m a
-  pub realization : IsRealization m a []
-
 abbrev pub HasNoRealization : Lists → Type 0
-HasNoRealization m = (a : Assignment) → Fits m a → ¬ IsRealization m a []
+HasNoRealization m = (a : Assignment) → ¬ Realizes m a
 
--- the report of an answer for the model: a realization, or that there is none
-abbrev pub IsReport : Lists → List ℕ → Type 0
-IsReport m report =
-    ((a : Assignment) × (Realizes m a × (report ≡ realized m a))) ⊎ (HasNoRealization m × (report ≡ unrealizable))
+-- the report of an answer for the model and an earlier realization: a least realization, or that there is none
+abbrev pub IsReport : Lists → List Pair → List ℕ → Type 0
+IsReport m earlier report =
+    ((a : Assignment) × (IsLeastRealization m earlier a × (report ≡ realized m earlier a)))
+    ⊎ (HasNoRealization m × (report ≡ unrealizable))
 
 -- ---- the outcome of a command for a model
 
--- `solve`: a realization of the model, or that there is none
-abbrev pub HasSolveOutcome : Lists → Printing → Status → Type 0
-HasSolveOutcome m sink Done = (a : Assignment) × (Realizes m a × IsPrinted sink (realized m a))
-HasSolveOutcome m sink Unrealizable = HasNoRealization m × IsPrinted sink unrealizable
-HasSolveOutcome m sink Write = (report : List ℕ) × (IsReport m report × IsCutOff sink report)
-HasSolveOutcome m sink Memory = IsTold sink memory_fault
-HasSolveOutcome m sink status = ⊥
+-- `solve`, with what is known of an earlier realization: a least realization of the model, or that there is none
+abbrev pub HasSolveOutcome : Lists → List Pair → Printing → Status → Type 0
+HasSolveOutcome m earlier sink Done =
+    (a : Assignment) × (IsLeastRealization m earlier a × IsPrinted sink (realized m earlier a))
+HasSolveOutcome m earlier sink Unrealizable = HasNoRealization m × IsPrinted sink unrealizable
+HasSolveOutcome m earlier sink Write = (report : List ℕ) × (IsReport m earlier report × IsCutOff sink report)
+HasSolveOutcome m earlier sink Memory = IsTold sink memory_fault
+HasSolveOutcome m earlier sink status = ⊥
 
 -- `show`: the canonical text of the model
 abbrev pub HasShowOutcome : Lists → Printing → Status → Type 0
@@ -113,6 +112,25 @@ HasFaultOutcome text sink LimitPassed = IsLimitFault text sink
 HasFaultOutcome text sink Memory = IsTold sink memory_fault
 HasFaultOutcome text sink status = ⊥
 
+-- ---- the same for bytes that give no earlier realization
+
+pub record IsEarlierFault (text : List ℕ) (sink : Printing) : Type 0 where
+  pub line : ℕ
+  pub kind : BadKind
+  pub fault : HasEarlierFault text line (earlier_faults.Bad kind)
+  pub told : IsTold sink (earlier_fault line kind)
+
+pub record IsEarlierLimitFault (text : List ℕ) (sink : Printing) : Type 0 where
+  pub limit : Limit
+  pub fault : HasEarlierFault text limit.line (earlier_faults.Limit limit.which)
+  pub told : IsTold sink (limit_fault limit)
+
+abbrev pub HasEarlierFaultOutcome : List ℕ → Printing → Status → Type 0
+HasEarlierFaultOutcome text sink Earlier = IsEarlierFault text sink
+HasEarlierFaultOutcome text sink LimitPassed = IsEarlierLimitFault text sink
+HasEarlierFaultOutcome text sink Memory = IsTold sink memory_fault
+HasEarlierFaultOutcome text sink status = ⊥
+
 -- ---- the outcome for a file name
 
 -- the limit on the bytes of a text
@@ -123,43 +141,69 @@ abbrev pub text_limit : Limit
 text_limit = record { which = limits.TextBytes; number = most_bytes; line = 0 }
 
 -- the named file, where the shelf tells its files, has these bytes, and they are within the limit
-pub record IsModelFile (shelf : Shelving) (name text : List ℕ) : Type 0 where
+pub record IsTextFile (shelf : Shelving) (name text : List ℕ) : Type 0 where
   pub told : WhereTold shelf.files name (λ file. text ≡ file)
   pub short : length text ≤ most_bytes
 
--- the bytes of the named file are within the limit, and are a text of this model
-abbrev pub IsModelOf : Shelving → List ℕ → Lists → Type 0
-IsModelOf shelf name m = (text : List ℕ) × (IsModelFile shelf name text × IsTextOf text m)
+-- the bytes of the named file are within the limit, and P holds of them
+abbrev pub IsFileOf : Shelving → List ℕ → (List ℕ → Type 0) → Type 0
+IsFileOf shelf name P = (text : List ℕ) × (IsTextFile shelf name text × P text)
 
--- the bytes of the named file are within the limit, and give no model
-abbrev pub HasFaultyFile : List ℕ → Shelving → Printing → Status → Type 0
-HasFaultyFile name shelf sink status = (text : List ℕ) × (IsModelFile shelf name text × HasFaultOutcome text sink status)
-
--- the bytes of the named file pass the limit, which is told
-abbrev pub HasLongFile : List ℕ → Shelving → Printing → Type 0
-HasLongFile name shelf sink =
+-- why there is no text in the named file: it passes the limit, or can't be read
+abbrev pub HasNoText : List ℕ → Shelving → Printing → Status → Type 0
+HasNoText name shelf sink LimitPassed =
     WhereTold shelf.files name (λ file. most_bytes < length file) × IsTold sink (limit_fault text_limit)
-
--- why there is no model in the named file
-abbrev pub HasNoModel : List ℕ → Shelving → Printing → Status → Type 0
-HasNoModel name shelf sink Text = HasFaultyFile name shelf sink Text
-HasNoModel name shelf sink LimitPassed = HasLongFile name shelf sink ⊎ HasFaultyFile name shelf sink LimitPassed
-HasNoModel name shelf sink Read =
+HasNoText name shelf sink Read =
     MissingOrRose shelf.files name shelf.reads_before shelf.reads_after × IsTold sink read_fault
-HasNoModel name shelf sink Memory = IsTold sink memory_fault
-HasNoModel name shelf sink status = ⊥
+HasNoText name shelf sink Memory = IsTold sink memory_fault
+HasNoText name shelf sink status = ⊥
+
+-- why there is no model in the named file: there is no text, or it has a fault
+abbrev pub HasNoModel : List ℕ → Shelving → Printing → Status → Type 0
+HasNoModel name shelf sink status =
+    HasNoText name shelf sink status ⊎ IsFileOf shelf name (λ text. HasFaultOutcome text sink status)
+
+-- why there is no earlier realization in the named file
+abbrev pub HasNoEarlier : List ℕ → Shelving → Printing → Status → Type 0
+HasNoEarlier name shelf sink status =
+    HasNoText name shelf sink status ⊎ IsFileOf shelf name (λ text. HasEarlierFaultOutcome text sink status)
+
+-- the named file has a text of this model
+abbrev pub IsModelOf : Shelving → List ℕ → Lists → Type 0
+IsModelOf shelf name m = IsFileOf shelf name (λ text. IsTextOf text m)
+
+-- the named file has a text of this earlier realization
+abbrev pub IsEarlierOf : Shelving → List ℕ → List Pair → Type 0
+IsEarlierOf shelf name earlier = IsFileOf shelf name (λ text. IsEarlierTextOf text earlier)
 
 -- the outcome of a command on the named file, where `HasModelOutcome` is its outcome for a model
 abbrev pub HasFileOutcome : (Lists → Printing → Status → Type 0) → List ℕ → Shelving → Printing → Status → Type 0
 HasFileOutcome HasModelOutcome name shelf sink status =
     HasNoModel name shelf sink status ⊎ ((m : Lists) × (IsModelOf shelf name m × HasModelOutcome m sink status))
 
+-- `solve` of a model with the named file of an earlier realization; without one nothing is known
+abbrev pub HasEarlierOutcome : Option (List ℕ) → Shelving → Lists → Printing → Status → Type 0
+HasEarlierOutcome None shelf m sink status = HasSolveOutcome m [] sink status
+HasEarlierOutcome (Some name) shelf m sink status =
+    HasNoEarlier name shelf sink status
+    ⊎ ((earlier : List Pair) × (IsEarlierOf shelf name earlier × HasSolveOutcome m earlier sink status))
+
 -- ---- the outcome for the words
 
-abbrev pub HasCommandOutcome : Option Command → Shelving → Printing → Status → Type 0
-HasCommandOutcome None shelf sink status = (status ≡ Usage) × IsTold sink usage_fault
-HasCommandOutcome (Some (solve name)) shelf sink status = HasFileOutcome HasSolveOutcome name shelf sink status
-HasCommandOutcome (Some (show name)) shelf sink status = HasFileOutcome HasShowOutcome name shelf sink status
+abbrev pub HasCommandOutcome : Command → Shelving → Printing → Status → Type 0
+HasCommandOutcome (solve name earlier) shelf sink status = HasFileOutcome (HasEarlierOutcome earlier shelf) name shelf sink status
+HasCommandOutcome (show name) shelf sink status = HasFileOutcome HasShowOutcome name shelf sink status
+
+-- the words are no command line, or memory is wanted to read them
+abbrev pub HasUsageOutcome : Printing → Status → Type 0
+HasUsageOutcome sink Usage = IsTold sink usage_fault
+HasUsageOutcome sink Memory = IsTold sink memory_fault
+HasUsageOutcome sink status = ⊥
+
+-- the outcome of a command line; none where the words are no command line
+abbrev pub HasWordsOutcome : Option Command → Shelving → Printing → Status → Type 0
+HasWordsOutcome None shelf sink status = HasUsageOutcome sink status
+HasWordsOutcome (Some command) shelf sink status = HasCommandOutcome command shelf sink status
 
 abbrev pub HasOutcome : List (List ℕ) → Shelving → Printing → Status → Type 0
-HasOutcome words shelf sink status = HasCommandOutcome (command_line words) shelf sink status
+HasOutcome words shelf sink status = HasWordsOutcome (command_line words) shelf sink status

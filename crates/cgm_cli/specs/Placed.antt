@@ -4,12 +4,14 @@ use Rattle.cgm_base.specs.declared.status.Status.{Status}
 use Rattle.cgm_base.specs.declared.status.Status.TheVariants as statuses
 use Rattle.cgm_cli.specs.declared.print.PlacedFault.{PlacedFault}
 use Rattle.cgm_cli.specs.declared.print.PlacedFault.TheVariants as faults
-use Rattle.cgm_cli.specs.Report.{text_fault, limit_fault}
+use Rattle.cgm_cli.specs.Report.{text_fault, earlier_fault, limit_fault}
 
 abbrev pub placed_line : PlacedFault → List ℕ
 placed_line (faults.Text line kind) = text_fault line kind
+placed_line (faults.Earlier line kind) = earlier_fault line kind
 placed_line (faults.Limit limit) = limit_fault limit
 
 abbrev pub placed_status : PlacedFault → Status
 placed_status (faults.Text line kind) = statuses.Text
+placed_status (faults.Earlier line kind) = statuses.Earlier
 placed_status (faults.Limit limit) = statuses.Limit

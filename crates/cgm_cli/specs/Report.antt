@@ -10,7 +10,13 @@ use Rattle.cgm_model.specs.declared.lists.ElementKind.TheVariants as kinds
 use Rattle.cgm_model.specs.declared.lists.Refinement.{Refinement}
 use Rattle.cgm_formula.specs.declared.assignment.Assignment.{Assignment}
 use Rattle.cgm_model.specs.declared.lists.Lists.{Lists}
+use Rattle.cgm_model.specs.declared.lists.Objective.{Objective}
+use Rattle.cgm_model.specs.declared.lists.Sum.{Sum}
 use Rattle.cgm_model.specs.declared.lists.Variable.{Variable}
+use Rattle.cgm_model.specs.Sums.{sums_of}
+use Rattle.cgm_text.specs.Canonical.{quantity_name}
+use Rattle.cgm_evolve.specs.Pairs.{Pair}
+use Rattle.cgm_obj.specs.Vector.{quantity}
 
 -- a line of text with its line feed
 abbrev pub line : List ℕ → List ℕ
@@ -41,23 +47,40 @@ refinement_lines [] truths = []
 refinement_lines (r ∷ refinements) [] = []
 refinement_lines (r ∷ refinements) (truth ∷ truths) = found_line (codes "refine") r.name truth ++ refinement_lines refinements truths
 
--- the line of a variable with its number
-abbrev pub variable_line : List ℕ → ℤ → List ℕ
-variable_line name number = line (codes "var " ++ name ++ codes " " ++ signed_decimal number)
+-- a word, a name and a number
+abbrev pub number_line : List ℕ → List ℕ → ℤ → List ℕ
+number_line word name number = line (word ++ codes " " ++ name ++ codes " " ++ signed_decimal number)
 
 -- one line for each variable, with its number
 abbrev pub variable_lines : List Variable → List ℤ → List ℕ
 variable_lines [] numbers = []
 variable_lines (v ∷ vars) [] = []
-variable_lines (v ∷ vars) (number ∷ numbers) = variable_line v.name number ++ variable_lines vars numbers
+variable_lines (v ∷ vars) (number ∷ numbers) = number_line (codes "var") v.name number ++ variable_lines vars numbers
+
+-- one line for each sum, with its value
+abbrev pub sum_lines : List Sum → List ℤ → List ℕ
+sum_lines [] values = []
+sum_lines (s ∷ sums) [] = []
+sum_lines (s ∷ sums) (value ∷ values) = number_line (codes "sum") s.name value ++ sum_lines sums values
+
+abbrev pub objective_word : Bool → List ℕ
+objective_word false = codes "objective min"
+objective_word true = codes "objective max"
+
+-- one line for each objective, with the quantity itself
+abbrev pub objective_lines : Lists → List Pair → Assignment → List Objective → List ℕ
+objective_lines m earlier a [] = []
+objective_lines m earlier a (o ∷ objectives) =
+    number_line (objective_word o.max) (quantity_name m o.of) (quantity m earlier a o.of) ++ objective_lines m earlier a objectives
 
 -- the found lines of an assignment
-abbrev pub found_lines : Lists → Assignment → List ℕ
-found_lines m a =
-    element_lines m.elements a.elements ++ refinement_lines m.refinements a.refinements ++ variable_lines m.vars a.vars
+abbrev pub found_lines : Lists → List Pair → Assignment → List ℕ
+found_lines m earlier a =
+    objective_lines m earlier a m.objectives ++ element_lines m.elements a.elements
+    ++ refinement_lines m.refinements a.refinements ++ variable_lines m.vars a.vars ++ sum_lines m.sums (sums_of m a)
 
-abbrev pub realized : Lists → Assignment → List ℕ
-realized m a = line (codes "realized") ++ found_lines m a
+abbrev pub realized : Lists → List Pair → Assignment → List ℕ
+realized m earlier a = line (codes "realized") ++ found_lines m earlier a
 
 abbrev pub unrealizable : List ℕ
 unrealizable = line (codes "unrealizable")
@@ -67,6 +90,9 @@ usage_fault = line (codes "fault usage")
 
 abbrev pub text_fault : ℕ → BadKind → List ℕ
 text_fault number kind = line (codes "fault text " ++ decimal number ++ codes " " ++ kind_word kind)
+
+abbrev pub earlier_fault : ℕ → BadKind → List ℕ
+earlier_fault number kind = line (codes "fault earlier " ++ decimal number ++ codes " " ++ kind_word kind)
 
 -- the quantity, its limit, and the line at which it is passed
 abbrev pub limit_fault : Limit → List ℕ

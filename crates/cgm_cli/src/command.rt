@@ -1,54 +1,96 @@
-ghost use Rattle.std.specs.Prelude.{◌≡◌, map, MatchOption, Some, None};
+ghost use Rattle.std.specs.Prelude.{◌≡◌, ◌∷◌, IfOk, map, option_and_then, option_map};
 ghost use Rattle.std.specs.String.{string_bytes};
-ghost use Rattle.cgm_cli.specs.CommandLine.{command_line, command_of, is_positional};
+ghost use Rattle.clap.specs.Words.{found_of, rows_of};
+ghost use Rattle.cgm_cli.specs.CommandLine.{command_line, command_of, given, show_options, show_with, solve_options, solve_with};
 ghost use Rattle.cgm_cli.specs.Commands.{told_by};
 
-/// What the words ask for, with the model's file name.
+use crate::options::{given, show_options, solve_options, text_given};
+use clap::ArgMatches;
+use std::alloc::{AllocError, Global};
+
+/// What the words ask for, with names of files.
 #[derive(Clone, Copy)]
 pub(crate) enum Command<'w> {
-    /// `solve MODEL`
-    Solve(&'w str),
+    /// `solve MODEL`, with the file of an earlier realization where one is given.
+    Solve {
+        model: &'w str,
+        earlier: Option<&'w str>,
+    },
     /// `show MODEL`
-    Show(&'w str),
+    Show {
+        model: &'w str,
+    },
 }
 
 /// The command of the words; none where they are no command line.
-pub(crate) fn command_in(words: &[String]) -> Option<Command<'_>>
-    ensures { MatchOption result (command_line (map string_bytes words.now) ≡ None)
-        (λ c. command_line (map string_bytes words.now) ≡ Some (told_by c)) }
+pub(crate) fn command_in<'w>(
+    alloc: Global,
+    words: &'w [String],
+) -> Result<Option<Command<'w>>, AllocError>
+    ensures { IfOk result (λ found. option_map told_by found ≡ command_line (map string_bytes
+        words.now)) }
 {
     match words {
-        [word, name] => {
-            if is_positional(name.as_str()) {
-                command_of(word.as_str(), name.as_str())
-            } else {
-                None
-            }
-        }
-        _ => None,
+        [] => Ok(None),
+        [word, ..] => command_of(alloc, word.as_str(), words),
     }
 }
 
-/// The command of this word for a model's file.
-fn command_of<'w>(word: &str, name: &'w str) -> Option<Command<'w>>
-    ensures { MatchOption result (command_of word.now name.now ≡ None)
-        (λ c. command_of word.now name.now ≡ Some (told_by c)) }
+/// The command of this word, which the words begin with.
+fn command_of<'w>(
+    alloc: Global,
+    word: &str,
+    words: &'w [String],
+) -> Result<Option<Command<'w>>, AllocError>
+    ensures { IfOk result (λ found. option_map told_by found ≡ command_of word.now (map string_bytes
+        words.now)) }
 {
     if word == "solve" {
-        Some(Command::Solve(name))
+        solve_in(alloc, words)
     } else if word == "show" {
-        Some(Command::Show(name))
+        show_in(alloc, words)
     } else {
-        None
+        Ok(None)
     }
 }
 
-/// Says whether a word names a file: it doesn't begin with `-`.
-fn is_positional(word: &str) -> bool
-    ensures { result ≡ is_positional word.now }
+fn solve_in<'w>(alloc: Global, words: &'w [String]) -> Result<Option<Command<'w>>, AllocError>
+    ensures { IfOk result (λ found. option_map told_by found ≡ option_and_then solve_with (given
+        solve_options (map string_bytes words.now))) }
 {
-    match word.as_bytes().first() {
-        None => true,
-        Some(byte) => *byte != b'-',
+    match given(solve_options(alloc)?, words)? {
+        None => Ok(None),
+        Some(matches) => Ok(solve_with(&matches)),
+    }
+}
+
+fn solve_with<'w>(matches: &ArgMatches<'w>) -> Option<Command<'w>>
+    ensures { option_map told_by result ≡ solve_with (rows_of (found_of matches.now)) }
+{
+    match text_given(matches, "model") {
+        None => None,
+        Some(model) => {
+            let earlier = text_given(matches, "earlier");
+            Some(Command::Solve { model, earlier })
+        }
+    }
+}
+
+fn show_in<'w>(alloc: Global, words: &'w [String]) -> Result<Option<Command<'w>>, AllocError>
+    ensures { IfOk result (λ found. option_map told_by found ≡ option_and_then show_with (given
+        show_options (map string_bytes words.now))) }
+{
+    match given(show_options(alloc)?, words)? {
+        None => Ok(None),
+        Some(matches) => Ok(show_with(&matches)),
+    }
+}
+
+fn show_with<'w>(matches: &ArgMatches<'w>) -> Option<Command<'w>>
+    ensures { option_map told_by result ≡ show_with (rows_of (found_of matches.now)) }
+{
+    match text_given(matches, "model") {
+        None => None,
+        Some(model) => Some(Command::Show { model }),
     }
 }

@@ -1,16 +1,58 @@
-// The model of a file, or why there is none.
+// The model of a file, and the earlier realization of a file, or why there is none.
 ghost use Rattle.std.specs.Prelude.{◌≡◌, ◌≤◌, length, MatchResult, OnOk};
+ghost use Rattle.cgm_evolve.specs.Text.{IsTextOf as IsEarlierTextOf};
 ghost use Rattle.cgm_model.specs.Model.{lists_of};
 ghost use Rattle.cgm_text.specs.Text.{IsTextOf};
-ghost use Rattle.cgm_cli.specs.Outcome.{printing, shelving, IsModelOf, HasNoModel, HasFaultOutcome, most_bytes, text_limit};
+ghost use Rattle.cgm_cli.specs.Outcome.{printing, shelving, IsEarlierOf, IsModelOf, IsTextFile, HasNoEarlier, HasNoModel, HasNoText, HasEarlierFaultOutcome, HasFaultOutcome, most_bytes, text_limit};
 
 use crate::print::{PlacedFault, tell, tell_fault, tell_memory};
 use cgm_base::limits::TEXT_BYTES;
 use cgm_base::{Limit, Status, Which};
+use cgm_evolve::{Earlier, EarlierStop, read_earlier};
 use cgm_model::Model;
 use cgm_shelf::{ReadStop, Shelf, Sink, read_whole};
 use cgm_text::{TextStop, read};
 use std::alloc::Global;
+
+/// The limit that a text of too many bytes passes.
+fn too_long() -> Limit
+    ensures { result ≡ text_limit }
+{
+    Limit {
+        which: Which::TextBytes,
+        number: TEXT_BYTES,
+        line: 0,
+    }
+}
+
+/// The bytes of the named file, or the status after it was told why there are none.
+fn text_of_file<F: Shelf, O: Sink>(
+    alloc: Global,
+    name: &str,
+    shelf: &mut F,
+    out: &mut O,
+) -> Result<Vec<u8>, Status>
+    ensures outcome { MatchResult result
+        (λ text. IsTextFile (shelving (F.files shelf.old) (F.read_faults shelf.old) (F.read_faults shelf.new))
+        name.now text.items)
+        (HasNoText name.now
+        (shelving (F.files shelf.old) (F.read_faults shelf.old) (F.read_faults shelf.new))
+        (printing (O.written out.old) (O.written out.new) (O.faults out.old) (O.faults out.new))) }
+    ensures untouched { OnOk result (out.new ≡ out.old) }
+    ensures files { F.files shelf.new ≡ F.files shelf.old }
+    ensures writes { F.write_faults shelf.new ≡ F.write_faults shelf.old }
+    ensures later { F.read_faults shelf.old ≤ F.read_faults shelf.new }
+{
+    match read_whole(alloc, shelf, name, Some(TEXT_BYTES)) {
+        Ok(text) => Ok(text),
+        Err(ReadStop::Fault) => {
+            tell(out, b"fault read\n");
+            Err(Status::Read)
+        }
+        Err(ReadStop::TooLong) => Err(tell_fault(alloc, out, PlacedFault::Limit(too_long()))),
+        Err(ReadStop::Memory) => Err(tell_memory(out)),
+    }
+}
 
 /// The model of a text, or the status after its first fault was told.
 fn model_of_text<O: Sink>(alloc: Global, text: &[u8], out: &mut O) -> Result<Model, Status>
@@ -30,17 +72,6 @@ fn model_of_text<O: Sink>(alloc: Global, text: &[u8], out: &mut O) -> Result<Mod
     }
 }
 
-/// The limit that a model text of too many bytes passes.
-fn too_long() -> Limit
-    ensures { result ≡ text_limit }
-{
-    Limit {
-        which: Which::TextBytes,
-        number: TEXT_BYTES,
-        line: 0,
-    }
-}
-
 /// The model of the named file, or the status after it was told why there is none.
 pub(crate) fn model_of_file<F: Shelf, O: Sink>(
     alloc: Global,
@@ -57,14 +88,51 @@ pub(crate) fn model_of_file<F: Shelf, O: Sink>(
     ensures untouched { OnOk result (out.new ≡ out.old) }
     ensures files { F.files shelf.new ≡ F.files shelf.old }
     ensures writes { F.write_faults shelf.new ≡ F.write_faults shelf.old }
+    ensures later { F.read_faults shelf.old ≤ F.read_faults shelf.new }
 {
-    match read_whole(alloc, shelf, name, Some(TEXT_BYTES)) {
+    match text_of_file(alloc, name, shelf, out) {
         Ok(text) => model_of_text(alloc, text.as_slice(), out),
-        Err(ReadStop::Fault) => {
-            tell(out, b"fault read\n");
-            Err(Status::Read)
+        Err(status) => Err(status),
+    }
+}
+
+/// The earlier realization of a text, or the status after its first fault was told.
+fn earlier_of_text<O: Sink>(alloc: Global, text: &[u8], out: &mut O) -> Result<Earlier, Status>
+    requires { length text.now ≤ most_bytes }
+    ensures outcome { MatchResult result (λ e. IsEarlierTextOf text.now e.pairs)
+        (HasEarlierFaultOutcome text.now
+        (printing (O.written out.old) (O.written out.new) (O.faults out.old) (O.faults out.new))) }
+    ensures untouched { OnOk result (out.new ≡ out.old) }
+{
+    match read_earlier(alloc, text) {
+        Ok(earlier) => Ok(earlier),
+        Err(EarlierStop::Bad { line, kind }) => {
+            Err(tell_fault(alloc, out, PlacedFault::Earlier { line, kind }))
         }
-        Err(ReadStop::TooLong) => Err(tell_fault(alloc, out, PlacedFault::Limit(too_long()))),
-        Err(ReadStop::Memory) => Err(tell_memory(out)),
+        Err(EarlierStop::Limit(limit)) => Err(tell_fault(alloc, out, PlacedFault::Limit(limit))),
+        Err(EarlierStop::Memory) => Err(tell_memory(out)),
+    }
+}
+
+/// The earlier realization of the named file, or the status after it was told why there is none.
+pub(crate) fn earlier_of_file<F: Shelf, O: Sink>(
+    alloc: Global,
+    name: &str,
+    shelf: &mut F,
+    out: &mut O,
+) -> Result<Earlier, Status>
+    ensures outcome { MatchResult result
+        (λ e. IsEarlierOf (shelving (F.files shelf.old) (F.read_faults shelf.old) (F.read_faults shelf.new))
+        name.now e.pairs)
+        (HasNoEarlier name.now
+        (shelving (F.files shelf.old) (F.read_faults shelf.old) (F.read_faults shelf.new))
+        (printing (O.written out.old) (O.written out.new) (O.faults out.old) (O.faults out.new))) }
+    ensures untouched { OnOk result (out.new ≡ out.old) }
+    ensures files { F.files shelf.new ≡ F.files shelf.old }
+    ensures writes { F.write_faults shelf.new ≡ F.write_faults shelf.old }
+{
+    match text_of_file(alloc, name, shelf, out) {
+        Ok(text) => earlier_of_text(alloc, text.as_slice(), out),
+        Err(status) => Err(status),
     }
 }

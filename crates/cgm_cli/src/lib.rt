@@ -3,7 +3,9 @@
 
 mod command;
 mod file;
+mod found;
 mod numbers;
+mod options;
 mod print;
 mod program;
 mod report;

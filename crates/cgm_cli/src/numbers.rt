@@ -1,10 +1,13 @@
 // Trying all numbers of the variables beside given truth values.
-ghost use Rattle.std.specs.Prelude.{◌≡◌, ◌++◌, ◌+◌, ◌≤◌, ◌<◌, [], ◌∷◌, length, IfOk, IfSome, IfNone, get_or};
+ghost use Rattle.std.specs.Prelude.{◌≡◌, ◌++◌, ◌+◌, ◌≤◌, [], ◌∷◌, length, IfOk, OnOk};
+ghost use Rattle.cgm_model.specs.Assignment.{Fits};
 ghost use Rattle.cgm_model.specs.Model.{lists_of};
-ghost use Rattle.cgm_cli.specs.Outcome.{Realizes};
-ghost use Rattle.cgm_cli.specs.Search.{truth_count, Has, NoneContinues, NoneContinuesBelow};
+ghost use Rattle.cgm_cli.specs.Search.{truth_count, Has, Continues, IsLeastAmong};
 
-use cgm_model::{Assignment, Model, Parts, fits, is_realization};
+use crate::found::{Found, is_final, lesser};
+use cgm_evolve::Earlier;
+use cgm_model::{Assignment, Model, Parts, fits, is_realization, sums};
+use cgm_obj::vector;
 use std::alloc::{AllocError, Global};
 
 /// The assignment that gives the elements, and then the refinements, these truth values, and the
@@ -26,89 +29,105 @@ fn assignment_of(
     })
 }
 
-/// The assignment of these truth values and numbers, if it is a realization.
-fn realization_of(
+/// The assignment with its vector, if it is a realization.
+fn found_at(
     alloc: Global,
     m: &Model,
+    e: &Earlier,
+    assignment: Assignment,
+) -> Result<Option<Found>, AllocError>
+    requires { Fits (lists_of m.now) assignment }
+    ensures { IfOk result (IsLeastAmong (λ a. a ≡ assignment) (lists_of m.now) e.now.pairs) }
+{
+    let sums = sums(alloc, m, &assignment)?;
+    match is_realization(m, &assignment, sums.as_slice()) {
+        Some(_) => Ok(None),
+        None => {
+            let vector = vector(alloc, m, e, &assignment, sums.as_slice())?;
+            Ok(Some(Found { assignment, vector }))
+        }
+    }
+}
+
+/// The assignment of these truth values and numbers with its vector, if it is a realization.
+fn found_with(
+    alloc: Global,
+    m: &Model,
+    e: &Earlier,
     truths: &[bool],
     numbers: &[i64],
-) -> Result<Option<Assignment>, AllocError>
+) -> Result<Option<Found>, AllocError>
     requires truths { length truths.now ≡ truth_count (lists_of m.now) }
     requires numbers { length numbers.now ≡ length m.now.vars }
-    ensures found { IfOk result (λ found. IfSome found (Realizes (lists_of m.now))) }
-    ensures none { IfOk result (λ found. IfNone found (NoneContinues (lists_of m.now) truths.now
-        numbers.now)) }
+    ensures { IfOk result (IsLeastAmong (Continues truths.now numbers.now) (lists_of m.now) e.now.pairs) }
 {
     let assignment = assignment_of(alloc, m, truths, numbers)?;
     if !fits(m, &assignment) {
         return Ok(None);
     }
-    match is_realization(m, &assignment, &[]) {
-        None => Ok(Some(assignment)),
-        Some(_) => Ok(None),
-    }
+    found_at(alloc, m, e, assignment)
 }
 
-/// A realization with these truth values, whose numbers begin with these, if there is one. The
-/// numbers are as before afterwards.
+/// A least realization among those with these truth values, whose numbers begin with these, if
+/// there is one. The numbers are as before afterwards.
 #[cycle(numbers)]
-fn realization_after(
+fn least_after(
     alloc: Global,
     m: &Model,
+    e: &Earlier,
     truths: &[bool],
     numbers: &mut Vec<i64>,
-) -> Result<Option<Assignment>, AllocError>
+) -> Result<Option<Found>, AllocError>
     requires truths { length truths.now ≡ truth_count (lists_of m.now) }
     requires numbers { length numbers.old.items ≤ length m.now.vars }
-    ensures found { IfOk result (λ found. IfSome found (Realizes (lists_of m.now))) }
-    ensures none { IfOk result (λ found. IfNone found (NoneContinues (lists_of m.now) truths.now
-        numbers.old.items)) }
-    ensures kept { IfOk result (λ found. IfNone found (numbers.new.items ≡ numbers.old.items)) }
+    ensures least { IfOk result (IsLeastAmong (Continues truths.now numbers.old.items) (lists_of m.now) e.now.pairs) }
+    ensures kept { OnOk result (numbers.new.items ≡ numbers.old.items) }
 {
     if numbers.len() == m.vars.as_slice().len() {
-        return realization_of(alloc, m, truths, numbers.as_slice());
+        return found_with(alloc, m, e, truths, numbers.as_slice());
     }
     let next = &m.vars.as_slice()[numbers.len()];
+    let mut least = None;
     for number in next.lo..=next.hi {
-        match realization_with_number(alloc, m, truths, numbers, number)? {
-            Some(assignment) => return Ok(Some(assignment)),
-            None => {}
+        let found = least_with_number(alloc, m, e, truths, numbers, number)?;
+        least = lesser(least, found);
+        if is_final(&least) {
+            return Ok(least);
         }
     }
-    Ok(None)
+    Ok(least)
 }
 
 /// The same with one more number.
 #[cycle(numbers)]
-fn realization_with_number(
+fn least_with_number(
     alloc: Global,
     m: &Model,
+    e: &Earlier,
     truths: &[bool],
     numbers: &mut Vec<i64>,
     next: i64,
-) -> Result<Option<Assignment>, AllocError>
+) -> Result<Option<Found>, AllocError>
     requires truths { length truths.now ≡ truth_count (lists_of m.now) }
     requires numbers { length numbers.old.items + 1 ≤ length m.now.vars }
-    ensures found { IfOk result (λ found. IfSome found (Realizes (lists_of m.now))) }
-    ensures none { IfOk result (λ found. IfNone found (NoneContinues (lists_of m.now) truths.now
-        (numbers.old.items ++ next ∷ []))) }
-    ensures kept { IfOk result (λ found. IfNone found (numbers.new.items ≡ numbers.old.items)) }
+    ensures least { IfOk result (IsLeastAmong (Continues truths.now (numbers.old.items ++ next ∷ [])) (lists_of m.now) e.now.pairs) }
+    ensures kept { OnOk result (numbers.new.items ≡ numbers.old.items) }
 {
     numbers.push(next)?;
-    let found = realization_after(alloc, m, truths, numbers)?;
+    let found = least_after(alloc, m, e, truths, numbers)?;
     numbers.pop();
     Ok(found)
 }
 
-/// A realization with these truth values, if there is one.
-pub(crate) fn realization_with_truths(
+/// A least realization among those with these truth values, if there is one.
+pub(crate) fn least_with_truths(
     alloc: Global,
     m: &Model,
+    e: &Earlier,
     truths: &[bool],
-) -> Result<Option<Assignment>, AllocError>
+) -> Result<Option<Found>, AllocError>
     requires { length truths.now ≡ truth_count (lists_of m.now) }
-    ensures found { IfOk result (λ found. IfSome found (Realizes (lists_of m.now))) }
-    ensures none { IfOk result (λ found. IfNone found (NoneContinues (lists_of m.now) truths.now [])) }
+    ensures { IfOk result (IsLeastAmong (Continues truths.now []) (lists_of m.now) e.now.pairs) }
 {
-    realization_after(alloc, m, truths, &mut Vec::new(alloc))
+    least_after(alloc, m, e, truths, &mut Vec::new(alloc))
 }

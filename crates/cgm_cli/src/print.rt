@@ -3,7 +3,7 @@ ghost use Rattle.std.specs.String.{string_bytes};
 ghost use Rattle.cgm_base.specs.declared.status.Status.TheVariants as statuses;
 ghost use Rattle.cgm_cli.specs.Outcome.{printing, IsTold, PrintsReport, TellsOrLacksMemory};
 ghost use Rattle.cgm_cli.specs.Placed.{placed_line, placed_status};
-ghost use Rattle.cgm_cli.specs.Report.{text_fault, limit_fault, memory_fault};
+ghost use Rattle.cgm_cli.specs.Report.{text_fault, earlier_fault, limit_fault, memory_fault};
 
 use cgm_base::{BadKind, Limit, Status};
 use cgm_shelf::{Sink, write_whole};
@@ -46,6 +46,8 @@ pub fn tell_memory<O: Sink>(out: &mut O) -> Status
 pub(crate) enum PlacedFault {
     /// The first faulty line of a model text, from 1, and what is wrong with it.
     Text { line: u32, kind: BadKind },
+    /// The first faulty line of an earlier text, from 1, and what is wrong with it.
+    Earlier { line: u32, kind: BadKind },
     /// A limit that was passed.
     Limit(Limit),
 }
@@ -56,6 +58,7 @@ impl PlacedFault {
     {
         match self {
             PlacedFault::Text { .. } => Status::Text,
+            PlacedFault::Earlier { .. } => Status::Earlier,
             PlacedFault::Limit(_) => Status::Limit,
         }
     }
@@ -65,6 +68,7 @@ impl PlacedFault {
     {
         match self {
             PlacedFault::Text { line, kind } => text_line(alloc, line, kind),
+            PlacedFault::Earlier { line, kind } => earlier_line(alloc, line, kind),
             PlacedFault::Limit(limit) => limit_line(alloc, limit),
         }
     }
@@ -75,6 +79,13 @@ fn text_line(alloc: Global, line: u32, kind: BadKind) -> Result<String, AllocErr
 {
     let word = kind.word();
     format!(in alloc; "fault text {line} {word}\n")
+}
+
+fn earlier_line(alloc: Global, line: u32, kind: BadKind) -> Result<String, AllocError>
+    ensures { IfOk result (λ told. string_bytes told ≡ earlier_fault line kind) }
+{
+    let word = kind.word();
+    format!(in alloc; "fault earlier {line} {word}\n")
 }
 
 fn limit_line(alloc: Global, limit: Limit) -> Result<String, AllocError>

@@ -1,9 +1,14 @@
 ghost use Rattle.std.specs.Prelude.{◌≡◌, ◌++◌, length, OnOk, IfOk};
 ghost use Rattle.cgm_model.specs.Assignment.{Fits};
 ghost use Rattle.cgm_model.specs.Model.{lists_of};
-ghost use Rattle.cgm_cli.specs.Report.{element_word, truth_word, found_line, element_lines, refinement_lines, variable_line, variable_lines, realized};
+ghost use Rattle.cgm_text.specs.Canonical.{quantity_name, sum_name, variable_name};
+ghost use Rattle.cgm_cli.specs.Report.{element_word, truth_word, objective_word, found_line, number_line, element_lines, refinement_lines, variable_lines, sum_lines};
+ghost use Rattle.cgm_cli.specs.Shown.{shown, shown_line, shown_report, vector_lines};
 
-use cgm_model::{Assignment, Element, ElementKind, Model, Refinement, Variable};
+use crate::found::Found;
+use cgm_model::{
+    Element, ElementKind, Model, Objective, Quantity, Refinement, Sum, Variable, sums,
+};
 use std::alloc::{AllocError, Global};
 
 fn element_word(kind: ElementKind) -> &'static str
@@ -66,17 +71,20 @@ fn push_refinements(
     Ok(())
 }
 
-/// Adds the line of one variable's number.
+/// Adds the line of one number.
 fn push_number(
     alloc: Global,
     report: &mut Vec<u8>,
+    word: &str,
     name: &[u8],
-    number: i64,
+    number: i128,
 ) -> Result<(), AllocError>
-    ensures { OnOk result (report.new.items ≡ report.old.items ++ variable_line name.now number) }
+    ensures { OnOk result (report.new.items ≡ report.old.items ++ number_line word.now name.now
+        number) }
 {
     let digits = format!(in alloc; "{number}")?;
-    report.extend_from_slice(b"var ")?;
+    report.extend_from_slice(word.as_bytes())?;
+    report.extend_from_slice(b" ")?;
     report.extend_from_slice(name)?;
     report.extend_from_slice(b" ")?;
     report.extend_from_slice(digits.as_bytes())?;
@@ -94,17 +102,131 @@ fn push_variables(
         numbers.now) }
 {
     for (at, variable) in vars.iter().enumerate() {
-        push_number(alloc, report, variable.name.as_slice(), numbers[at])?;
+        let number = i128::from(numbers[at]);
+        push_number(alloc, report, "var", variable.name.as_slice(), number)?;
+    }
+    Ok(())
+}
+
+fn push_sums(
+    alloc: Global,
+    report: &mut Vec<u8>,
+    sums: &[Sum],
+    values: &[i64],
+) -> Result<(), AllocError>
+    requires { length values.now ≡ length sums.now }
+    ensures { OnOk result (report.new.items ≡ report.old.items ++ sum_lines sums.now values.now) }
+{
+    for (at, sum) in sums.iter().enumerate() {
+        let value = i128::from(values[at]);
+        push_number(alloc, report, "sum", sum.name.as_slice(), value)?;
+    }
+    Ok(())
+}
+
+fn objective_word(max: bool) -> &'static str
+    ensures { result.now ≡ objective_word max }
+{
+    if max {
+        "objective max"
+    } else {
+        "objective min"
+    }
+}
+
+/// The name of a variable, or an empty one where there is no such variable.
+fn variable_name(m: &Model, k: u32) -> &[u8]
+    ensures { result.now ≡ variable_name (lists_of m.now) k }
+{
+    match m.vars.as_slice().get(k as usize) {
+        None => b"",
+        Some(variable) => variable.name.as_slice(),
+    }
+}
+
+/// The name of a sum, or an empty one where there is no such sum.
+fn sum_name(m: &Model, k: u32) -> &[u8]
+    ensures { result.now ≡ sum_name (lists_of m.now) k }
+{
+    match m.sums.as_slice().get(k as usize) {
+        None => b"",
+        Some(sum) => sum.name.as_slice(),
+    }
+}
+
+/// The name of a variable or a sum, or the word of a built-in quantity.
+fn quantity_name(m: &Model, q: Quantity) -> &[u8]
+    ensures { result.now ≡ quantity_name (lists_of m.now) q }
+{
+    match q {
+        Quantity::Var(k) => variable_name(m, k),
+        Quantity::Sum(k) => sum_name(m, k),
+        Quantity::Weight => b"weight",
+        Quantity::UnsatPrefs => b"unsat_prefs",
+        Quantity::UnsatReqs => b"unsat_reqs",
+        Quantity::SatTasks => b"sat_tasks",
+        Quantity::Familiarity => b"familiarity",
+        Quantity::Effort => b"effort",
+    }
+}
+
+/// The quantity of an objective's number in a vector.
+fn shown(max: bool, number: i64) -> i128
+    ensures { result ≡ shown max number }
+{
+    let number = i128::from(number);
+    if max { -number } else { number }
+}
+
+/// Adds the line of an objective with its number in a vector.
+fn push_objective(
+    alloc: Global,
+    report: &mut Vec<u8>,
+    m: &Model,
+    objective: &Objective,
+    number: i64,
+) -> Result<(), AllocError>
+    ensures { OnOk result (report.new.items ≡ report.old.items ++ shown_line (lists_of m.now)
+        objective.now number) }
+{
+    let word = objective_word(objective.max);
+    let name = quantity_name(m, objective.of);
+    push_number(alloc, report, word, name, shown(objective.max, number))
+}
+
+fn push_objectives(
+    alloc: Global,
+    report: &mut Vec<u8>,
+    m: &Model,
+    objectives: &[Objective],
+    vector: &[i64],
+) -> Result<(), AllocError>
+    requires { length vector.now ≡ length objectives.now }
+    ensures { OnOk result (report.new.items ≡ report.old.items ++ vector_lines (lists_of m.now)
+        objectives.now vector.now) }
+{
+    for (at, objective) in objectives.iter().enumerate() {
+        push_objective(alloc, report, m, objective, vector[at])?;
     }
     Ok(())
 }
 
 /// The report of a realization.
-pub(crate) fn realized(alloc: Global, m: &Model, a: &Assignment) -> Result<Vec<u8>, AllocError>
-    requires { Fits (lists_of m.now) a.now }
-    ensures { IfOk result (λ report. report.items ≡ realized (lists_of m.now) a.now) }
+pub(crate) fn realized(alloc: Global, m: &Model, found: &Found) -> Result<Vec<u8>, AllocError>
+    requires fits { Fits (lists_of m.now) found.now.assignment }
+    requires vector { length found.now.vector.items ≡ length m.now.objectives }
+    ensures { IfOk result (λ report. report.items ≡ shown_report (lists_of m.now) found.now) }
 {
+    let a = &found.assignment;
+    let values = sums(alloc, m, a)?;
     let mut report = Vec::from_slice(alloc, b"realized\n")?;
+    push_objectives(
+        alloc,
+        &mut report,
+        m,
+        m.objectives.as_slice(),
+        found.vector.as_slice(),
+    )?;
     push_elements(&mut report, m.elements.as_slice(), a.elements.as_slice())?;
     push_refinements(
         &mut report,
@@ -112,5 +234,6 @@ pub(crate) fn realized(alloc: Global, m: &Model, a: &Assignment) -> Result<Vec<u
         a.refinements.as_slice(),
     )?;
     push_variables(alloc, &mut report, m.vars.as_slice(), a.vars.as_slice())?;
+    push_sums(alloc, &mut report, m.sums.as_slice(), values.as_slice())?;
     Ok(report)
 }

@@ -1,6 +1,6 @@
 // Words, files and texts that the program refuses, and outputs that fail.
 use crate::runs::{
-    FIRST, all_print, has_printed, owned_words, run_on_text, shelf_of, sink_of_pieces,
+    FIRST, FIRST_REPORT, all_print, has_printed, owned_words, run_on_text, shelf_of, sink_of_pieces,
 };
 use cgm_base::Status;
 use cgm_cli::run_quiet;
@@ -23,6 +23,22 @@ fn usage_faults(rt: HostRuntime) -> Result<(), Fail> {
         &["solve", "-first.cgm"],
         &["first.cgm"],
         &["solve", "first.cgm", "--workers=17"],
+        &["solve", "first.cgm", "--earlier"],
+        &["solve", "first.cgm", "-earlier=old.txt"],
+        &["solve", "first.cgm", "--Earlier=old.txt"],
+        &["solve", "first.cgm", "--earl=old.txt"],
+        &["solve", "--earlier=old.txt"],
+        &["solve", "--earlier", "first.cgm"],
+        &[
+            "solve",
+            "first.cgm",
+            "--earlier=old.txt",
+            "--earlier=old.txt",
+        ],
+        &["show", "first.cgm", "--earlier=old.txt"],
+        &["solve", "first.cgm", "--help"],
+        &["solve", "first.cgm", "-h"],
+        &["--version"],
     ];
     for words in rows {
         let mut shelf = shelf_of(alloc, "first.cgm", FIRST.as_bytes(), Vec::new(alloc))?;
@@ -31,6 +47,32 @@ fn usage_faults(rt: HostRuntime) -> Result<(), Fail> {
         let status = run_quiet(alloc, owned.as_slice(), &mut shelf, &mut sink);
         assert_eq!(rt; status, Status::Usage);
         assert!(rt; has_printed(&sink, "fault usage\n"));
+    }
+    Ok(())
+}
+
+// Options may stand before and behind the model's name, with or without `=`, and after `--` there
+// are none.
+#[test]
+fn words_in_other_orders(rt: HostRuntime) -> Result<(), Fail> {
+    let alloc = rt.alloc();
+    let rows: [&[&str]; 7] = [
+        &["solve", "first.cgm", "--earlier=old.txt"],
+        &["solve", "--earlier=old.txt", "first.cgm"],
+        &["solve", "first.cgm", "--earlier", "old.txt"],
+        &["solve", "--earlier", "old.txt", "first.cgm"],
+        &["solve", "--", "first.cgm"],
+        &["solve", "--earlier=old.txt", "--", "first.cgm"],
+        &["solve", "first.cgm", "--"],
+    ];
+    for words in rows {
+        let mut shelf = shelf_of(alloc, "first.cgm", FIRST.as_bytes(), Vec::new(alloc))?;
+        shelf.put("old.txt", b"earlier 1\n")?;
+        let mut sink = sink_of_pieces(alloc);
+        let owned = owned_words(alloc, words)?;
+        let status = run_quiet(alloc, owned.as_slice(), &mut shelf, &mut sink);
+        assert_eq!(rt; status, Status::Done);
+        assert!(rt; has_printed(&sink, FIRST_REPORT));
     }
     Ok(())
 }
@@ -122,12 +164,6 @@ fn cycle(rt: HostRuntime) -> Result<(), Fail> {
 }
 
 #[test]
-fn sum_not_yet(rt: HostRuntime) -> Result<(), Fail> {
-    let rows = [("cgm 1\nsum cost\n", "fault text 2 not-yet\n")];
-    all_tell(&rt, rt.alloc(), Status::Text, &rows)
-}
-
-#[test]
 fn number_past_64_bits(rt: HostRuntime) -> Result<(), Fail> {
     let rows = [(
         "cgm 1\nvar x 0 9223372036854775808\n",
@@ -152,7 +188,10 @@ fn word_of_each_kind(rt: HostRuntime) -> Result<(), Fail> {
         ("cgm 1\ntask 1T\n", "fault text 2 bad-number\n"),
         ("\ntask T\n", "fault text 2 header\n"),
         ("cgm 1\nfly T\n", "fault text 2 statement\n"),
-        ("cgm 1\n\nobjective min T\n", "fault text 3 not-yet\n"),
+        (
+            "cgm 1\n\nobjective min T\n",
+            "fault text 3 unknown-name\n",
+        ),
         ("cgm 1\ntask T U\n", "fault text 2 form\n"),
         ("cgm 1\nassert T true\n", "fault text 2 unknown-name\n"),
         (
@@ -169,6 +208,10 @@ fn word_of_each_kind(rt: HostRuntime) -> Result<(), Fail> {
         (
             "cgm 1\nvar X 0 1\nrequire (<= (+ X X) 1)\n",
             "fault text 3 double-term\n",
+        ),
+        (
+            "cgm 1\ntask T\ninterest T\ninterest T\n",
+            "fault text 4 double-interest\n",
         ),
         (
             "cgm 1\ngoal G\ntask T\nrefine R T : G\n",

@@ -4,8 +4,8 @@ use Rattle.cgm_cli.specs.Search.{truth_count}
 use Rattle.cgm_cli.proofs.search.+search.Given as goal
 
 -- how many truth values are left to choose, twice, since two functions take turns
-abbrev pub decreases-realization_from : goal.decreases-realization_from
-decreases-realization_from l = 2 * (truth_count (lists_of l.m.now) - length l.truths.now.items)
+abbrev pub decreases-least_from : goal.decreases-least_from
+decreases-least_from l = 2 * (truth_count (lists_of l.m.now) - length l.truths.now.items)
 
-abbrev pub decreases-realization_with : goal.decreases-realization_with
-decreases-realization_with l = 2 * (truth_count (lists_of l.m.now) - length l.truths.now.items) - 1
+abbrev pub decreases-least_with : goal.decreases-least_with
+decreases-least_with l = 2 * (truth_count (lists_of l.m.now) - length l.truths.now.items) - 1

@@ -1,0 +1,75 @@
+// The words that each command takes, as options of the kit's parser of command lines.
+ghost use Rattle.std.specs.Prelude.{◌≡◌, IfOk, true, map, option_map};
+ghost use Rattle.std.specs.String.{string_bytes};
+ghost use Rattle.clap.specs.Words.{app_of, first_of, found_of, is_simple_and_free, rows_of, with_rule};
+ghost use Rattle.cgm_cli.specs.CommandLine.{given, option, positional, show_options, solve_options};
+
+use clap::error::ErrorKind;
+use clap::{Arg, ArgMatches, Command, Error};
+use std::alloc::{AllocError, Global};
+
+/// The options with one more word that is wanted in its place.
+fn with_positional<'w>(
+    alloc: Global,
+    options: Command<'w>,
+    id: &'w str,
+) -> Result<Command<'w>, AllocError>
+    ensures { IfOk result (λ more. app_of more ≡ with_rule (app_of options.entry) (positional id.now)) }
+{
+    options.arg(Arg::new(alloc, id).required(true))
+}
+
+/// The options with `--NAME=VALUE`, which may be left out.
+fn with_option<'w>(
+    alloc: Global,
+    options: Command<'w>,
+    name: &'w str,
+) -> Result<Command<'w>, AllocError>
+    ensures { IfOk result (λ more. app_of more ≡ with_rule (app_of options.entry) (option name.now)) }
+{
+    options.arg(Arg::new(alloc, name).long(name))
+}
+
+/// `solve MODEL --earlier=FILE`
+pub(crate) fn solve_options<'w>(alloc: Global) -> Result<Command<'w>, AllocError>
+    ensures { IfOk result (λ options. app_of options ≡ solve_options) }
+{
+    let word = Command::new(alloc, "solve").disable_help_flag(true);
+    let with_model = with_positional(alloc, word, "model")?;
+    with_option(alloc, with_model, "earlier")
+}
+
+/// `show MODEL`
+pub(crate) fn show_options<'w>(alloc: Global) -> Result<Command<'w>, AllocError>
+    ensures { IfOk result (λ options. app_of options ≡ show_options) }
+{
+    let word = Command::new(alloc, "show").disable_help_flag(true);
+    with_positional(alloc, word, "model")
+}
+
+/// What the words, of which the first is the command's, give to each name; none where they aren't
+/// what the command takes.
+pub(crate) fn given<'w>(
+    options: Command<'w>,
+    words: &'w [String],
+) -> Result<Option<ArgMatches<'w>>, AllocError>
+    requires { is_simple_and_free (app_of options) ≡ true }
+    ensures { IfOk result (λ found. option_map (λ matches. rows_of (found_of matches)) found
+        ≡ given (app_of options.entry) (map string_bytes words.now)) }
+{
+    match options.try_get_matches_from(words) {
+        Ok(matches) => Ok(Some(matches)),
+        Err(error) => match error.kind() {
+            ErrorKind::OutOfMemory => Err(AllocError),
+            _ => Ok(None),
+        },
+    }
+}
+
+/// What the words gave to a name, if anything.
+pub(crate) fn text_given<'w>(matches: &ArgMatches<'w>, name: &str) -> Option<&'w str>
+    ensures { option_map (λ text. text.now) result ≡ first_of name.now (rows_of (found_of
+        matches.now)) }
+{
+    matches.get_str(name)
+}

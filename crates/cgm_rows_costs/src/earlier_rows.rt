@@ -55,7 +55,9 @@ fn interests(rt: HostRuntime) -> Result<(), Fail> {
         ("earlier 1\nA false\nG false\n", (2, 1)),
     ];
     for (earlier, (familiarity, effort)) in rows {
-        let report = format!(in rt.alloc(); "realized\nobjective min familiarity {familiarity}\nobjective min effort {effort}\n{found}")?;
+        let report = format!(in rt.alloc();
+            "realized\nobjective min familiarity {familiarity}\nobjective min effort {effort}\n{found}"
+        )?;
         let row = [(earlier, report.as_str())];
         all_print_after(&rt, rt.alloc(), model, Status::Done, &row)?;
     }
@@ -150,7 +152,10 @@ fn order_of_refusals(rt: HostRuntime) -> Result<(), Fail> {
     ];
     for (words, model, status, printed) in rows {
         let (ended, sink) = run_words(alloc, words, model, b"faulty")?;
-        assert!(rt; ended == status && has_printed(&sink, printed), "at {model}");
+        assert!(rt;
+            ended == status && has_printed(&sink, printed),
+            "at {model}"
+        );
     }
     Ok(())
 }

@@ -54,7 +54,10 @@ pub(crate) fn all_print(
 ) -> Result<(), Fail> {
     for (model, printed) in rows {
         let (ended, sink) = run_words(alloc, &["solve", "model.cgm"], model, b"")?;
-        assert!(rt; ended == status && has_printed(&sink, printed), "at {model}");
+        assert!(rt;
+            ended == status && has_printed(&sink, printed),
+            "at {model}"
+        );
     }
     Ok(())
 }
@@ -70,7 +73,10 @@ pub(crate) fn all_print_after(
     let words = ["solve", "model.cgm", "--earlier=old.txt"];
     for (earlier, printed) in rows {
         let (ended, sink) = run_words(alloc, &words, model, earlier.as_bytes())?;
-        assert!(rt; ended == status && has_printed(&sink, printed), "at {earlier}");
+        assert!(rt;
+            ended == status && has_printed(&sink, printed),
+            "at {earlier}"
+        );
     }
     Ok(())
 }

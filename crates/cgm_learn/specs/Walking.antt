@@ -1,5 +1,5 @@
 -- The walk back over a trail: the box that is still needed for the conflict, and the hints that lead from it to conflict.
-use Rattle.std.specs.Prelude.{◌≡◌, ◌≢◌, Bool, true, false, cond, ℕ, ◌+◌, ◌<◌, ◌≤◌, ◌≤ℤ◌, List, [], ◌∷◌, length, map, take, reverse, slice_get, int_le, int_lt, ℤ, pos, ◌+ℤ◌, ◌-ℤ◌, if◌then◌else◌, IfSome, IsTrue, IsSomeAnd, Option, Some, None, Result, Ok, Err}
+use Rattle.std.specs.Prelude.{◌≡◌, ◌≢◌, Bool, true, false, cond, ℕ, ◌+◌, ◌^◌, ◌<◌, ◌≤◌, ◌≤ℤ◌, List, [], ◌∷◌, length, map, take, reverse, slice_get, int_le, int_lt, ℤ, pos, ◌+ℤ◌, ◌-ℤ◌, if◌then◌else◌, IfSome, IsTrue, IsSomeAnd, Option, Some, None, Result, Ok, Err}
 use Rattle.std.specs.List.{All}
 use Rattle.cgm_atom.specs.declared.constraints.Atom.{Atom}
 use Rattle.cgm_atom.specs.declared.entries.Entry.{Entry}
@@ -27,7 +27,7 @@ use Rattle.cgm_learn.specs.Learning.{IsKnownHint, IsNameAfter, IsOpenLemma, IsAc
 -- the log is accepted, and so are the pending lemmas after it, which have atoms
 pub record IsReady (p : Instance) (s : LogState) (lemmas : List Entry) : Type 0 where
   pub accepted : IsAcceptedState p s
-  pub lemmas : All IsOpenLemma lemmas
+  pub with_atoms : All IsOpenLemma lemmas
   pub follows : IsAcceptedAfter p s (all_placed (length s.entries) lemmas)
 
 -- the trail is one of the problem, and each change that isn't a decision has a reason
@@ -74,6 +74,7 @@ pub record IsUsable (p : Instance) (s : LogState) (lemmas : List Entry) (h : Hin
 -- the bound is the greatest that the hints carry
 pub record IsUsed (p : Instance) (s : LogState) (lemmas : List Entry) (u : Used) : Type 0 where
   pub usable : All (IsUsable p s lemmas) u.hints.items
+  pub fits : u.bound < 2 ^ 64
   pub bound : u.bound ≡ greatest_carried (state_with_pending s lemmas) (followed (length s.entries) u.hints.items)
 
 -- what is left of a box by the hints
@@ -110,7 +111,7 @@ IsCause p s lemmas b h a =
 pub record IsTurn (p : Instance) (s : LogState) (lemmas : List Entry) (t : TrailState) (rest : Bounds) (u : Used) (turn : Turn) : Type 0 where
   pub place : IsPlaceOf t turn.base
   pub decision : IsDecisionAt t turn.base.at
-  pub rest : IsRest p s lemmas turn.base.state rest u turn.atom
+  pub enough : IsRest p s lemmas turn.base.state rest u turn.atom
 
 -- one step back: the walk goes on, or it turns
 abbrev pub IsStepped : {E : Type 0} → Instance → LogState → List Entry → TrailState → Place → Bounds → Used → Result (Option Turn) E → Type 0
@@ -130,7 +131,7 @@ IsWalked p s lemmas t need u (Err e) = Unit {0}
 pub record IsExplained (limits work old new : Bounds) : Type 0 where
   pub inside : IsSmaller work new
   pub more : IsSmaller new old
-  pub limits : IsBoxOf limits new
+  pub within : IsBoxOf limits new
 
 -- the constraint leaves conflict, or a box in which the atom is true
 abbrev pub IsLedTo : Bounds → Constraint → Atom → Type 0

@@ -1,5 +1,5 @@
 //! The analysis of a conflict.
-ghost use Rattle.std.specs.Prelude.{◌≡◌, [], false, length, IfOk};
+ghost use Rattle.std.specs.Prelude.{◌≡◌, [], None, false, length, reverse, IfOk};
 ghost use Rattle.std.specs.List.{All};
 ghost use Rattle.cgm_atom.specs.Acceptance.{IsAcceptedAfter, IsAcceptedState};
 ghost use Rattle.cgm_atom.specs.Placing.{all_placed};
@@ -11,8 +11,8 @@ ghost use Rattle.cgm_trail.specs.TrailState.{box_of, level_of};
 use crate::hints::Used;
 use crate::learned::Learned;
 use crate::negations::{negations, opposite};
-use crate::places::go_back_within;
-use crate::turns::{Turn, find_turn};
+use crate::places::{Place, before_level, go_back_within};
+use crate::turns::{Turn, begin, walk};
 use cgm_atom::{BoxState, Clause, Entry, Hint, OutOfMemory, Problem, Seq};
 use cgm_step::IndexedLog;
 use cgm_trail::Trail;
@@ -54,6 +54,7 @@ pub fn analyse(
     learn(alloc, p, t, log, pending, conflict)
 }
 
+#[tactic(none)]
 fn learn(
     alloc: Global,
     p: &Problem,
@@ -70,13 +71,18 @@ fn learn(
 {
     let mut need = BoxState::of(alloc, p)?;
     let mut used = Used::new(alloc);
-    match find_turn(alloc, p, t, log, pending, conflict, &mut need, &mut used)? {
+    let mut place = Place::last(alloc, t)?;
+    let mut base = before_level(alloc, t, &place)?;
+    t.recall_trail();
+    begin(alloc, p, log, pending, conflict, &place.state, &mut need, &mut used)?;
+    match walk(alloc, p, t, log, pending, &mut base, &mut place, &mut need, &mut used)? {
         None => Ok(learn_end(alloc, p, t, log, pending, used)),
         Some(turn) => learn_turn(alloc, p, t, log, pending, turn, &need, used),
     }
 }
 
 /// The lemma without atoms.
+#[tactic(none)]
 fn learn_end(
     alloc: Global,
     p: &Problem,
@@ -91,19 +97,28 @@ fn learn_end(
     requires used { IsUsed p.now log.now pending.now used }
     ensures { IsLesson p.now log.now pending.now t.now result }
 {
-    let mut hints = used.hints;
-    hints.reverse();
+    p.recall_well_formed();
+    let none = Vec::new(alloc);
+    let atoms = Seq::of(none);
+    let hints = Seq::of(reversed(used.hints));
     Learned {
-        clause: Clause {
-            atoms: Seq::of(Vec::new(alloc)),
-        },
-        hints: Seq::of(hints),
+        clause: Clause { atoms },
+        hints,
         bound: used.bound,
         level: 0,
     }
 }
 
+fn reversed(hints: Vec<Hint>) -> Vec<Hint>
+    ensures { result.items ≡ reverse hints.items }
+{
+    let mut hints = hints;
+    hints.reverse();
+    hints
+}
+
 /// The lemma whose last atom is the negation of the one from which the rest leads to conflict.
+#[tactic(none)]
 fn learn_turn(
     alloc: Global,
     p: &Problem,
@@ -120,17 +135,18 @@ fn learn_turn(
     requires turn { IsTurn p.now log.now pending.now t.now rest.now used turn }
     ensures { IfOk result (IsLesson p.now log.now pending.now t.now) }
 {
+    p.recall_well_formed();
+    let Turn { atom, base } = turn;
+    let mut base = base;
     let mut atoms = negations(alloc, p, rest)?;
-    atoms.push(opposite(turn.atom))?;
-    let mut base = turn.base;
+    let last = opposite(atom);
+    atoms.push(last)?;
     go_back_within(t, &mut base, rest);
-    let mut hints = used.hints;
-    hints.reverse();
+    let atoms = Seq::of(atoms);
+    let hints = Seq::of(reversed(used.hints));
     Ok(Learned {
-        clause: Clause {
-            atoms: Seq::of(atoms),
-        },
-        hints: Seq::of(hints),
+        clause: Clause { atoms },
+        hints,
         bound: used.bound,
         level: base.level,
     })

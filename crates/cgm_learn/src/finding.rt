@@ -1,6 +1,7 @@
 //! What hints name where the pending lemmas follow the log.
-ghost use Rattle.std.specs.Prelude.{◌≡◌, ◌≤◌, length};
+ghost use Rattle.std.specs.Prelude.{◌≡◌, ◌≤◌, length, MatchOption};
 ghost use Rattle.cgm_atom.specs.Placing.{placed};
+ghost use Rattle.cgm_atom.specs.Ranges.{IsPlaced};
 ghost use Rattle.cgm_atom.specs.declared.entries.Hint.TheVariants as hint;
 ghost use Rattle.cgm_learn.specs.Learning.{IsKnownHint, state_with_pending};
 ghost use Rattle.cgm_learn.specs.Walking.{IsReady};
@@ -20,9 +21,22 @@ pub(crate) fn find_after<'l>(
     requires known { IsKnownHint (length log.now.entries) (length pending.now) h.now }
     ensures { IsFound p.now (state_with_pending log.now pending.now) (placed (length log.now.entries) h.now) result }
 {
+    match own_number(h) {
+        Some(i) => find_pending(p, log, pending, i),
+        None => log.find(p, h),
+    }
+}
+
+/// The number of the pending lemma that a hint names, if it names one.
+fn own_number(h: &Hint) -> Option<u32>
+    ensures { MatchOption result (IsPlaced h.now) (λ i. h.now ≡ hint.Own i) }
+{
     match *h {
-        Hint::Own(i) => find_pending(p, log, pending, i),
-        _ => log.find(p, h),
+        Hint::Own(i) => Some(i),
+        Hint::Clause(_) => None,
+        Hint::Row(_) => None,
+        Hint::Entry(_) => None,
+        Hint::Cut { .. } => None,
     }
 }
 

@@ -1,5 +1,5 @@
 //! The hints that an analysis has used.
-ghost use Rattle.std.specs.Prelude.{◌≡◌, ◌++◌, ◌∷◌, [], max, IfOk, OnOk, OnErr};
+ghost use Rattle.std.specs.Prelude.{◌≡◌, ◌++◌, ◌∷◌, ◌<◌, ◌^◌, [], max, OnOk};
 ghost use Rattle.cgm_atom.specs.Ranges.{IsHintInRange};
 
 use cgm_atom::{Hint, OutOfMemory};
@@ -27,6 +27,7 @@ impl Used {
     pub(crate) fn add(&mut self, h: Hint, carried: u64) -> Result<(), OutOfMemory>
         ensures hints { OnOk result (self.new.hints.items ≡ self.old.hints.items ++ h ∷ []) }
         ensures bound { OnOk result (self.new.bound ≡ max carried self.old.bound) }
+        ensures fits { OnOk result (self.new.bound < 2 ^ 64) }
     {
         self.hints.push(h)?;
         self.bound = carried.max(self.bound);

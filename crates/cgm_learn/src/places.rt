@@ -131,6 +131,8 @@ pub(crate) fn go_back_within(t: &Trail, place: &mut Place, rest: &BoxState)
 pub(crate) fn is_inside(inner: &BoxState, outer: &BoxState, vars: u32) -> bool
     requires inner { length inner.now.lower ≡ vars }
     requires outer { length outer.now.lower ≡ vars }
+    requires inner_upper { length inner.now.upper ≡ vars }
+    requires outer_upper { length outer.now.upper ≡ vars }
     ensures { IsTrue result → IsSmaller inner.now outer.now }
 {
     for v in 0..vars {

@@ -1,12 +1,11 @@
 //! The walk back over a trail to the first place where one atom of its level is enough.
-ghost use Rattle.std.specs.Prelude.{◌≡◌, ◌+◌, ◌<◌, ◌≤◌, [], length, true, false, IfOk, IsTrue, OnOk};
+ghost use Rattle.std.specs.Prelude.{◌≡◌, ◌+◌, ◌<◌, ◌≤◌, [], length, IsTrue, OnOk};
 ghost use Rattle.cgm_atom.specs.Bounds.{IsBoxOf};
 ghost use Rattle.cgm_atom.specs.Instance.{var_count};
 ghost use Rattle.cgm_atom.specs.Laws.{IsSmaller};
 ghost use Rattle.cgm_atom.specs.Relaxing.{at_bound_of, relaxed};
 ghost use Rattle.cgm_learn.specs.Learning.{IsConflictIn};
 ghost use Rattle.cgm_learn.specs.Walking.{IsCause, IsDecisionAt, IsNeeded, IsPlaceOf, IsReady, IsReasoned, IsRest, IsStepped, IsWalk, IsWalked};
-ghost use Rattle.cgm_trail.specs.TrailState.{box_of};
 
 use crate::explaining::{explain_atom, explain_conflict};
 use crate::finding::find_after;
@@ -36,6 +35,19 @@ pub(crate) fn at_bound(b: &BoxState, a: Atom) -> Atom
     }
 }
 
+/// The atom of the same variable and direction at the number that the problem's bounds have there.
+fn at_limit(p: &Problem, a: Atom) -> Atom
+    requires { a.var.0 < var_count p.now }
+    ensures { result ≡ at_bound_of p.now.bounds a }
+{
+    let (lo, hi) = p.bounds(a.var);
+    Atom {
+        var: a.var,
+        at_least: a.at_least,
+        k: if a.at_least { lo } else { hi },
+    }
+}
+
 /// Gives the bound that an atom speaks of the number that it has in the problem.
 fn free(p: &Problem, need: &mut BoxState, a: Atom)
     requires known { a.var.0 < var_count p.now }
@@ -43,12 +55,7 @@ fn free(p: &Problem, need: &mut BoxState, a: Atom)
     ensures freed { need.new ≡ relaxed need.old (at_bound_of p.now.bounds a) }
     ensures limits { IsBoxOf p.now.bounds need.new }
 {
-    let (lo, hi) = p.bounds(a.var);
-    need.relax(Atom {
-        var: a.var,
-        at_least: a.at_least,
-        k: if a.at_least { lo } else { hi },
-    });
+    need.relax(at_limit(p, a));
 }
 
 /// Whether the walk turns with an earlier place: its box lies in the rest, and a decision follows it.
@@ -70,33 +77,33 @@ fn is_enough(p: &Problem, t: &Trail, base: &Place, place: &Place, rest: &BoxStat
     is_inside(&base.state, rest, p.vars())
 }
 
-/// Begins with what the conflict needs.
-fn begin(
+/// Begins with what the conflict needs of the last place's box.
+pub(crate) fn begin(
     alloc: Global,
     p: &Problem,
-    t: &Trail,
     log: &IndexedLog<'_>,
     pending: &[Entry],
     conflict: &Hint,
+    work: &BoxState,
     need: &mut BoxState,
     used: &mut Used,
-) -> Result<Place, OutOfMemory>
+) -> Result<(), OutOfMemory>
     requires ready { IsReady p.now log.now pending.now }
-    requires reasoned { IsReasoned p.now log.now pending.now t.now }
-    requires conflict { IsConflictIn p.now log.now pending.now (box_of t.now) conflict.now }
+    requires limits { IsBoxOf p.now.bounds work.now }
+    requires conflict { IsConflictIn p.now log.now pending.now work.now conflict.now }
     requires whole { need.old ≡ p.now.bounds }
     requires no_hints { used.old.hints.items ≡ [] }
     requires no_bound { used.old.bound ≡ 0 }
-    ensures { IfOk result (λ place. IsWalk p.now log.now pending.now t.now place need.new used.new) }
+    ensures { OnOk result (IsNeeded p.now log.now pending.now work.now need.new used.new) }
 {
-    let place = Place::last(alloc, t)?;
+    p.recall_well_formed();
     match find_after(p, log, pending, conflict) {
-        None => Ok(place),
+        None => Ok(()),
         Some(found) => {
-            explain_conflict(alloc, p, found.named, &place.state, need)?;
+            explain_conflict(alloc, p, found.named, work, need)?;
             recall_range(*conflict);
             used.add(*conflict, found.carried)?;
-            Ok(place)
+            Ok(())
         }
     }
 }
@@ -124,12 +131,14 @@ fn resolve(
         Some(found) => {
             explain_atom(alloc, p, found.named, a, work, need)?;
             recall_range(*h);
-            used.add(*h, found.carried)
+            used.add(*h, found.carried)?;
+            Ok(())
         }
     }
 }
 
 /// One change back.
+#[tactic(none)]
 fn go_back(
     alloc: Global,
     p: &Problem,
@@ -174,71 +183,43 @@ fn go_back(
     }
 }
 
-/// The place before the level of the present one, where the one so far is no longer before it.
-fn renewed(
-    alloc: Global,
-    t: &Trail,
-    base: Place,
-    place: &Place,
-) -> Result<Place, OutOfMemory>
-    requires base { IsPlaceOf t.now base }
+/// Moves the base before the level of the present place, where it is no longer before it.
+fn renew(alloc: Global, t: &Trail, base: &mut Place, place: &Place) -> Result<(), OutOfMemory>
+    requires base { IsPlaceOf t.now base.old }
     requires place { IsPlaceOf t.now place.now }
-    ensures { IfOk result (λ w. IsPlaceOf t.now w) }
+    ensures { IsPlaceOf t.now base.new }
 {
-    if base.at < place.at {
-        return Ok(base);
+    if base.at >= place.at {
+        *base = before_level(alloc, t, place)?;
     }
-    before_level(alloc, t, place)
+    Ok(())
 }
 
 /// The walk from what the conflict needs to where it turns. Without a turn the hints lead from the problem's own bounds
 /// to conflict.
-fn walk(
+pub(crate) fn walk(
     alloc: Global,
     p: &Problem,
     t: &Trail,
     log: &IndexedLog<'_>,
     pending: &[Entry],
-    place: Place,
+    base: &mut Place,
+    place: &mut Place,
     need: &mut BoxState,
     used: &mut Used,
 ) -> Result<Option<Turn>, OutOfMemory>
     requires ready { IsReady p.now log.now pending.now }
     requires reasoned { IsReasoned p.now log.now pending.now t.now }
-    requires walk { IsWalk p.now log.now pending.now t.now place need.old used.old }
+    requires walk { IsWalk p.now log.now pending.now t.now place.old need.old used.old }
+    requires base { IsPlaceOf t.now base.old }
     ensures { IsWalked p.now log.now pending.now t.now need.new used.new result }
 {
-    let mut place = place;
-    let mut base = before_level(alloc, t, &place)?;
     while place.at > 0 {
-        base = renewed(alloc, t, base, &place)?;
-        match go_back(alloc, p, t, log, pending, &base, &mut place, need, used)? {
+        renew(alloc, t, base, place)?;
+        match go_back(alloc, p, t, log, pending, base, place, need, used)? {
             Some(turn) => return Ok(Some(turn)),
             None => {}
         }
     }
     Ok(None)
-}
-
-/// The walk from the conflict to where it turns.
-pub(crate) fn find_turn(
-    alloc: Global,
-    p: &Problem,
-    t: &Trail,
-    log: &IndexedLog<'_>,
-    pending: &[Entry],
-    conflict: &Hint,
-    need: &mut BoxState,
-    used: &mut Used,
-) -> Result<Option<Turn>, OutOfMemory>
-    requires ready { IsReady p.now log.now pending.now }
-    requires reasoned { IsReasoned p.now log.now pending.now t.now }
-    requires conflict { IsConflictIn p.now log.now pending.now (box_of t.now) conflict.now }
-    requires whole { need.old ≡ p.now.bounds }
-    requires no_hints { used.old.hints.items ≡ [] }
-    requires no_bound { used.old.bound ≡ 0 }
-    ensures { IsWalked p.now log.now pending.now t.now need.new used.new result }
-{
-    let place = begin(alloc, p, t, log, pending, conflict, need, used)?;
-    walk(alloc, p, t, log, pending, place, need, used)
 }

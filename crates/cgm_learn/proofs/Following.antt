@@ -1,6 +1,6 @@
 -- Hints that are followed from a box: one hint more, and what is needed for conflict.
 use Rattle.std.proofs.Common.{◌≡◌, ℕ, zero, suc, ◌^◌, ◌<◌, ◌≤◌, Bool, true, false, max, List, [], ◌∷◌, ◌++◌, length, map, take, refl, ap, sym, ◌∙◌, subst, arith}
-use Rattle.std.specs.Prelude.{IfSome, IsSomeAnd, IsTrue, reverse, slice_get}
+use Rattle.std.specs.Prelude.{IfSome, IfOk, IsErrAnd, IsSomeAnd, IsTrue, OnOk, Result, Ok, Err, reverse, slice_get}
 use Rattle.std.specs.declared.option.Option.{Option}
 use Rattle.std.specs.declared.option.Option.TheVariants.{Some, None}
 use Rattle.std.specs.List.{All}
@@ -33,7 +33,7 @@ use Rattle.cgm_learn.specs.declared.hints.Used.{Used}
 use Rattle.cgm_learn.specs.declared.places.Place.{Place}
 use Rattle.cgm_learn.specs.declared.turns.Turn.{Turn}
 use Rattle.cgm_learn.specs.Learning.{IsConflictIn, IsKnownHint, IsNameAfter, named_after, state_with_pending}
-use Rattle.cgm_learn.specs.Walking.{IsCause, IsDecisionAt, IsExplained, IsLedTo, IsNeeded, IsPlaceOf, IsReasoned, IsRest, IsTurn, IsUsable, IsUsed, IsWalk, followed, is_met_before, left_by_used}
+use Rattle.cgm_learn.specs.Walking.{IsCause, IsDecisionAt, IsExplained, IsLedTo, IsNeeded, IsPlaceOf, IsReasoned, IsRest, IsStepped, IsTurn, IsUsable, IsUsed, IsWalk, followed, is_met_before, left_by_used}
 use Rattle.cgm_learn.proofs.Boxes.{open_before, open_in_larger, rejoined, rest_before, smaller_before, true_at_need}
 use Rattle.cgm_learn.proofs.Changes.{IsNext, earlier_larger, next_place, place_limits, reason_at}
 
@@ -228,3 +228,17 @@ walked p s lemmas t w need u same e far =
       smaller_refuted p s lemmas u p.bounds need (subst (λ b. IsSmaller b need) state far.needed.inside) far.needed.refuted,
       far.needed.used,
     )
+
+-- ---- want of memory
+
+pub on_none : {T E : Type 0} (P : E → Type 0) (X : Type 0) (r : Result T E) → IsErrAnd r P → OnOk r X
+on_none P X (Ok x) h = absurd h
+on_none P X (Err e) h = tt
+
+pub none_stepped : {E : Type 0} (P : E → Type 0) (p : Instance) (s : LogState) (lemmas : List Entry) (t : TrailState) (w : Place) (need : Bounds) (u : Used) (r : Result (Option Turn) E) → IsErrAnd r P → IsStepped p s lemmas t w need u r
+none_stepped P p s lemmas t w need u (Ok o) h = absurd h
+none_stepped P p s lemmas t w need u (Err e) h = tt
+
+pub if_none : {T E : Type 0} (P : E → Type 0) (X : T → Type 0) (r : Result T E) → IsErrAnd r P → IfOk r X
+if_none P X (Ok x) h = absurd h
+if_none P X (Err e) h = tt

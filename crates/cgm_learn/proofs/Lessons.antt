@@ -127,7 +127,7 @@ not_none None h = absurd (h refl)
 not_none (Some k) h = refl
 
 usable_there : (p : Instance) (s : LogState) (lemmas : List Entry) (h : Hint) → IsUsable p s lemmas h → is_none (named p (state_with_pending s lemmas) (placed (length s.entries) h)) ≡ false
-usable_there p s lemmas h use = not_none (named_after p s lemmas h) use.there
+usable_there p s lemmas h name = not_none (named_after p s lemmas h) name.there
 
 -- the lemma with these atoms and the hints that were used
 record IsMade (l : Learned) (atoms : List Atom) (u : Used) : Type 0 where

@@ -6,6 +6,7 @@ use Rattle.std.proofs.lemmas.Bool.{cases_lt}
 use Rattle.std.proofs.lemmas.Int.{ints}
 use Rattle.std.proofs.lemmas.List.Elements.{All-append, All-cons, All-head, All-nil}
 use Rattle.cgm_atom.specs.declared.constraints.Atom.{Atom}
+use Rattle.cgm_atom.specs.declared.constraints.Var.{Var}
 use Rattle.cgm_atom.specs.Bounds.{Bounds, lower_of, upper_of}
 use Rattle.cgm_atom.specs.ClauseAtoms.{AreKnown}
 use Rattle.cgm_atom.specs.Laws.{IsSmaller}
@@ -102,3 +103,18 @@ negations_step limits rest x atoms next far e known small sizes =
           (λ less. far.covered b smaller (all_front (λ a. is_false_in b a ≡ true) atoms lows front) y less)
           (low.covered b smaller (all_back (λ a. is_false_in b a ≡ true) atoms lows front), high.covered b smaller (all_back (λ a. is_false_in b a ≡ true) (atoms ++ lows) highs falses));
     })
+
+-- ---- a negation that is added
+
+lt_true : (a b : ℤ) → a <ℤ b → int_lt a b ≡ true
+lt_true a b h = lt_is_true a b h
+
+pub lower_when : (limits rest : Bounds) (x : Var) (l g k : ℤ) → l ≡ lower_of limits x.0 → g ≡ lower_of rest x.0 → l <ℤ g → k ≡ g -ℤ pos 1 → record { var = x; at_least = false; k = k } ∷ [] ≡ lower_negation limits rest x.0
+lower_when limits rest x l g k e f h q =
+    let test : int_lt (lower_of limits x.0) (lower_of rest x.0) ≡ true = sym (ap (λ v. int_lt v (lower_of rest x.0)) e ) ∙ sym (ap (λ v. int_lt l v) f) ∙ lt_true l g h in
+    rw (test, q, f) refl
+
+pub upper_when : (limits rest : Bounds) (x : Var) (g u k : ℤ) → g ≡ upper_of rest x.0 → u ≡ upper_of limits x.0 → g <ℤ u → k ≡ g +ℤ pos 1 → record { var = x; at_least = true; k = k } ∷ [] ≡ upper_negation limits rest x.0
+upper_when limits rest x g u k f e h q =
+    let test : int_lt (upper_of rest x.0) (upper_of limits x.0) ≡ true = sym (ap (λ v. int_lt v (upper_of limits x.0)) f) ∙ sym (ap (λ v. int_lt g v) e) ∙ lt_true g u h in
+    rw (test, q, f) refl

@@ -5,6 +5,7 @@ use Rattle.std.specs.declared.option.Option.{Option}
 use Rattle.std.specs.declared.option.Option.TheVariants.{Some, None}
 use Rattle.std.specs.List.{All}
 use Rattle.std.specs.Option.{option_and_then, option_map, option_map_or}
+use Rattle.std.proofs.lemmas.Bool.{ne_eqb}
 use Rattle.std.proofs.lemmas.List.{length-map}
 use Rattle.std.proofs.lemmas.List.Elements.{All-head, All-tail}
 use Rattle.cgm_atom.specs.declared.constraints.Atom.{Atom}
@@ -68,7 +69,7 @@ accepted_whole p s lemmas ready = accepted_after p s (all_placed (length s.entri
 
 some_atoms : (atoms : List Atom) → atoms ≢ [] → (length atoms == 0) ≡ false
 some_atoms [] h = absurd (h refl)
-some_atoms (a ∷ atoms) h = refl
+some_atoms (a ∷ atoms) h = ne_eqb (length (a ∷ atoms)) 0 (λ e. omega (arith, e))
 
 open_after : (n : ℕ) (s : LogState) (lemmas : List Entry) → s.closed ≡ false → All IsOpenLemma lemmas → (state_after s (all_placed n lemmas)).closed ≡ false
 open_after n s [] e h = e

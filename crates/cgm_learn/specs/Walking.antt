@@ -120,10 +120,9 @@ IsStepped p s lemmas t w need u (Ok (Some turn)) = IsTurn p s lemmas t need u tu
 IsStepped p s lemmas t w need u (Err e) = Unit {0}
 
 -- the whole walk: it turns, or the hints lead from the problem's bounds to conflict
-abbrev pub IsWalked : {E : Type 0} → Instance → LogState → List Entry → TrailState → Bounds → Used → Result (Option Turn) E → Type 0
-IsWalked p s lemmas t need u (Ok None) = (left_by_used p s lemmas u p.bounds ≡ None) × IsUsed p s lemmas u
-IsWalked p s lemmas t need u (Ok (Some turn)) = IsTurn p s lemmas t need u turn
-IsWalked p s lemmas t need u (Err e) = Unit {0}
+abbrev pub IsWalkedTo : Instance → LogState → List Entry → TrailState → Bounds → Used → Option Turn → Type 0
+IsWalkedTo p s lemmas t need u None = (left_by_used p s lemmas u p.bounds ≡ None) × IsUsed p s lemmas u
+IsWalkedTo p s lemmas t need u (Some turn) = IsTurn p s lemmas t need u turn
 
 -- ---- explanations
 

@@ -4,7 +4,7 @@ ghost use Rattle.std.specs.List.{All};
 ghost use Rattle.cgm_atom.specs.Acceptance.{IsAcceptedAfter, IsAcceptedState};
 ghost use Rattle.cgm_atom.specs.Placing.{all_placed};
 ghost use Rattle.cgm_learn.specs.Learning.{IsAcceptedLemma, IsConflictIn, IsKnownHint, IsLemmaInRange, IsNameAfter, IsOpenLemma, IsUnitAfterCut};
-ghost use Rattle.cgm_learn.specs.Walking.{IsLesson, IsReady, IsReasoned, IsTurn, IsUsed, left_by_used};
+ghost use Rattle.cgm_learn.specs.Walking.{IsLesson, IsPlaceOf, IsReady, IsReasoned, IsTurn, IsUsed, IsWalkedTo, left_by_used};
 ghost use Rattle.cgm_trail.specs.Steps.{AreReasoned};
 ghost use Rattle.cgm_trail.specs.TrailState.{box_of, level_of};
 
@@ -54,7 +54,6 @@ pub fn analyse(
     learn(alloc, p, t, log, pending, conflict)
 }
 
-#[tactic(none)]
 fn learn(
     alloc: Global,
     p: &Problem,
@@ -69,15 +68,63 @@ fn learn(
     requires conflict { IsConflictIn p.now log.now pending.now (box_of t.now) conflict.now }
     ensures { IfOk result (IsLesson p.now log.now pending.now t.now) }
 {
-    let mut need = BoxState::of(alloc, p)?;
-    let mut used = Used::new(alloc);
     let mut place = Place::last(alloc, t)?;
     let mut base = before_level(alloc, t, &place)?;
+    let mut need = BoxState::of(alloc, p)?;
+    learn_from(alloc, p, t, log, pending, conflict, &mut base, &mut place, &mut need)
+}
+
+/// The walk from the last place, with the box of the problem's bounds.
+#[tactic(none)]
+fn learn_from(
+    alloc: Global,
+    p: &Problem,
+    t: &Trail,
+    log: &IndexedLog<'_>,
+    pending: &[Entry],
+    conflict: &Hint,
+    base: &mut Place,
+    place: &mut Place,
+    need: &mut BoxState,
+) -> Result<Learned, OutOfMemory>
+    requires ready { IsReady p.now log.now pending.now }
+    requires still_open { log.now.closed ≡ false }
+    requires reasoned { IsReasoned p.now log.now pending.now t.now }
+    requires conflict { IsConflictIn p.now log.now pending.now (box_of t.now) conflict.now }
+    requires base { IsPlaceOf t.now base.old }
+    requires place { IsPlaceOf t.now place.old }
+    requires last { place.old.at ≡ length t.now.changes }
+    requires whole { need.old ≡ p.now.bounds }
+    ensures { IfOk result (IsLesson p.now log.now pending.now t.now) }
+{
     t.recall_trail();
-    begin(alloc, p, log, pending, conflict, &place.state, &mut need, &mut used)?;
-    match walk(alloc, p, t, log, pending, &mut base, &mut place, &mut need, &mut used)? {
+    let mut used = Used::new(alloc);
+    begin(alloc, p, log, pending, conflict, &place.state, need, &mut used)?;
+    let found = walk(alloc, p, t, log, pending, base, place, need, &mut used)?;
+    conclude(alloc, p, t, log, pending, found, need, used)
+}
+
+/// The lemma with which a walk ends.
+#[tactic(none)]
+fn conclude(
+    alloc: Global,
+    p: &Problem,
+    t: &Trail,
+    log: &IndexedLog<'_>,
+    pending: &[Entry],
+    found: Option<Turn>,
+    need: &BoxState,
+    used: Used,
+) -> Result<Learned, OutOfMemory>
+    requires ready { IsReady p.now log.now pending.now }
+    requires still_open { log.now.closed ≡ false }
+    requires reasoned { IsReasoned p.now log.now pending.now t.now }
+    requires walked { IsWalkedTo p.now log.now pending.now t.now need.now used found }
+    ensures { IfOk result (IsLesson p.now log.now pending.now t.now) }
+{
+    match found {
         None => Ok(learn_end(alloc, p, t, log, pending, used)),
-        Some(turn) => learn_turn(alloc, p, t, log, pending, turn, &need, used),
+        Some(turn) => learn_turn(alloc, p, t, log, pending, turn, need, used),
     }
 }
 

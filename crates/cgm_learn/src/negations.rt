@@ -1,5 +1,5 @@
 //! The negations of what a box says beyond the problem's bounds.
-ghost use Rattle.std.specs.Prelude.{◌≡◌, ◌++◌, ◌<◌, ◌≤◌, IfOk, OnOk, unsigned_abs};
+ghost use Rattle.std.specs.Prelude.{◌≡◌, ◌++◌, ◌<◌, ◌+ℤ◌, ◌-ℤ◌, pos, IfOk, OnOk};
 ghost use Rattle.cgm_atom.specs.Atoms.{negation};
 ghost use Rattle.cgm_atom.specs.Bounds.{IsBoxOf};
 ghost use Rattle.cgm_atom.specs.Instance.{var_count};
@@ -10,6 +10,20 @@ ghost use Rattle.cgm_learn.specs.Walking.{AreNegations, lower_negation, upper_ne
 use cgm_atom::{Atom, BoxState, OutOfMemory, Problem, Var};
 use std::alloc::Global;
 
+fn one_less(k: i64) -> i64
+    requires { IsBound k }
+    ensures { result ≡ k -ℤ pos 1 }
+{
+    k - 1
+}
+
+fn one_more(k: i64) -> i64
+    requires { IsBound k }
+    ensures { result ≡ k +ℤ pos 1 }
+{
+    k + 1
+}
+
 /// The negation of an atom whose number is within the limit of a bound.
 pub(crate) fn opposite(a: Atom) -> Atom
     requires { IsBound a.k }
@@ -19,7 +33,11 @@ pub(crate) fn opposite(a: Atom) -> Atom
     Atom {
         var: a.var,
         at_least: !a.at_least,
-        k: if a.at_least { a.k - 1 } else { a.k + 1 },
+        k: if a.at_least {
+            one_less(a.k)
+        } else {
+            one_more(a.k)
+        },
     }
 }
 
@@ -40,7 +58,7 @@ fn add_lower(
         atoms.push(Atom {
             var: v,
             at_least: false,
-            k: least - 1,
+            k: one_less(least),
         })?;
     }
     Ok(())
@@ -63,7 +81,7 @@ fn add_upper(
         atoms.push(Atom {
             var: v,
             at_least: true,
-            k: greatest + 1,
+            k: one_more(greatest),
         })?;
     }
     Ok(())

@@ -1,11 +1,11 @@
 //! The walk back over a trail to the first place where one atom of its level is enough.
-ghost use Rattle.std.specs.Prelude.{◌≡◌, ◌+◌, ◌<◌, ◌≤◌, [], length, IsTrue, OnOk};
+ghost use Rattle.std.specs.Prelude.{◌≡◌, ◌+◌, ◌<◌, ◌≤◌, [], length, IfOk, IsTrue, OnOk};
 ghost use Rattle.cgm_atom.specs.Bounds.{IsBoxOf};
 ghost use Rattle.cgm_atom.specs.Instance.{var_count};
 ghost use Rattle.cgm_atom.specs.Laws.{IsSmaller};
 ghost use Rattle.cgm_atom.specs.Relaxing.{at_bound_of, relaxed};
 ghost use Rattle.cgm_learn.specs.Learning.{IsConflictIn};
-ghost use Rattle.cgm_learn.specs.Walking.{IsCause, IsDecisionAt, IsNeeded, IsPlaceOf, IsReady, IsReasoned, IsRest, IsStepped, IsWalk, IsWalked};
+ghost use Rattle.cgm_learn.specs.Walking.{IsCause, IsDecisionAt, IsNeeded, IsPlaceOf, IsReady, IsReasoned, IsRest, IsStepped, IsWalk, IsWalkedTo};
 
 use crate::explaining::{explain_atom, explain_conflict};
 use crate::finding::find_after;
@@ -212,7 +212,7 @@ pub(crate) fn walk(
     requires reasoned { IsReasoned p.now log.now pending.now t.now }
     requires walk { IsWalk p.now log.now pending.now t.now place.old need.old used.old }
     requires base { IsPlaceOf t.now base.old }
-    ensures { IsWalked p.now log.now pending.now t.now need.new used.new result }
+    ensures { IfOk result (IsWalkedTo p.now log.now pending.now t.now need.new used.new) }
 {
     while place.at > 0 {
         renew(alloc, t, base, place)?;

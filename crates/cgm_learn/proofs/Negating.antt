@@ -106,15 +106,8 @@ negations_step limits rest x atoms next far e known small sizes =
 
 -- ---- a negation that is added
 
-lt_true : (a b : ℤ) → a <ℤ b → int_lt a b ≡ true
-lt_true a b h = lt_is_true a b h
+pub lower_when : (limits rest : Bounds) (x : Var) → int_lt (lower_of limits x.0) (lower_of rest x.0) ≡ true → record { var = x; at_least = false; k = lower_of rest x.0 -ℤ pos 1 } ∷ [] ≡ lower_negation limits rest x.0
+lower_when limits rest x test = rw test refl
 
-pub lower_when : (limits rest : Bounds) (x : Var) (l g k : ℤ) → l ≡ lower_of limits x.0 → g ≡ lower_of rest x.0 → l <ℤ g → k ≡ g -ℤ pos 1 → record { var = x; at_least = false; k = k } ∷ [] ≡ lower_negation limits rest x.0
-lower_when limits rest x l g k e f h q =
-    let test : int_lt (lower_of limits x.0) (lower_of rest x.0) ≡ true = sym (ap (λ v. int_lt v (lower_of rest x.0)) e ) ∙ sym (ap (λ v. int_lt l v) f) ∙ lt_true l g h in
-    rw (test, q, f) refl
-
-pub upper_when : (limits rest : Bounds) (x : Var) (g u k : ℤ) → g ≡ upper_of rest x.0 → u ≡ upper_of limits x.0 → g <ℤ u → k ≡ g +ℤ pos 1 → record { var = x; at_least = true; k = k } ∷ [] ≡ upper_negation limits rest x.0
-upper_when limits rest x g u k f e h q =
-    let test : int_lt (upper_of rest x.0) (upper_of limits x.0) ≡ true = sym (ap (λ v. int_lt v (upper_of limits x.0)) f) ∙ sym (ap (λ v. int_lt g v) e) ∙ lt_true g u h in
-    rw (test, q, f) refl
+pub upper_when : (limits rest : Bounds) (x : Var) → int_lt (upper_of rest x.0) (upper_of limits x.0) ≡ true → record { var = x; at_least = true; k = upper_of rest x.0 +ℤ pos 1 } ∷ [] ≡ upper_negation limits rest x.0
+upper_when limits rest x test = rw test refl

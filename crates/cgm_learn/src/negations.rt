@@ -1,28 +1,15 @@
 //! The negations of what a box says beyond the problem's bounds.
-ghost use Rattle.std.specs.Prelude.{◌≡◌, ◌++◌, ◌<◌, ◌+ℤ◌, ◌-ℤ◌, pos, IfOk, OnOk};
+ghost use Rattle.std.specs.Prelude.{◌≡◌, ◌++◌, ◌<◌, ◌+ℤ◌, ◌-ℤ◌, false, int_lt, length, pos, true, IfOk, OnOk};
 ghost use Rattle.cgm_atom.specs.Atoms.{negation};
-ghost use Rattle.cgm_atom.specs.Bounds.{IsBoxOf};
+ghost use Rattle.cgm_atom.specs.Bounds.{IsBoxOf, lower_of, upper_of};
 ghost use Rattle.cgm_atom.specs.Instance.{var_count};
 ghost use Rattle.cgm_atom.specs.Limits.{IsBound};
 ghost use Rattle.cgm_atom.specs.Ranges.{IsAtomInRange};
+ghost use Rattle.cgm_atom.specs.Steps.{AreBounds};
 ghost use Rattle.cgm_learn.specs.Walking.{AreNegations, lower_negation, upper_negation};
 
 use cgm_atom::{Atom, BoxState, OutOfMemory, Problem, Var};
 use std::alloc::Global;
-
-fn one_less(k: i64) -> i64
-    requires { IsBound k }
-    ensures { result ≡ k -ℤ pos 1 }
-{
-    k - 1
-}
-
-fn one_more(k: i64) -> i64
-    requires { IsBound k }
-    ensures { result ≡ k +ℤ pos 1 }
-{
-    k + 1
-}
 
 /// The negation of an atom whose number is within the limit of a bound.
 pub(crate) fn opposite(a: Atom) -> Atom
@@ -33,11 +20,53 @@ pub(crate) fn opposite(a: Atom) -> Atom
     Atom {
         var: a.var,
         at_least: !a.at_least,
-        k: if a.at_least {
-            one_less(a.k)
-        } else {
-            one_more(a.k)
-        },
+        k: if a.at_least { a.k - 1 } else { a.k + 1 },
+    }
+}
+
+/// Whether a box has a greater least value of a variable than the problem.
+fn is_raised(p: &Problem, rest: &BoxState, v: Var) -> bool
+    requires known { v.0 < var_count p.now }
+    requires limits { IsBoxOf p.now.bounds rest.now }
+    ensures { result ≡ int_lt (lower_of p.now.bounds v.0) (lower_of rest.now v.0) }
+{
+    let (lo, _) = p.bounds(v);
+    lo < rest.lo(v)
+}
+
+/// Whether a box has a lesser greatest value of a variable than the problem.
+fn is_reduced(p: &Problem, rest: &BoxState, v: Var) -> bool
+    requires known { v.0 < var_count p.now }
+    requires limits { IsBoxOf p.now.bounds rest.now }
+    ensures { result ≡ int_lt (upper_of rest.now v.0) (upper_of p.now.bounds v.0) }
+{
+    let (_, hi) = p.bounds(v);
+    rest.hi(v) < hi
+}
+
+/// The atom that a variable is below its least value.
+fn below(rest: &BoxState, v: Var) -> Atom
+    requires known { v.0 < length rest.now.lower }
+    requires size { IsBound (lower_of rest.now v.0) }
+    ensures { result ≡ record { var = v; at_least = false; k = lower_of rest.now v.0 -ℤ pos 1 } }
+{
+    Atom {
+        var: v,
+        at_least: false,
+        k: rest.lo(v) - 1,
+    }
+}
+
+/// The atom that a variable is above its greatest value.
+fn above(rest: &BoxState, v: Var) -> Atom
+    requires known { v.0 < length rest.now.lower }
+    requires size { IsBound (upper_of rest.now v.0) }
+    ensures { result ≡ record { var = v; at_least = true; k = upper_of rest.now v.0 +ℤ pos 1 } }
+{
+    Atom {
+        var: v,
+        at_least: true,
+        k: rest.hi(v) + 1,
     }
 }
 
@@ -49,17 +78,11 @@ fn add_lower(
 ) -> Result<(), OutOfMemory>
     requires known { v.0 < var_count p.now }
     requires limits { IsBoxOf p.now.bounds rest.now }
+    requires sizes { AreBounds rest.now }
     ensures { OnOk result (atoms.new.items ≡ atoms.old.items ++ lower_negation p.now.bounds rest.now v.0) }
 {
-    p.recall_well_formed();
-    let (lo, _) = p.bounds(v);
-    let least = rest.lo(v);
-    if lo < least {
-        atoms.push(Atom {
-            var: v,
-            at_least: false,
-            k: one_less(least),
-        })?;
+    if is_raised(p, rest, v) {
+        atoms.push(below(rest, v))?;
     }
     Ok(())
 }
@@ -72,17 +95,11 @@ fn add_upper(
 ) -> Result<(), OutOfMemory>
     requires known { v.0 < var_count p.now }
     requires limits { IsBoxOf p.now.bounds rest.now }
+    requires sizes { AreBounds rest.now }
     ensures { OnOk result (atoms.new.items ≡ atoms.old.items ++ upper_negation p.now.bounds rest.now v.0) }
 {
-    p.recall_well_formed();
-    let (_, hi) = p.bounds(v);
-    let greatest = rest.hi(v);
-    if greatest < hi {
-        atoms.push(Atom {
-            var: v,
-            at_least: true,
-            k: one_more(greatest),
-        })?;
+    if is_reduced(p, rest, v) {
+        atoms.push(above(rest, v))?;
     }
     Ok(())
 }

@@ -26,3 +26,6 @@ learn_turn-requires-clause-reasoned c = c.requires.reasoned
 
 pub learn_turn-requires-clause-turn : goal.learn_turn-requires-clause-turn
 learn_turn-requires-clause-turn c = rw c.in-Some.is at c.requires.walked
+
+pub returns-in-Some : goal.returns-in-Some
+returns-in-Some c = c.learn_turn.ensures

@@ -27,14 +27,32 @@ begin-requires-clause-no_bound c = c.new-used.ensures.bound
 pub returns-in_err-begin : goal.returns-in_err-begin
 returns-in_err-begin c = if_none _ _ c.from_residual.result c.from_residual.ensures.1
 
-pub walk-found-requires-clause-ready : goal.walk-found-requires-clause-ready
-walk-found-requires-clause-ready c = c.requires.ready
+pub walk-requires-clause-ready : goal.walk-requires-clause-ready
+walk-requires-clause-ready c = c.requires.ready
 
-pub walk-found-requires-clause-reasoned : goal.walk-found-requires-clause-reasoned
-walk-found-requires-clause-reasoned c = c.requires.reasoned
+pub walk-requires-clause-reasoned : goal.walk-requires-clause-reasoned
+walk-requires-clause-reasoned c = c.requires.reasoned
 
-pub walk-found-requires-clause-walk : goal.walk-found-requires-clause-walk
-walk-found-requires-clause-walk c = record { place = c.requires.place; needed = c.in_ok-begin.ensures }
+pub walk-requires-clause-walk : goal.walk-requires-clause-walk
+walk-requires-clause-walk c = record { place = c.requires.place; needed = c.in_ok-begin.ensures }
 
-pub walk-found-requires-clause-base : goal.walk-found-requires-clause-base
-walk-found-requires-clause-base c = c.requires.base
+pub walk-requires-clause-base : goal.walk-requires-clause-base
+walk-requires-clause-base c = c.requires.base
+
+pub returns-in_err-found : goal.returns-in_err-found
+returns-in_err-found c = if_none _ _ c.from_residual-in_err-found.result c.from_residual-in_err-found.ensures.1
+
+pub conclude-requires-clause-ready : goal.conclude-requires-clause-ready
+conclude-requires-clause-ready c = c.requires.ready
+
+pub conclude-requires-clause-still_open : goal.conclude-requires-clause-still_open
+conclude-requires-clause-still_open c = c.requires.still_open
+
+pub conclude-requires-clause-reasoned : goal.conclude-requires-clause-reasoned
+conclude-requires-clause-reasoned c = c.requires.reasoned
+
+pub conclude-requires-clause-walked : goal.conclude-requires-clause-walked
+conclude-requires-clause-walked c = c.in_ok-found.ensures
+
+pub returns : goal.returns
+returns c = c.conclude.ensures

@@ -1,4 +1,4 @@
-use Rattle.std.proofs.Common.{◌++◌, ◌∙◌, ap}
+use Rattle.std.proofs.Common.{◌++◌, ◌∷◌, [], ◌∙◌, ap, arith, sym}
 use Rattle.cgm_learn.proofs.Negating.{upper_when}
 use Rattle.cgm_learn.proofs.negations.add_upper.Goals as goal
 
@@ -6,4 +6,4 @@ pub returns-in_ok-push : goal.returns-in_ok-push
 returns-in_ok-push c =
     c.in_ok-push.ensures.items
     ∙ ap (λ xs. c.args.atoms.now.items ++ xs)
-    (upper_when c.args.p.now.bounds c.args.rest.now c.args.v c.hi-greatest.result c.bounds-hi.result.1 c.one_more.result c.hi-greatest.ensures.value (ap (λ q. q.1) c.bounds-hi.ensures.bounds) c.if-greatest-hi.true c.one_more.ensures)
+    (ap (λ a. a ∷ []) c.above.ensures ∙ upper_when c.args.p.now.bounds c.args.rest.now c.args.v (sym c.is_reduced.ensures ∙ c.if-is_reduced.true))

@@ -12,3 +12,9 @@ loop-v-preserved c =
     (c.in_ok-add_upper.ensures ∙ ap (λ xs. xs ++ upper_negation limits c.args.rest.now c.loop-v.v) c.in_ok-add_lower.ensures)
     (omega (arith, c.loop-v-test.true, c.vars-v-end.ensures.count)) (omega (arith, c.loop-v-test.true, c.vars-v-end.ensures.count, valid.var_limit))
     (AreBounds-inside limits c.args.rest.now valid.sizes c.requires.inside c.requires.ordered)
+
+pub add_lower-requires-clause-sizes : goal.add_lower-requires-clause-sizes
+add_lower-requires-clause-sizes c = AreBounds-inside c.args.p.now.bounds c.args.rest.now c.recall_well_formed.ensures.sizes c.requires.inside c.requires.ordered
+
+pub add_upper-requires-clause-sizes : goal.add_upper-requires-clause-sizes
+add_upper-requires-clause-sizes c = AreBounds-inside c.args.p.now.bounds c.args.rest.now c.recall_well_formed.ensures.sizes c.requires.inside c.requires.ordered

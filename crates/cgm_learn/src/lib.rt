@@ -1,0 +1,24 @@
+//! The analysis of conflicts: what is learned from one is a lemma that is accepted after the log, and that is unit after
+//! a cut of the trail.
+#![tactic(auto)]
+
+mod analysis;
+mod explaining;
+mod finding;
+mod hints;
+mod learned;
+mod negations;
+mod places;
+mod turns;
+
+pub use analysis::analyse;
+pub use cgm_atom::OutOfMemory;
+pub use learned::Learned;
+use std::marker::Send;
+
+// What is learned can be moved to a thread.
+fn cross_threads(learned: &Learned) {
+    can_be_moved(learned);
+}
+
+fn can_be_moved<T: Send>(_: &T) {}

@@ -160,7 +160,6 @@ rejoined limits r b a h holds = rejoined_cases limits r b a.var a.at_least (boun
 three : (a b c d : ℤ) → a ≤ℤ b → b ≤ℤ c → c ≤ℤ d → a ≤ℤ d
 three a b c d h k l = ≤ℤ_trans a b d h (≤ℤ_trans b c d k l)
 
-
 not_true_cases : (b r : Bounds) (x : Var) (up : Bool) (k was : ℤ) → was ≡ cond up (lower_of b x.0) (upper_of b x.0) → cond up (int_le (lower_of r x.0) was) (int_le was (upper_of r x.0)) ≡ false → is_true_in b (at_bound_of r (record { var = x; at_least = up; k = k })) ≡ false
 not_true_cases b r x true k was e h = subst (λ v. int_le (lower_of r x.0) v ≡ false) e h
 not_true_cases b r x false k was e h = subst (λ v. int_le v (upper_of r x.0) ≡ false) e h

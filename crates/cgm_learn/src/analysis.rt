@@ -71,7 +71,9 @@ fn learn(
     let mut place = Place::last(alloc, t)?;
     let mut base = before_level(alloc, t, &place)?;
     let mut need = BoxState::of(alloc, p)?;
-    learn_from(alloc, p, t, log, pending, conflict, &mut base, &mut place, &mut need)
+    learn_from(
+        alloc, p, t, log, pending, conflict, &mut base, &mut place, &mut need,
+    )
 }
 
 /// The walk from the last place, with the box of the problem's bounds.
@@ -99,7 +101,16 @@ fn learn_from(
 {
     t.recall_trail();
     let mut used = Used::new(alloc);
-    begin(alloc, p, log, pending, conflict, &place.state, need, &mut used)?;
+    begin(
+        alloc,
+        p,
+        log,
+        pending,
+        conflict,
+        &place.state,
+        need,
+        &mut used,
+    )?;
     let found = walk(alloc, p, t, log, pending, base, place, need, &mut used)?;
     conclude(alloc, p, t, log, pending, found, need, used)
 }

@@ -70,12 +70,7 @@ fn above(rest: &BoxState, v: Var) -> Atom
     }
 }
 
-fn add_lower(
-    p: &Problem,
-    rest: &BoxState,
-    v: Var,
-    atoms: &mut Vec<Atom>,
-) -> Result<(), OutOfMemory>
+fn add_lower(p: &Problem, rest: &BoxState, v: Var, atoms: &mut Vec<Atom>) -> Result<(), OutOfMemory>
     requires known { v.0 < var_count p.now }
     requires limits { IsBoxOf p.now.bounds rest.now }
     requires sizes { AreBounds rest.now }
@@ -87,12 +82,7 @@ fn add_lower(
     Ok(())
 }
 
-fn add_upper(
-    p: &Problem,
-    rest: &BoxState,
-    v: Var,
-    atoms: &mut Vec<Atom>,
-) -> Result<(), OutOfMemory>
+fn add_upper(p: &Problem, rest: &BoxState, v: Var, atoms: &mut Vec<Atom>) -> Result<(), OutOfMemory>
     requires known { v.0 < var_count p.now }
     requires limits { IsBoxOf p.now.bounds rest.now }
     requires sizes { AreBounds rest.now }

@@ -81,11 +81,7 @@ pub(crate) fn is_met_before(need: &BoxState, change: Change) -> bool
 }
 
 /// The place before the last decision, or the first place where there is none.
-pub(crate) fn before_level(
-    alloc: Global,
-    t: &Trail,
-    from: &Place,
-) -> Result<Place, OutOfMemory>
+pub(crate) fn before_level(alloc: Global, t: &Trail, from: &Place) -> Result<Place, OutOfMemory>
     requires { IsPlaceOf t.now from.now }
     ensures { IfOk result (λ w. IsPlaceOf t.now w) }
 {

@@ -188,10 +188,7 @@ fn word_of_each_kind(rt: HostRuntime) -> Result<(), Fail> {
         ("cgm 1\ntask 1T\n", "fault text 2 bad-number\n"),
         ("\ntask T\n", "fault text 2 header\n"),
         ("cgm 1\nfly T\n", "fault text 2 statement\n"),
-        (
-            "cgm 1\n\nobjective min T\n",
-            "fault text 3 unknown-name\n",
-        ),
+        ("cgm 1\n\nobjective min T\n", "fault text 3 unknown-name\n"),
         ("cgm 1\ntask T U\n", "fault text 2 form\n"),
         ("cgm 1\nassert T true\n", "fault text 2 unknown-name\n"),
         (

@@ -1,5 +1,5 @@
-// Assignments of models that are read, and the first rule that each breaks.
-use cgm_model::{Assignment, Broken, Model, Parts, fits, is_realization};
+// Assignments of models that are read, their sums, and the first rule that each breaks.
+use cgm_model::{Assignment, Broken, Model, Parts, fits, is_realization, sums};
 use cgm_text::read;
 use std::alloc::{AllocError, Global};
 use std::process::Abort;
@@ -30,9 +30,15 @@ fn assignment(
 }
 
 /// The first rule that the assignment breaks; it has to fit.
-fn broken_by(rt: &impl Abort, m: &Model, a: &Assignment) -> Option<Broken> {
+fn broken_by(
+    rt: &impl Abort,
+    alloc: Global,
+    m: &Model,
+    a: &Assignment,
+) -> Result<Option<Broken>, AllocError> {
     assert!(rt; fits(m, a));
-    is_realization(m, a, &[])
+    let totals = sums(alloc, m, a)?;
+    Ok(is_realization(m, a, totals.as_slice()))
 }
 
 #[test]
@@ -79,7 +85,7 @@ fn broken_rules_of_a_graph(rt: HostRuntime) -> Result<(), Fail> {
     for (elements, refinements, broken) in rows {
         let a = assignment(rt.alloc(), &elements, &refinements, &[])?;
         assert_eq!(rt;
-            broken_by(&rt, &m, &a),
+            broken_by(&rt, rt.alloc(), &m, &a)?,
             broken,
             "at {elements:?} and {refinements:?}"
         );
@@ -101,7 +107,7 @@ fn broken_in_two_trees(
     )?;
     let m = model_of(alloc, text.as_str())?;
     let a = assignment(alloc, &[left, right, left, right], &[left, right], &[])?;
-    Ok(broken_by(rt, &m, &a))
+    Ok(broken_by(rt, alloc, &m, &a)?)
 }
 
 /// A line, the rule that is broken by it if one is, and whether it holds where both trees are
@@ -254,7 +260,11 @@ fn bindings(rt: HostRuntime) -> Result<(), Fail> {
     ];
     for (t, u, v, broken) in rows {
         let a = assignment(rt.alloc(), &[t, u || v, t, u, v], &[t, u, v], &[])?;
-        assert_eq!(rt; broken_by(&rt, &m, &a), broken, "at {t}, {u} and {v}");
+        assert_eq!(rt;
+            broken_by(&rt, rt.alloc(), &m, &a)?,
+            broken,
+            "at {t}, {u} and {v}"
+        );
     }
     Ok(())
 }
@@ -283,7 +293,7 @@ fn comparisons(rt: HostRuntime) -> Result<(), Fail> {
         let a = assignment(rt.alloc(), &[], &[], &[x, y])?;
         let broken = if holds { None } else { Some(Broken::Rule(0)) };
         assert_eq!(rt;
-            broken_by(&rt, &m, &a),
+            broken_by(&rt, rt.alloc(), &m, &a)?,
             broken,
             "at {formula} with {x} and {y}"
         );
@@ -317,7 +327,7 @@ fn great_sums(rt: HostRuntime) -> Result<(), Fail> {
         let m = model_of(alloc, text.as_str())?;
         let numbers = vec![in alloc; 1_000_000_000; count as usize]?;
         let a = assignment(alloc, &[], &[], numbers.as_slice())?;
-        assert_eq!(rt; broken_by(&rt, &m, &a), broken, "at {count}");
+        assert_eq!(rt; broken_by(&rt, rt.alloc(), &m, &a)?, broken, "at {count}");
     }
     Ok(())
 }
@@ -347,6 +357,28 @@ fn assignments_that_do_not_fit(rt: HostRuntime) -> Result<(), Fail> {
             *answer,
             "at {elements:?}, {refinements:?} and {vars:?}"
         );
+    }
+    Ok(())
+}
+
+/// Two sums: of T and of G, and of the refinement of G by T.
+const SUMS: &str =
+    "cgm 1\ngoal G\ntask T\nrefine R G : T\nsum Cost\nsum Time\nvalue Cost T 7\nvalue Cost T -2\nvalue Cost G 10\nvalue Time R 1000000\n";
+
+#[test]
+fn values_of_sums(rt: HostRuntime) -> Result<(), Fail> {
+    let m = model_of(rt.alloc(), SUMS)?;
+    let rows = [
+        (true, true, [15, 1_000_000]),
+        (true, false, [10, 0]),
+        (false, true, [5, 1_000_000]),
+        (false, false, [0, 0]),
+    ];
+    for (g, t, values) in rows {
+        let a = assignment(rt.alloc(), &[g, t], &[t], &[])?;
+        assert!(rt; fits(&m, &a));
+        let totals = sums(rt.alloc(), &m, &a)?;
+        assert_eq!(rt; totals.as_slice(), values.as_slice(), "at {g} and {t}");
     }
     Ok(())
 }

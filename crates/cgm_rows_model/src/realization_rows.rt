@@ -360,25 +360,3 @@ fn assignments_that_do_not_fit(rt: HostRuntime) -> Result<(), Fail> {
     }
     Ok(())
 }
-
-/// Two sums: of T and of G, and of the refinement of G by T.
-const SUMS: &str =
-    "cgm 1\ngoal G\ntask T\nrefine R G : T\nsum Cost\nsum Time\nvalue Cost T 7\nvalue Cost T -2\nvalue Cost G 10\nvalue Time R 1000000\n";
-
-#[test]
-fn values_of_sums(rt: HostRuntime) -> Result<(), Fail> {
-    let m = model_of(rt.alloc(), SUMS)?;
-    let rows = [
-        (true, true, [15, 1_000_000]),
-        (true, false, [10, 0]),
-        (false, true, [5, 1_000_000]),
-        (false, false, [0, 0]),
-    ];
-    for (g, t, values) in rows {
-        let a = assignment(rt.alloc(), &[g, t], &[t], &[])?;
-        assert!(rt; fits(&m, &a));
-        let totals = sums(rt.alloc(), &m, &a)?;
-        assert_eq!(rt; totals.as_slice(), values.as_slice(), "at {g} and {t}");
-    }
-    Ok(())
-}

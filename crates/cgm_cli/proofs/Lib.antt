@@ -1,6 +1,7 @@
 pub mod Continuing
 pub mod Least
 pub mod Order
+pub mod RuleLines
 pub mod Shelves
 pub mod Showing
 pub mod Solving

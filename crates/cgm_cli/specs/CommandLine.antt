@@ -31,6 +31,10 @@ solve_options = options_of (codes "solve") (codes "model" ∷ []) (codes "earlie
 abbrev pub show_options : App
 show_options = options_of (codes "show") (codes "model" ∷ []) []
 
+-- `encode MODEL --earlier=FILE`
+abbrev pub encode_options : App
+encode_options = options_of (codes "encode") (codes "model" ∷ []) (codes "earlier" ∷ [])
+
 abbrev pub unless_faulty : Kinds → List Row → Option (List Row)
 unless_faulty [] rows = Some rows
 unless_faulty (fault ∷ faults) rows = None
@@ -46,6 +50,8 @@ pub data Command : Type 0 where
   solve : Text → Option Text → Command
   -- `show`, with the name of the model's file
   show : Text → Command
+  -- `encode`, with the name of the model's file and that of the earlier realization's file
+  encode : Text → Option Text → Command
 
 abbrev pub solve_with : List Row → Option Command
 solve_with rows = option_map (λ model. solve model (first_of (codes "earlier") rows)) (first_of (codes "model") rows)
@@ -53,11 +59,15 @@ solve_with rows = option_map (λ model. solve model (first_of (codes "earlier") 
 abbrev pub show_with : List Row → Option Command
 show_with rows = option_map show (first_of (codes "model") rows)
 
+abbrev pub encode_with : List Row → Option Command
+encode_with rows = option_map (λ model. encode model (first_of (codes "earlier") rows)) (first_of (codes "model") rows)
+
 -- the command of the first word, which the words begin with
 abbrev pub command_of : Text → List Text → Option Command
 command_of word words =
     if bytes_eq word (codes "solve") then option_and_then solve_with (given solve_options words)
     else if bytes_eq word (codes "show") then option_and_then show_with (given show_options words)
+    else if bytes_eq word (codes "encode") then option_and_then encode_with (given encode_options words)
     else None
 
 abbrev pub command_line : List Text → Option Command

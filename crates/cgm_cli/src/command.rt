@@ -1,10 +1,10 @@
 ghost use Rattle.std.specs.Prelude.{◌≡◌, ◌∷◌, IfOk, map, option_and_then, option_map};
 ghost use Rattle.std.specs.String.{string_bytes};
 ghost use Rattle.clap.specs.Words.{found_of, rows_of};
-ghost use Rattle.cgm_cli.specs.CommandLine.{command_line, command_of, given, show_options, show_with, solve_options, solve_with};
+ghost use Rattle.cgm_cli.specs.CommandLine.{command_line, command_of, encode_options, encode_with, given, show_options, show_with, solve_options, solve_with};
 ghost use Rattle.cgm_cli.specs.Commands.{told_by};
 
-use crate::options::{given, show_options, solve_options, text_given};
+use crate::options::{encode_options, given, show_options, solve_options, text_given};
 use clap::ArgMatches;
 use std::alloc::{AllocError, Global};
 
@@ -19,6 +19,11 @@ pub(crate) enum Command<'w> {
     /// `show MODEL`
     Show {
         model: &'w str,
+    },
+    /// `encode MODEL`, with the file of an earlier realization where one is given.
+    Encode {
+        model: &'w str,
+        earlier: Option<&'w str>,
     },
 }
 
@@ -49,6 +54,8 @@ fn command_of<'w>(
         solve_in(alloc, words)
     } else if word == "show" {
         show_in(alloc, words)
+    } else if word == "encode" {
+        encode_in(alloc, words)
     } else {
         Ok(None)
     }
@@ -92,5 +99,27 @@ fn show_with<'w>(matches: &ArgMatches<'w>) -> Option<Command<'w>>
     match text_given(matches, "model") {
         None => None,
         Some(model) => Some(Command::Show { model }),
+    }
+}
+
+fn encode_in<'w>(alloc: Global, words: &'w [String]) -> Result<Option<Command<'w>>, AllocError>
+    ensures { IfOk result (λ found. option_map told_by found ≡ option_and_then encode_with (given
+        encode_options (map string_bytes words.now))) }
+{
+    match given(encode_options(alloc)?, words)? {
+        None => Ok(None),
+        Some(matches) => Ok(encode_with(&matches)),
+    }
+}
+
+fn encode_with<'w>(matches: &ArgMatches<'w>) -> Option<Command<'w>>
+    ensures { option_map told_by result ≡ encode_with (rows_of (found_of matches.now)) }
+{
+    match text_given(matches, "model") {
+        None => None,
+        Some(model) => {
+            let earlier = text_given(matches, "earlier");
+            Some(Command::Encode { model, earlier })
+        }
     }
 }

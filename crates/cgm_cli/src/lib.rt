@@ -2,8 +2,10 @@
 #![tactic(auto)]
 
 mod command;
+mod encoding;
 mod file;
 mod found;
+mod input;
 mod numbers;
 mod options;
 mod print;

@@ -1,10 +1,10 @@
 -- The outcome of the program for its words: what each status says of the files and of what was printed.
-use Rattle.std.specs.Prelude.{◌≡◌, ℕ, ◌<◌, ◌≤◌, ◌⊎◌, List, [], length, slice_get, Option, None, Some}
+use Rattle.std.specs.Prelude.{◌≡◌, ℕ, ◌<◌, ◌≤◌, ◌⊎◌, List, [], ◌++◌, length, slice_get, Option, None, Some}
 use Rattle.cgm_base.specs.declared.fault.BadKind.{BadKind}
 use Rattle.cgm_base.specs.declared.limit.Which.TheVariants as limits
 use Rattle.cgm_base.specs.declared.limit.Limit.{Limit}
 use Rattle.cgm_base.specs.declared.status.Status.{Status}
-use Rattle.cgm_base.specs.declared.status.Status.TheVariants.{Done, Unrealizable, Usage, Text, Earlier, Limit as LimitPassed, Read, Write, Memory}
+use Rattle.cgm_base.specs.declared.status.Status.TheVariants.{Done, Unrealizable, Usage, Text, Earlier, Limit as LimitPassed, Open, Read, Write, Memory}
 use Rattle.cgm_base.specs.Words.{limit_number}
 use Rattle.cgm_shelf.specs.Faults.{Rose}
 use Rattle.cgm_shelf.specs.Shelf.{Files, WhereTold, MissingOrRose}
@@ -18,13 +18,22 @@ use Rattle.cgm_text.specs.Text.{IsReading, IsTextOf, HasFault}
 use Rattle.cgm_evolve.specs.declared.fault.LineFault.TheVariants as earlier_faults
 use Rattle.cgm_evolve.specs.Pairs.{Pair}
 use Rattle.cgm_evolve.specs.Text.{IsTextOf as IsEarlierTextOf, HasFault as HasEarlierFault}
-use Rattle.cgm_obj.specs.Least.{IsLeastRealization, Realizes}
+use Rattle.cgm_obj.specs.Least.{IsLeastRealization}
+use Rattle.cgm_atom.specs.declared.entries.Entry.{Entry}
+use Rattle.cgm_trail.specs.TrailState.{TrailState}
+use Rattle.cgm_search.specs.declared.plans.Plan.{Plan}
 use Rattle.cgm_enc_formula.specs.Measures.{IsWithinMeasure}
+use Rattle.cgm_encode.specs.declared.answer.Answer.{Answer}
+use Rattle.cgm_encode.specs.declared.answer.Answer.TheVariants.{Exhausted}
+use Rattle.cgm_encode.specs.declared.answer.Found.{Found}
 use Rattle.cgm_encode.specs.Encoding.{IsEncodable, number_box}
 use Rattle.cgm_encode.specs.Problem.{problem_of}
 use Rattle.cgm_encode.specs.ProblemText.{problem_text}
+use Rattle.cgm_solve.specs.Answers.{HasNoRealization, IsSolved}
+use Rattle.cgm_report.specs.Answers.{exhausted, report_of}
+use Rattle.cgm_report.specs.Report.{realized, unrealizable}
 use Rattle.cgm_cli.specs.CommandLine.{Command, solve, show, encode, command_line}
-use Rattle.cgm_cli.specs.Report.{realized, unrealizable, usage_fault, text_fault, earlier_fault, limit_fault, read_fault, memory_fault}
+use Rattle.cgm_cli.specs.FaultLines.{usage_fault, text_fault, earlier_fault, limit_fault, read_fault, memory_fault}
 
 -- what a call does to the sink: its bytes, where it tells them, and its count of faults, before and after
 pub record Printing : Type 0 where
@@ -45,6 +54,14 @@ printing before after faults_before faults_after =
 
 abbrev pub shelving : Option Files → ℕ → ℕ → Shelving
 shelving files reads_before reads_after = record { files = files; reads_before = reads_before; reads_after = reads_after }
+
+-- the trails of workers that a call finds and leaves
+pub record Working : Type 0 where
+  pub before : List TrailState
+  pub after : List TrailState
+
+abbrev pub working : List TrailState → List TrailState → Working
+working before after = record { before = before; after = after }
 
 -- exactly these bytes were printed
 abbrev pub IsPrinted : Printing → List ℕ → Type 0
@@ -69,25 +86,36 @@ abbrev pub TellsOrLacksMemory : Printing → List ℕ → Status → Status → 
 TellsOrLacksMemory sink fault_line status answer =
     ((answer ≡ status) × IsTold sink fault_line) ⊎ ((answer ≡ Memory) × IsTold sink memory_fault)
 
-abbrev pub HasNoRealization : Lists → Type 0
-HasNoRealization m = (a : Assignment) → ¬ Realizes m a
-
--- the report of an answer for the model and an earlier realization: a least realization, or that there is none
-abbrev pub IsReport : Lists → List Pair → List ℕ → Type 0
-IsReport m earlier report =
-    ((a : Assignment) × (IsLeastRealization m earlier a × (report ≡ realized m earlier a)))
-    ⊎ (HasNoRealization m × (report ≡ unrealizable))
+-- the report is printed and the status is answered, or the sink fails, or memory is wanted for the report
+abbrev pub PrintsReportOrLacksMemory : Printing → List ℕ → Status → Status → Type 0
+PrintsReportOrLacksMemory sink report status answer =
+    PrintsReport sink report status answer ⊎ ((answer ≡ Memory) × IsTold sink memory_fault)
 
 -- ---- the outcome of a command for a model
 
--- `solve`, with what is known of an earlier realization: a least realization of the model, or that there is none
-abbrev pub HasSolveOutcome : Lists → List Pair → Printing → Status → Type 0
-HasSolveOutcome m earlier sink Done =
+-- the report of an answer that solves the model by one worker with this plan
+abbrev pub IsReport : Plan → Working → Lists → List Pair → List ℕ → Type 0
+IsReport plan work m earlier report =
+    (answer : Answer) × (IsSolved m earlier plan work.before work.after answer × (report ≡ report_of m answer))
+
+-- the budget is spent, on one trail that came behind those before; what was found until then is printed
+pub record IsLeftOpen (plan : Plan) (work : Working) (m : Lists) (earlier : List Pair) (sink : Printing) : Type 0 where
+  pub best : Option Found
+  pub spent : List ℕ
+  pub entries : List Entry
+  pub solved : IsSolved m earlier plan work.before work.after (Exhausted best spent entries)
+  pub printed : IsPrinted sink (exhausted m best spent)
+
+-- `solve` by one worker with this plan, with what is known of an earlier realization: a least realization of the model, or that there is none, or that the budget is spent
+abbrev pub HasSolveOutcome : Plan → Working → Lists → List Pair → Printing → Status → Type 0
+HasSolveOutcome plan work m earlier sink Done =
     (a : Assignment) × (IsLeastRealization m earlier a × IsPrinted sink (realized m earlier a))
-HasSolveOutcome m earlier sink Unrealizable = HasNoRealization m × IsPrinted sink unrealizable
-HasSolveOutcome m earlier sink Write = (report : List ℕ) × (IsReport m earlier report × IsCutOff sink report)
-HasSolveOutcome m earlier sink Memory = IsTold sink memory_fault
-HasSolveOutcome m earlier sink status = ⊥
+HasSolveOutcome plan work m earlier sink Unrealizable = HasNoRealization m × IsPrinted sink unrealizable
+HasSolveOutcome plan work m earlier sink Open = IsLeftOpen plan work m earlier sink
+HasSolveOutcome plan work m earlier sink Write =
+    (report : List ℕ) × (IsReport plan work m earlier report × IsCutOff sink report)
+HasSolveOutcome plan work m earlier sink Memory = IsTold sink memory_fault
+HasSolveOutcome plan work m earlier sink status = ⊥
 
 -- a command that prints this text
 abbrev pub HasTextOutcome : List ℕ → Printing → Status → Type 0
@@ -255,12 +283,12 @@ HasInputOutcome HasModelOutcome name file shelf sink status =
 
 -- ---- the outcome for the words
 
-abbrev pub HasCommandOutcome : Command → Shelving → Printing → Status → Type 0
-HasCommandOutcome (solve name file) shelf sink status =
-    HasInputOutcome (HasProblemOutcome HasSolveOutcome) name file shelf sink status
-HasCommandOutcome (encode name file) shelf sink status =
+abbrev pub HasCommandOutcome : Command → Shelving → Printing → Working → Status → Type 0
+HasCommandOutcome (solve name file workers plan) shelf sink work status =
+    HasInputOutcome (HasProblemOutcome (HasSolveOutcome plan work)) name file shelf sink status
+HasCommandOutcome (encode name file) shelf sink work status =
     HasInputOutcome (HasProblemOutcome HasEncodeOutcome) name file shelf sink status
-HasCommandOutcome (show name) shelf sink status = HasFileOutcome HasShowOutcome name shelf sink status
+HasCommandOutcome (show name) shelf sink work status = HasFileOutcome HasShowOutcome name shelf sink status
 
 -- the words are no command line, or memory is wanted to read them
 abbrev pub HasUsageOutcome : Printing → Status → Type 0
@@ -269,9 +297,35 @@ HasUsageOutcome sink Memory = IsTold sink memory_fault
 HasUsageOutcome sink status = ⊥
 
 -- the outcome of a command line; none where the words are no command line
-abbrev pub HasWordsOutcome : Option Command → Shelving → Printing → Status → Type 0
-HasWordsOutcome None shelf sink status = HasUsageOutcome sink status
-HasWordsOutcome (Some command) shelf sink status = HasCommandOutcome command shelf sink status
+abbrev pub HasWordsOutcome : Option Command → Shelving → Printing → Working → Status → Type 0
+HasWordsOutcome None shelf sink work status = HasUsageOutcome sink status
+HasWordsOutcome (Some command) shelf sink work status = HasCommandOutcome command shelf sink work status
 
-abbrev pub HasOutcome : List (List ℕ) → Shelving → Printing → Status → Type 0
-HasOutcome words shelf sink status = HasWordsOutcome (command_line words) shelf sink status
+abbrev pub HasOutcome : List (List ℕ) → Shelving → Printing → Working → Status → Type 0
+HasOutcome words shelf sink work status = HasWordsOutcome (command_line words) shelf sink work status
+
+-- ---- what is left of the trails
+
+abbrev pub IsUnchanged : Working → Type 0
+IsUnchanged work = work.after ≡ work.before
+
+-- the trails stay, and more may come behind them
+abbrev pub IsExtended : Working → Type 0
+IsExtended work = (gained : List TrailState) × (work.after ≡ work.before ++ gained)
+
+-- a search leaves more trails only where its budget is spent or its report isn't printed
+abbrev pub IsWorkOfSearch : Working → Status → Type 0
+IsWorkOfSearch work Open = IsExtended work
+IsWorkOfSearch work Write = IsExtended work
+IsWorkOfSearch work Memory = IsExtended work
+IsWorkOfSearch work status = IsUnchanged work
+
+abbrev pub IsWorkOfCommand : Command → Working → Status → Type 0
+IsWorkOfCommand (solve name file workers plan) work status = IsWorkOfSearch work status
+IsWorkOfCommand (encode name file) work status = IsUnchanged work
+IsWorkOfCommand (show name) work status = IsUnchanged work
+
+-- the same of a command line; none where the words are no command line
+abbrev pub IsWorkOf : Option Command → Working → Status → Type 0
+IsWorkOf None work status = IsUnchanged work
+IsWorkOf (Some command) work status = IsWorkOfCommand command work status

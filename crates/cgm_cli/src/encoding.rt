@@ -5,7 +5,7 @@ ghost use Rattle.cgm_encode.specs.Encoding.{IsEncodable, IsEncodingOf};
 ghost use Rattle.cgm_encode.specs.ProblemText.{problem_text};
 ghost use Rattle.cgm_model.specs.Model.{lists_of};
 ghost use Rattle.cgm_cli.specs.Outcome.{printing, HasNoProblem, HasTextOutcome, TellsOrLacksMemory, row_limit};
-ghost use Rattle.cgm_cli.specs.Report.{limit_fault};
+ghost use Rattle.cgm_cli.specs.FaultLines.{limit_fault};
 
 use crate::input::Input;
 use crate::print::{PlacedFault, print_report, tell_fault, tell_memory};
@@ -15,7 +15,12 @@ use cgm_shelf::Sink;
 use std::alloc::Global;
 
 /// Tells that a comparison of this rule passes the limit, with the rule's line.
-fn tell_row_limit<O: Sink>(alloc: Global, rule_lines: &[u32], rule: u32, out: &mut O) -> Status
+pub(crate) fn tell_row_limit<O: Sink>(
+    alloc: Global,
+    rule_lines: &[u32],
+    rule: u32,
+    out: &mut O,
+) -> Status
     requires { rule < length rule_lines.now }
     ensures { TellsOrLacksMemory
         (printing (O.written out.old) (O.written out.new) (O.faults out.old) (O.faults out.new))

@@ -4,15 +4,12 @@
 mod command;
 mod encoding;
 mod file;
-mod found;
 mod input;
 mod numbers;
 mod options;
 mod print;
 mod program;
-mod report;
 mod run;
-mod search;
 mod show;
 mod solve;
 

@@ -30,13 +30,17 @@ fn with_option<'w>(
     options.arg(Arg::new(alloc, name).long(name))
 }
 
-/// `solve MODEL --earlier=FILE`
+/// `solve MODEL --earlier=FILE --workers=N --budget=N --restarts=N --seed=N`
 pub(crate) fn solve_options<'w>(alloc: Global) -> Result<Command<'w>, AllocError>
     ensures { IfOk result (λ options. app_of options ≡ solve_options) }
 {
     let word = Command::new(alloc, "solve").disable_help_flag(true);
     let with_model = with_positional(alloc, word, "model")?;
-    with_option(alloc, with_model, "earlier")
+    let with_earlier = with_option(alloc, with_model, "earlier")?;
+    let with_workers = with_option(alloc, with_earlier, "workers")?;
+    let with_budget = with_option(alloc, with_workers, "budget")?;
+    let with_restarts = with_option(alloc, with_budget, "restarts")?;
+    with_option(alloc, with_restarts, "seed")
 }
 
 /// `show MODEL`

@@ -67,7 +67,14 @@ fn limit_met(rt: HostRuntime) -> Result<(), Fail> {
     let model = big_model(rt.alloc(), 0)?;
     let problem = big_problem(rt.alloc())?;
     let printed = (Status::Done, problem.as_slice());
-    prints(&rt, rt.alloc(), &["encode", "model.cgm"], model.as_slice(), b"", printed)
+    prints(
+        &rt,
+        rt.alloc(),
+        &["encode", "model.cgm"],
+        model.as_slice(),
+        b"",
+        printed,
+    )
 }
 
 #[test]
@@ -76,8 +83,22 @@ fn limit_passed_by_one(rt: HostRuntime) -> Result<(), Fail> {
     let line = format!(in alloc; "{PASSED}4002\n")?;
     let model = big_model(alloc, 1)?;
     let printed = (Status::Limit, line.as_bytes());
-    prints(&rt, alloc, &["encode", "model.cgm"], model.as_slice(), b"", printed)?;
-    prints(&rt, alloc, &["solve", "model.cgm"], model.as_slice(), b"", printed)
+    prints(
+        &rt,
+        alloc,
+        &["encode", "model.cgm"],
+        model.as_slice(),
+        b"",
+        printed,
+    )?;
+    prints(
+        &rt,
+        alloc,
+        &["solve", "model.cgm"],
+        model.as_slice(),
+        b"",
+        printed,
+    )
 }
 
 // The first rule that passes the limit is the second one, behind a comment and an interest.
@@ -90,7 +111,14 @@ fn line_of_the_rule(rt: HostRuntime) -> Result<(), Fail> {
     push_big_rule(alloc, &mut model, -1)?;
     push_big_rule(alloc, &mut model, 1)?;
     let printed = (Status::Limit, line.as_bytes());
-    prints(&rt, alloc, &["encode", "model.cgm"], model.as_slice(), b"", printed)
+    prints(
+        &rt,
+        alloc,
+        &["encode", "model.cgm"],
+        model.as_slice(),
+        b"",
+        printed,
+    )
 }
 
 // The earlier text is judged before the limit.
@@ -99,5 +127,12 @@ fn earlier_text_first(rt: HostRuntime) -> Result<(), Fail> {
     let words = ["encode", "model.cgm", "--earlier=old.txt"];
     let model = big_model(rt.alloc(), 1)?;
     let printed = (Status::Earlier, "fault earlier 2 form\n".as_bytes());
-    prints(&rt, rt.alloc(), &words, model.as_slice(), b"earlier 1\nA\n", printed)
+    prints(
+        &rt,
+        rt.alloc(),
+        &words,
+        model.as_slice(),
+        b"earlier 1\nA\n",
+        printed,
+    )
 }

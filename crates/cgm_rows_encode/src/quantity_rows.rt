@@ -32,7 +32,13 @@ fn each_quantity(rt: HostRuntime) -> Result<(), Fail> {
     let lines = format!(in rt.alloc();
         "{WISHES_VARIABLES}{WISHES_CLAUSES}{WISHES_ROWS}{WISHES_OBJECTIVES}"
     )?;
-    encodes_after(&rt, rt.alloc(), WISHES, "earlier 1\nB true\nA false\n", &lines)
+    encodes_after(
+        &rt,
+        rt.alloc(),
+        WISHES,
+        "earlier 1\nB true\nA false\n",
+        &lines,
+    )
 }
 
 const NEW_TASK: &str = "cgm 1\ntask T\nobjective min familiarity\nobjective min effort\n";

@@ -73,5 +73,12 @@ pub(crate) fn encodes_after(
     let problem = format!(in alloc; "cgm-problem 1\n{lines}")?;
     let words = ["encode", "model.cgm", "--earlier=old.txt"];
     let printed = (Status::Done, problem.as_bytes());
-    prints(rt, alloc, &words, model.as_bytes(), earlier.as_bytes(), printed)
+    prints(
+        rt,
+        alloc,
+        &words,
+        model.as_bytes(),
+        earlier.as_bytes(),
+        printed,
+    )
 }

@@ -1,11 +1,11 @@
 // The problem of a model, or the row limit that it passes.
-ghost use Rattle.std.specs.Prelude.{◌≡◌, ◌<◌, MatchResult, OnOk, length, slice_index_or};
-ghost use Rattle.cgm_base.specs.declared.status.Status.TheVariants as statuses;
-ghost use Rattle.cgm_encode.specs.Encoding.{IsEncodable, IsEncodingOf};
+ghost use Rattle.std.specs.Prelude.{◌≡◌, MatchResult, OnOk, length};
+ghost use Rattle.cgm_enc_formula.specs.Measures.{IsWithinMeasure};
+ghost use Rattle.cgm_encode.specs.Encoding.{IsEncodable, IsEncodingOf, number_box};
 ghost use Rattle.cgm_encode.specs.ProblemText.{problem_text};
 ghost use Rattle.cgm_model.specs.Model.{lists_of};
-ghost use Rattle.cgm_cli.specs.Outcome.{printing, HasNoProblem, HasTextOutcome, TellsOrLacksMemory, row_limit};
-ghost use Rattle.cgm_cli.specs.FaultLines.{limit_fault};
+ghost use Rattle.cgm_model.specs.Place.{FirstFails};
+ghost use Rattle.cgm_cli.specs.Outcome.{printing, HasNoProblem, HasTextOutcome};
 
 use crate::input::Input;
 use crate::print::{PlacedFault, print_report, tell_fault, tell_memory};
@@ -14,18 +14,22 @@ use cgm_encode::{EncodeStop, Encoded, encode, print_problem};
 use cgm_shelf::Sink;
 use std::alloc::Global;
 
-/// Tells that a comparison of this rule passes the limit, with the rule's line.
+/// Tells that a comparison of this rule, the first such rule, passes the limit, with the rule's line.
 pub(crate) fn tell_row_limit<O: Sink>(
     alloc: Global,
-    rule_lines: &[u32],
+    input: &Input,
     rule: u32,
     out: &mut O,
 ) -> Status
-    requires { rule < length rule_lines.now }
-    ensures { TellsOrLacksMemory
+    requires lines { length input.now.reading.rule_lines.items ≡ length input.now.reading.model.rules }
+    requires first { FirstFails
+        (IsWithinMeasure (lists_of input.now.reading.model)
+        (number_box (lists_of input.now.reading.model))) input.now.reading.model.rules rule }
+    ensures { HasNoProblem (lists_of input.now.reading.model) input.now.reading.rule_lines.items
         (printing (O.written out.old) (O.written out.new) (O.faults out.old) (O.faults out.new))
-        (limit_fault (row_limit (slice_index_or rule_lines.now rule 0))) statuses.Limit result }
+        result }
 {
+    let rule_lines = input.reading.rule_lines.as_slice();
     let limit = Limit {
         which: Which::Row,
         number: limits::ROW,
@@ -51,10 +55,7 @@ pub(crate) fn encoding_of<O: Sink>(
 {
     match encode(alloc, &input.reading.model, &input.earlier) {
         Ok(encoded) => Ok(encoded),
-        Err(EncodeStop::Row { rule }) => {
-            let rule_lines = input.reading.rule_lines.as_slice();
-            Err(tell_row_limit(alloc, rule_lines, rule, out))
-        }
+        Err(EncodeStop::Row { rule }) => Err(tell_row_limit(alloc, input, rule, out)),
         Err(EncodeStop::Memory) => Err(tell_memory(out)),
     }
 }

@@ -49,7 +49,7 @@ pub(crate) fn number_or(
     text: Option<&str>,
 ) -> Option<u64>
     requires { default ≤ greatest }
-    ensures number { result ≡ number_or least greatest default (option_map (λ t. t.now) text) }
+    ensures number { result ≡ number_or least greatest default (option_map (λ t. t.now) text.entry) }
     ensures within { IfSome result (λ number. number ≤ greatest) }
 {
     match text {

@@ -72,7 +72,7 @@ fn run_command<F: Shelf, O: Sink>(
     out: &mut O,
     work: &mut Work,
 ) -> Status
-    requires { HasPlan command.entry }
+    requires { HasPlan command }
     ensures outcome { HasCommandOutcome (told_by command.entry)
         (shelving (F.files shelf.old) (F.read_faults shelf.old) (F.read_faults shelf.new))
         (printing (O.written out.old) (O.written out.new) (O.faults out.old) (O.faults out.new))

@@ -37,9 +37,7 @@ pub(crate) fn solve<O: Sink>(
     let m = &input.reading.model;
     match solve_alone(alloc, m, &input.earlier, plan, work) {
         Ok(answer) => print_answer(alloc, m, &answer, out),
-        Err(SolveStop::Row { rule }) => {
-            tell_row_limit(alloc, input.reading.rule_lines.as_slice(), rule, out)
-        }
+        Err(SolveStop::Row { rule }) => tell_row_limit(alloc, input, rule, out),
         Err(SolveStop::Memory) => tell_memory(out),
     }
 }

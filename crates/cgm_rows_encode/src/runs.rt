@@ -2,6 +2,7 @@
 use cgm_base::Status;
 use cgm_cli::run_quiet;
 use cgm_shelf::{MemShelf, MemSink};
+use cgm_trail::Work;
 use std::alloc::{AllocError, Global};
 use std::process::Abort;
 use std::test::Fail;
@@ -26,7 +27,8 @@ pub(crate) fn run_words(
     shelf.put("old.txt", earlier)?;
     let mut sink = MemSink::new(alloc, 4096, Vec::new(alloc));
     let owned = owned_words(alloc, words)?;
-    let status = run_quiet(alloc, owned.as_slice(), &mut shelf, &mut sink);
+    let mut work = Work::new(alloc);
+    let status = run_quiet(alloc, owned.as_slice(), &mut shelf, &mut sink, &mut work);
     Ok((status, sink))
 }
 

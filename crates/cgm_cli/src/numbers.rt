@@ -1,5 +1,7 @@
 // The numbers that options give.
 ghost use Rattle.std.specs.Prelude.{◌≡◌, ◌≤◌, IfSome, option_map};
+ghost use Rattle.std.specs.Char.{is_ascii_digit};
+ghost use Rattle.std.specs.List.{list_all};
 ghost use Rattle.cgm_cli.specs.Numbers.{is_between, is_numeral, number_in, number_or};
 
 /// The most digits of a number, leading zeros among them.
@@ -10,9 +12,13 @@ fn is_numeral(text: &str) -> bool
     ensures { result ≡ is_numeral text.now }
 {
     let bytes = text.as_bytes();
-    1 <= bytes.len()
-        && bytes.len() <= MAX_DIGITS
-        && bytes.iter().all(|byte| byte.is_ascii_digit())
+    1 <= bytes.len() && bytes.len() <= MAX_DIGITS && are_digits(bytes)
+}
+
+fn are_digits(bytes: &[u8]) -> bool
+    ensures { result ≡ list_all is_ascii_digit bytes.now }
+{
+    bytes.iter().all(|byte| byte.is_ascii_digit())
 }
 
 fn is_between(least: u64, greatest: u64, number: u64) -> bool

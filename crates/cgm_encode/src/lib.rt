@@ -2,5 +2,9 @@
 #![tactic(auto)]
 
 mod answer;
+mod printer;
+mod words;
 
 pub use answer::{Answer, Encoded, Found, SolveStop};
+pub use cgm_atom::OutOfMemory;
+pub use printer::print_problem;

@@ -1,12 +1,14 @@
 -- Variables and rows that are added to a problem, and expressions: the terms and the constant of a total.
-use Rattle.std.specs.Prelude.{◌≡◌, ℕ, ◌+◌, ◌==◌, cond, List, [], ◌∷◌, ◌++◌, map, ℤ, pos, negsuc, ◌+ℤ◌, neg_ℤ, unsigned_abs, Option, None, Some}
+use Rattle.std.specs.Prelude.{ℕ, ◌+◌, ◌^◌, ◌<◌, ◌≤◌, List, [], ◌∷◌, ◌++◌, map, ℤ, pos, negsuc, ◌+ℤ◌, neg_ℤ, unsigned_abs}
+use Rattle.std.specs.List.{All}
 use Rattle.std.specs.BTreeMap.{BTreeMap, get}
 use Rattle.std.specs.Option.{unwrap_or}
 use Rattle.std.specs.Ordering.{nat_cmp}
 use Rattle.cgm_atom.specs.declared.constraints.Row.{Row}
 use Rattle.cgm_atom.specs.declared.constraints.Var.{Var}
 use Rattle.cgm_atom.specs.Bounds.{Bounds}
-use Rattle.cgm_atom.specs.Instance.{Instance}
+use Rattle.cgm_atom.specs.Instance.{Instance, var_count}
+use Rattle.cgm_atom.specs.Limits.{AreTermsOf, max_measure, measure}
 use Rattle.cgm_atom.specs.Narrowing.{greatest_activity}
 use Rattle.cgm_enc_formula.specs.Definitions.{negative}
 use Rattle.cgm_encode.specs.declared.expressions.Expression.{Expression}
@@ -62,6 +64,7 @@ defining_rows e =
 -- the expression has terms of the problem, its measure and its constant are within their limits
 pub record IsMeasured (p : Instance) (e : Expression) : Type 0 where
   pub terms : AreTermsOf (var_count p) e.terms
+  pub coefficients : All (λ t. unsigned_abs t.0 < 2 ^ 63) e.terms
   pub measure_limit : measure p.bounds e.terms ≤ max_measure
   pub constant : unsigned_abs e.constant ≤ max_measure
 

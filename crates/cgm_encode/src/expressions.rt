@@ -1,5 +1,5 @@
 //! Linear expressions over a problem's variables.
-ghost use Rattle.std.specs.Prelude.{◌≡◌, ◌+◌, ◌^◌, ◌<◌, ◌==◌, ℕ, pos, ◌+ℤ◌, neg_ℤ, unsigned_abs, if◌then◌else◌, All, IfOk, OnOk};
+ghost use Rattle.std.specs.Prelude.{◌≡◌, ◌++◌, ◌∷◌, [], ◌+◌, ◌^◌, ◌<◌, ◌==◌, ℕ, pos, ◌+ℤ◌, neg_ℤ, unsigned_abs, if◌then◌else◌, All, IfOk, OnOk};
 ghost use Rattle.std.specs.BTreeMap.{IsOrdered};
 ghost use Rattle.std.specs.Ordering.{nat_cmp};
 ghost use Rattle.cgm_enc_formula.specs.Definitions.{negative as negative_of};

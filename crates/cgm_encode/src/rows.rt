@@ -1,6 +1,6 @@
 //! The rows by which variables are the values of expressions.
-ghost use Rattle.std.specs.Prelude.{◌≡◌, ◌≢◌, ◌+◌, ◌-◌, ◌*◌, ◌<◌, ◌≤◌, ◌^◌, ◌∷◌, length, flat_map, pos, negsuc, neg_ℤ, unsigned_abs, All, OnOk};
-ghost use Rattle.std.specs.List.{enumerate_from};
+ghost use Rattle.std.specs.Prelude.{◌≡◌, ◌≢◌, ◌+◌, ◌-◌, ◌*◌, ◌<◌, ◌≤◌, ◌^◌, ◌∷◌, length, flat_map, pos, negsuc, neg_ℤ, unsigned_abs, All, IfOk, OnOk};
+ghost use Rattle.std.specs.List.{zip};
 ghost use Rattle.cgm_atom.specs.Building.{with_row};
 ghost use Rattle.cgm_atom.specs.Instance.{var_count};
 ghost use Rattle.cgm_atom.specs.Limits.{AreTermsOf};
@@ -11,20 +11,21 @@ use crate::expressions::{Expression, negative};
 use cgm_atom::{OutOfMemory, ProblemBuilder, Row, Seq, Var};
 use std::alloc::Global;
 
-/// Adds the rows by which the variables from the first on are the values of the expressions.
+/// Adds the rows by which each variable is the value of the expression at its place.
 pub(crate) fn add_defining_rows(
     alloc: Global,
     b: &mut ProblemBuilder,
-    first: u32,
+    variables: &[u32],
     expressions: &[Expression],
 ) -> Result<(), OutOfMemory>
-    requires expressions { All (IsDefining first) expressions.now }
-    requires known { first + length expressions.now ≤ var_count b.old }
+    requires count { length variables.now ≡ length expressions.now }
+    requires known { All (λ v. v < var_count b.old) variables.now }
+    requires expressions { All (λ v. All (IsDefining v) expressions.now) variables.now }
     requires room { length b.old.rows + 2 * length expressions.now ≤ 2 ^ 32 - 1 }
-    ensures { OnOk result (b.new ≡ with_rows b.old (flat_map defining_rows (enumerate_from first expressions.now))) }
+    ensures { OnOk result (b.new ≡ with_rows b.old (flat_map defining_rows (zip variables.now expressions.now))) }
 {
-    for (number, e) in expressions.iter().enumerate() {
-        add_two_rows(alloc, b, first + number as u32, e)?;
+    for (place, e) in expressions.iter().enumerate() {
+        add_two_rows(alloc, b, variables[place], e)?;
     }
     Ok(())
 }

@@ -1,0 +1,6 @@
+pub mod AddedRows
+pub mod AddedVariables
+pub mod CombinedTerms
+pub mod LeastSums
+pub mod SharesBySum
+pub mod SharesSoFar

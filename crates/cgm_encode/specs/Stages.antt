@@ -1,0 +1,42 @@
+-- The problem of a model as it grows: after the sums, after the rules, after the preferences.
+use Rattle.std.specs.Prelude.{ℕ, List, [], ◌++◌, map, flat_map}
+use Rattle.std.specs.List.{enumerate_from}
+use Rattle.cgm_atom.specs.Building.{without_repeats}
+use Rattle.cgm_atom.specs.Instance.{Instance, var_count}
+use Rattle.cgm_model.specs.declared.lists.Lists.{Lists}
+use Rattle.cgm_enc_graph.specs.GraphClauses.{graph_clauses}
+use Rattle.cgm_encode.specs.declared.expressions.Expression.{Expression}
+use Rattle.cgm_encode.specs.Building.{defining_rows, expression_range, with_ranges, with_rows}
+use Rattle.cgm_encode.specs.Problem.{box_of, choice_ranges, model_rules_part, number_ranges, preferences_written, rule_ranges, sum_rows}
+
+-- elements, refinements, variables and sums
+abbrev pub numbers_instance : Lists → Instance
+numbers_instance m = record { bounds = box_of (number_ranges m); clauses = graph_clauses m; rows = sum_rows m; objectives = [] }
+
+-- and rules
+abbrev pub rules_instance : Lists → Instance
+rules_instance m = record {
+  bounds = box_of (rule_ranges m);
+  clauses = graph_clauses m ++ map without_repeats (model_rules_part m).clauses;
+  rows = sum_rows m ++ (model_rules_part m).rows;
+  objectives = [];
+}
+
+-- and preferences
+abbrev pub choices_instance : Lists → Instance
+choices_instance m = record {
+  bounds = box_of (choice_ranges m);
+  clauses = (graph_clauses m ++ map without_repeats (model_rules_part m).clauses) ++ map without_repeats (preferences_written m);
+  rows = sum_rows m ++ (model_rules_part m).rows;
+  objectives = [];
+}
+
+-- the problem with a variable more for each expression, and the rows by which it is the expression's value
+abbrev pub with_defined : Instance → List Expression → Instance
+with_defined p expressions =
+    with_rows (with_ranges p (map (expression_range p.bounds) expressions))
+    (flat_map defining_rows (enumerate_from (var_count p) expressions))
+
+-- the problem with these objectives more
+abbrev pub with_objectives : Instance → List ℕ → Instance
+with_objectives p variables = record p { objectives = p.objectives ++ map (λ x. record { 0 = x }) variables }

@@ -11,7 +11,8 @@ use Rattle.cgm_evolve.specs.Pairs.{Pair}
 use Rattle.cgm_obj.specs.Least.{IsLeastRealization, Realizes}
 use Rattle.cgm_obj.specs.Vector.{vector_of}
 use Rattle.cgm_encode.specs.Assignments.{decoded, extension}
-use Rattle.cgm_encode.specs.Problem.{box_of, choice_ranges, number_ranges, objective_rows, problem_of, sum_rows}
+use Rattle.cgm_encode.specs.Problem.{box_of, number_ranges, objective_rows, preferences_written, problem_of, sum_rows}
+use Rattle.cgm_encode.specs.Variables.{first_objective}
 
 -- ---- both ways
 
@@ -59,11 +60,10 @@ NoSolutionNoRealization =
 
 -- ---- sizes
 
--- the bounds are in order and within their limit, the clauses have variables of the problem, and all counts are below 2^31
+-- the bounds are in order and within their limit, and all counts are below 2^31
 pub record IsSmallProblem (p : Instance) : Type 0 where
   pub proper : IsProper p.bounds
   pub sizes : (x : ℕ) → IsBound (lower_of p.bounds x) × IsBound (upper_of p.bounds x)
-  pub clauses : All (IsClauseOf (var_count p)) p.clauses
   pub var_limit : var_count p < 2 ^ 31
   pub clause_limit : length p.clauses < 2 ^ 31
   pub row_limit : length p.rows < 2 ^ 31
@@ -71,6 +71,10 @@ pub record IsSmallProblem (p : Instance) : Type 0 where
 
 abbrev pub ProblemsAreSmall : Type 0
 ProblemsAreSmall = (m : Lists) (pairs : List Pair) → ∥ IsWellFormed m ∥₁ → IsSmallProblem (problem_of m pairs)
+
+-- the clauses of preferences have variables before the objectives
+abbrev pub PreferencesAreKnown : Type 0
+PreferencesAreKnown = (m : Lists) → ∥ IsWellFormed m ∥₁ → All (IsClauseOf (first_objective m)) (preferences_written m)
 
 -- the rows of sums are rows of the box of elements, refinements, variables and sums
 abbrev pub SumRowsFit : Type 0

@@ -1,5 +1,5 @@
 //! Laws over the definitions. Each function does nothing: its contract is the law.
-ghost use Rattle.cgm_encode.specs.Laws.{LeastSolutionsDecode, NoSolutionNoRealization, ObjectiveRowsFit, ProblemsAreSmall, RealizationsExtend, SolutionsDecode, SumRowsFit};
+ghost use Rattle.cgm_encode.specs.Laws.{LeastSolutionsDecode, NoSolutionNoRealization, ObjectiveRowsFit, PreferencesAreKnown, ProblemsAreSmall, RealizationsExtend, SolutionsDecode, SumRowsFit};
 
 /// Each solution of a model's problem decodes to a realization of the model, whose vector is the list
 /// of the objective values.
@@ -27,6 +27,11 @@ pub fn no_solution_no_realization()
 /// bounds of at most 10^15 in size.
 pub fn problems_are_small()
     ensures { ProblemsAreSmall }
+{}
+
+/// The clauses of preferences have variables of elements, refinements and preferences alone.
+pub fn preferences_are_known()
+    ensures { PreferencesAreKnown }
 {}
 
 /// The rows of sums have known, distinct variables and stay within the limit of a row.

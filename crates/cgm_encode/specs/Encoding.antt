@@ -1,5 +1,5 @@
 -- What it is to be the encoding of a model and an earlier realization, and what encoding answers.
-use Rattle.std.specs.Prelude.{◌≡◌, ℕ, List, length, Result, Ok, Err}
+use Rattle.std.specs.Prelude.{◌≡◌, List, length, Result, Ok, Err}
 use Rattle.cgm_atom.specs.Bounds.{Bounds}
 use Rattle.cgm_model.specs.declared.lists.Lists.{Lists}
 use Rattle.cgm_model.specs.Place.{Each, FirstFails}

@@ -1,5 +1,5 @@
 -- The sums and the objectives of a model as totals of variables.
-use Rattle.std.specs.Prelude.{ℕ, ◌==◌, Bool, ◌&&◌, not, cond, if◌then◌else◌, List, [], ◌∷◌, ◌++◌, length, map, filter, count_by, ℤ, pos, negsuc, neg_ℤ}
+use Rattle.std.specs.Prelude.{ℕ, ◌==◌, Bool, ◌&&◌, not, cond, if◌then◌else◌, List, [], ◌∷◌, ◌++◌, length, map, filter, count_by, pos, negsuc, neg_ℤ}
 use Rattle.std.specs.List.{range_with_len}
 use Rattle.cgm_formula.specs.declared.formula.Number.TheVariants as number
 use Rattle.cgm_model.specs.declared.lists.Lists.{Lists}
@@ -10,8 +10,7 @@ use Rattle.cgm_evolve.specs.Costs.{earlier_truth, elements_of_interest, was_true
 use Rattle.cgm_evolve.specs.Leaves.{element_numbers, is_leaf_task, leaf_tasks}
 use Rattle.cgm_evolve.specs.Pairs.{Pair}
 use Rattle.cgm_obj.specs.Counts.{is_free_requirement}
-use Rattle.cgm_enc_formula.specs.Rules.{rule_definitions}
-use Rattle.cgm_enc_formula.specs.Terms.{model_variables, number_variable}
+use Rattle.cgm_enc_formula.specs.Terms.{number_variable}
 use Rattle.cgm_enc_graph.specs.Literals.{variable_of}
 use Rattle.cgm_encode.specs.Totals.{Share, Total, opposite_total}
 use Rattle.cgm_encode.specs.Variables.{first_preference}

@@ -1,14 +1,35 @@
 -- Values lie in a box of ranges exactly where each value lies in its range.
-use Rattle.std.proofs.Common.{◌≡◌, ℕ, ◌+◌, ◌<◌, ◌≤◌, List, length, get_or, map, sym, subst, arith, ⊎_elim}
+use Rattle.std.proofs.Common.{◌≡◌, ℕ, zero, suc, ◌+◌, ◌<◌, ◌≤◌, List, ◌∷◌, ◌++◌, replicate, refl, length, get_or, map, sym, ap, ◌∙◌, subst, arith, ⊎_elim}
 use Rattle.std.specs.Prelude.{ℤ, pos, ◌≤ℤ◌}
 use Rattle.std.proofs.lemmas.Bool.{cases_lt}
 use Rattle.std.proofs.lemmas.Int.{ints}
-use Rattle.std.proofs.lemmas.List.{get_or-map, get_or_past, length-map}
-use Rattle.cgm_atom.specs.Bounds.{IsWithin, lower_of, upper_of, value_of}
+use Rattle.std.proofs.lemmas.List.{get_or-map, get_or_past, length-map, map-append}
+use Rattle.cgm_atom.specs.Bounds.{Bounds, IsWithin, lower_of, upper_of, value_of}
 use Rattle.cgm_model.specs.Place.{EachFrom}
-use Rattle.cgm_encode.specs.Problem.{box_of}
+use Rattle.cgm_encode.specs.Problem.{bits, box_of}
 use Rattle.cgm_encode.specs.Totals.{Range}
 use Rattle.cgm_encode.proofs.GroupPlaces.{each_at, each_of, moved}
+
+-- ---- boxes joined
+
+pub box_joined : (rs qs : List Range) → box_of (rs ++ qs) ≡ record { lower = (box_of rs).lower ++ map (λ r. r.0) qs; upper = (box_of rs).upper ++ map (λ r. r.1) qs }
+box_joined rs qs =
+    let both : List ℤ → List ℤ → Bounds = λ lower upper. record { lower = lower; upper = upper } in
+    ap (λ (lower : List ℤ). both lower (map (λ r. r.1) (rs ++ qs))) (map-append (λ (r : Range). r.0) rs qs)
+    ∙ ap (λ (upper : List ℤ). both (map (λ r. r.0) rs ++ map (λ r. r.0) qs) upper) (map-append (λ (r : Range). r.1) rs qs)
+
+map_same : (f : Range → ℤ) (n : ℕ) (r : Range) → map f (replicate n r) ≡ replicate n (f r)
+map_same f zero r = refl
+map_same f (suc n) r = ap (λ (zs : List ℤ). f r ∷ zs) (map_same f n r)
+
+pub box_and_bits : (rs : List Range) (n : ℕ) → box_of (rs ++ bits n) ≡ record { lower = (box_of rs).lower ++ replicate n (pos 0); upper = (box_of rs).upper ++ replicate n (pos 1) }
+box_and_bits rs n =
+    let both : List ℤ → List ℤ → Bounds = λ lower upper. record { lower = (box_of rs).lower ++ lower; upper = (box_of rs).upper ++ upper } in
+    box_joined rs (bits n)
+    ∙ ap (λ (lower : List ℤ). both lower (map (λ r. r.1) (bits n))) (map_same (λ r. r.0) n (pos 0, pos 1))
+    ∙ ap (λ (upper : List ℤ). both (replicate n (pos 0)) upper) (map_same (λ r. r.1) n (pos 0, pos 1))
+
+-- ---- values in a box
 
 -- the value of variable x lies in the range
 abbrev pub Lies : List ℤ → ℕ → Range → Type 0

@@ -9,6 +9,7 @@ pub mod KnownParts
 pub mod KnownSizes
 pub mod LeastSolutions
 pub mod Meanings
+pub mod MeasuredTotals
 pub mod PreferenceTruths
 pub mod ProblemRows
 pub mod ProblemSizes

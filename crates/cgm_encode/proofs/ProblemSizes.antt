@@ -80,7 +80,7 @@ all_choice m pairs x d l =
 
 -- ---- sizes of bounds
 
-size_at : (rs : List Range) (x : ℕ) (r : Range) → x < length rs → get_or rs x (pos 0, pos 0) ≡ r → greatest_size (box_of rs) x ≡ max (unsigned_abs r.0) (unsigned_abs r.1)
+pub size_at : (rs : List Range) (x : ℕ) (r : Range) → x < length rs → get_or rs x (pos 0, pos 0) ≡ r → greatest_size (box_of rs) x ≡ max (unsigned_abs r.0) (unsigned_abs r.1)
 size_at rs x r l e =
     let none : Range = (pos 0, pos 0) in
     ap (λ (z : ℤ). max (unsigned_abs z) (unsigned_abs (upper_of (box_of rs) x))) (lower_at rs x none l)
@@ -267,7 +267,7 @@ module _ (m : Lists) (parts : HasKnownParts m) (sizes : HasKnownSizes m) where
       All-append (IsSmallRange 1000000000) (bits (truth_variables m)) (map own_range m.vars) (bits_small 1000000000 (truth_variables m) (omega arith))
       (All-map (IsSmallRange 1000000000) own_range m.vars (λ k d l. (sizes.low k d l, sizes.high k d l)))
 
-  own_truths : (x : ℕ) → x < truth_variables m → greatest_size (box_of (own_ranges m)) x ≤ 1
+  pub own_truths : (x : ℕ) → x < truth_variables m → greatest_size (box_of (own_ranges m)) x ≤ 1
   own_truths x l =
       let long = own_long m in
       let at = size_at (own_ranges m) x (pos 0, pos 1) (omega arith) (own_truth m x (pos 0, pos 0) l) in
@@ -303,7 +303,7 @@ module _ (m : Lists) (parts : HasKnownParts m) (sizes : HasKnownSizes m) where
       let own = own_long m in
       choice_number m x (pos 0, pos 0) (omega arith) ∙ number_own m x (pos 0, pos 0) (omega arith) ∙ own_truth m x (pos 0, pos 0) l
 
-  choice_sizes : HasSizes m 1000000000000 (box_of (choice_ranges m))
+  pub choice_sizes : HasSizes m 1000000000000 (box_of (choice_ranges m))
   choice_sizes =
       let long = choices_long m in
       let one = one_range (pos 0, pos 1) refl in

@@ -2,11 +2,11 @@
 #![tactic(auto)]
 
 mod answer;
-mod decoding;
+mod assignments;
 mod encoding;
 mod expressions;
-mod extending;
 mod interest;
+pub mod laws;
 mod marks;
 mod names;
 mod preferences;
@@ -16,13 +16,14 @@ mod ranges;
 mod rows;
 mod sums;
 mod telling;
+mod values;
 mod variables;
 mod words;
 
 pub use answer::{Answer, Encoded, Found, SolveStop};
+pub use assignments::decode;
 pub use cgm_atom::OutOfMemory;
 pub use cgm_enc_formula::EncodeStop;
-pub use decoding::decode;
 pub use encoding::encode;
-pub use extending::extend;
 pub use printer::print_problem;
+pub use values::extend;

@@ -1,7 +1,7 @@
 use Rattle.std.proofs.Common.{◌≡◌, ◌++◌, take, map, not}
 use Rattle.cgm_obj.specs.Counts.{is_met}
 use Rattle.cgm_encode.specs.Assignments.{bit}
-use Rattle.cgm_encode.proofs.extending.push_preferences.Given as goal
+use Rattle.cgm_encode.proofs.values.push_preferences.Given as goal
 
 abbrev pub invariant-loop-p : goal.invariant-loop-p
 invariant-loop-p l =

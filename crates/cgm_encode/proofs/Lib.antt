@@ -12,6 +12,7 @@ pub mod KnownParts
 pub mod KnownSizes
 pub mod LeastSolutions
 pub mod LeastSums
+pub mod Lines
 pub mod Meanings
 pub mod MeasuredTotals
 pub mod PreferenceTruths

@@ -7,6 +7,7 @@ use Rattle.std.specs.Option.{unwrap_or}
 use Rattle.std.specs.BTreeMap.{is_at}
 use Rattle.std.specs.Ordering.{nat_cmp}
 use Rattle.std.proofs.lemmas.Int.{ints}
+use Rattle.std.proofs.lemmas.List.Sums.{sum_by-cons}
 use Rattle.cgm_encode.specs.Building.{number_at, share_size}
 use Rattle.cgm_encode.specs.Totals.{Share, combined}
 
@@ -41,21 +42,21 @@ own_size false k = omega arith
 regrouped : (old new own rest whole : ℤ) → new ≡ old +ℤ own → old +ℤ (own +ℤ rest) ≡ whole → new +ℤ rest ≡ whole
 regrouped old new own rest whole e f = omega (arith, ints)
 
-sized : (old new own : ℤ) (k rest whole : ℕ) → new ≡ old +ℤ own → unsigned_abs own ≤ k → unsigned_abs old + (k + rest) ≤ whole → unsigned_abs new + rest ≤ whole
-sized old new own k rest whole e small h = omega (arith, ints)
+sized : (old new own : ℤ) (k rest whole : ℕ) → new ≡ old +ℤ own → unsigned_abs own ≤ k → (both : ℕ) → both ≡ k + rest → unsigned_abs old + both ≤ whole → unsigned_abs new + rest ≤ whole
+sized old new own k rest whole e small both f h = omega (arith, ints)
 
 pub combined_more : (all rest : List Share) (s : Share) (old new : BTreeMap ℕ ℤ) → ((x : ℕ) → number_at new x ≡ number_at old x +ℤ number_for s x) → AreCombinedSoFar all (s ∷ rest) old → AreCombinedSoFar all rest new
 combined_more all rest s old new change far = record {
   total = λ x. regrouped (number_at old x) (number_at new x) (number_for s x) (combined rest x) (combined all x) (change x) (far.total x);
-  size = λ x. sized (number_at old x) (number_at new x) (number_for s x) (unsigned_abs s.0) (share_size rest) (share_size all) (change x) (own_size (s.1 == x) s.0) (far.size x);
+  size = λ x. sized (number_at old x) (number_at new x) (number_for s x) (unsigned_abs s.0) (share_size rest) (share_size all) (change x) (own_size (s.1 == x) s.0) (share_size (s ∷ rest)) (sum_by-cons (λ (u : Share). unsigned_abs u.0) s rest) (far.size x);
 }
 
-room : (n k rest whole : ℕ) → whole < 2 ^ 63 → n + (k + rest) ≤ whole → n + k < 2 ^ 63
-room n k rest whole small h = omega arith
+room : (n k rest both whole : ℕ) → whole < 2 ^ 63 → both ≡ k + rest → n + both ≤ whole → n + k < 2 ^ 63
+room n k rest both whole small e h = omega arith
 
 pub combined_room : (all rest : List Share) (s : Share) (old : BTreeMap ℕ ℤ) → share_size all < 2 ^ 63 → AreCombinedSoFar all (s ∷ rest) old → unsigned_abs (number_at old s.1) + unsigned_abs s.0 < 2 ^ 63
 combined_room all rest s old small far =
-    room (unsigned_abs (number_at old s.1)) (unsigned_abs s.0) (share_size rest) (share_size all) small (far.size s.1)
+    room (unsigned_abs (number_at old s.1)) (unsigned_abs s.0) (share_size rest) (share_size (s ∷ rest)) (share_size all) small (sum_by-cons (λ (u : Share). unsigned_abs u.0) s rest) (far.size s.1)
 
 nothing_after : (z whole : ℤ) → z +ℤ pos 0 ≡ whole → z ≡ whole
 nothing_after z whole e = omega (arith, ints)

@@ -1,5 +1,5 @@
 -- Variables and rows that are added to a problem, and expressions: the terms and the constant of a total.
-use Rattle.std.specs.Prelude.{ℕ, ◌+◌, ◌^◌, ◌<◌, ◌≤◌, List, [], ◌∷◌, ◌++◌, map, ℤ, pos, negsuc, ◌+ℤ◌, neg_ℤ, unsigned_abs}
+use Rattle.std.specs.Prelude.{ℕ, ◌+◌, ◌^◌, ◌<◌, ◌≤◌, List, [], ◌∷◌, ◌++◌, map, ℤ, pos, negsuc, ◌+ℤ◌, neg_ℤ, unsigned_abs, sum_by}
 use Rattle.std.specs.List.{All}
 use Rattle.std.specs.BTreeMap.{BTreeMap, get}
 use Rattle.std.specs.Option.{unwrap_or}
@@ -37,18 +37,13 @@ number_at numbers x = unwrap_or (get nat_cmp numbers x) (pos 0)
 
 -- the sizes of the numbers of shares, added up
 abbrev pub share_size : List Share → ℕ
-share_size [] = 0
-share_size (s ∷ shares) = unsigned_abs s.0 + share_size shares
+share_size shares = sum_by (λ s. unsigned_abs s.0) shares
 
 -- ---- expressions
 
 -- the terms of a total of the first n variables, and its constant
 abbrev pub expression_of : ℕ → Total → Expression
 expression_of n t = record { terms = combined_terms n t.shares; constant = t.constant }
-
--- the expression with its sign changed
-abbrev pub opposite_expression : Expression → Expression
-opposite_expression e = record { terms = negative e.terms; constant = neg_ℤ e.constant }
 
 -- the least and the greatest value that the box allows an expression
 abbrev pub expression_range : Bounds → Expression → Range

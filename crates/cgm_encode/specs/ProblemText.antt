@@ -40,8 +40,12 @@ abbrev pub line : List ℕ → List (List ℕ) → List ℕ
 line word words = word ++ (spaced words ++ 10 ∷ [])
 
 -- `var V LO HI`
+abbrev pub range_line : ℕ → ℤ → ℤ → List ℕ
+range_line v lo hi = line (codes "var") (decimal v ∷ signed_decimal lo ∷ signed_decimal hi ∷ [])
+
+-- with the bounds of the variable in the box
 abbrev pub var_line : Bounds → ℕ → List ℕ
-var_line b v = line (codes "var") (decimal v ∷ signed_decimal (lower_of b v) ∷ signed_decimal (upper_of b v) ∷ [])
+var_line b v = range_line v (lower_of b v) (upper_of b v)
 
 -- `clause C` and its atoms
 abbrev pub clause_line : ℕ × Clause → List ℕ

@@ -4,7 +4,7 @@ ghost use Rattle.std.specs.BTreeMap.{IsOrdered};
 ghost use Rattle.std.specs.Ordering.{nat_cmp};
 ghost use Rattle.cgm_enc_formula.specs.Definitions.{negative as negative_of};
 ghost use Rattle.cgm_enc_formula.specs.Terms.{as_terms, nonzero};
-ghost use Rattle.cgm_encode.specs.Building.{number_at, opposite_expression, share_size};
+ghost use Rattle.cgm_encode.specs.Building.{number_at, share_size};
 ghost use Rattle.cgm_encode.specs.Totals.{combined, combined_terms as terms_of};
 
 use cgm_atom::{OutOfMemory, Seq, Var};
@@ -90,19 +90,6 @@ fn push_nonzero(terms: &mut Vec<(i64, Var)>, number: i64, x: u32) -> Result<(), 
     }
     terms.push((number, Var(x)))?;
     Ok(())
-}
-
-/// The expression with its sign changed.
-pub(crate) fn opposite(alloc: Global, e: &Expression) -> Result<Expression, OutOfMemory>
-    requires terms { All (λ t. unsigned_abs t.0 < 2 ^ 63) e.now.terms }
-    requires constant { unsigned_abs e.now.constant < 2 ^ 63 }
-    ensures { IfOk result (λ opposite. opposite ≡ opposite_expression e.now) }
-{
-    let terms = negative(alloc, e.terms.as_slice())?;
-    Ok(Expression {
-        terms: Seq::of(terms),
-        constant: -e.constant,
-    })
 }
 
 /// Each coefficient with its sign changed.

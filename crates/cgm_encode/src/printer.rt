@@ -2,7 +2,7 @@
 ghost use Rattle.std.specs.Prelude.{◌≡◌, ◌<◌, ◌++◌, ◌∷◌, length, map, flat_map, IfOk, OnOk};
 ghost use Rattle.std.specs.List.{enumerate_from, range_with_len};
 ghost use Rattle.cgm_atom.specs.Instance.{var_count};
-ghost use Rattle.cgm_encode.specs.ProblemText.{atom_word, clause_line, clause_lines as lines_of_clauses, objective_line, problem_text, row_line, row_lines as lines_of_rows, spaced, term_word, var_line, var_lines as lines_of_variables};
+ghost use Rattle.cgm_encode.specs.ProblemText.{atom_word, clause_line, clause_lines as lines_of_clauses, objective_line, problem_text, range_line, row_line, row_lines as lines_of_rows, spaced, term_word, var_line, var_lines as lines_of_variables};
 
 use crate::words::{push_atom, push_guard, push_number, push_term, push_value};
 use cgm_atom::{Atom, Clause, OutOfMemory, Problem, Row, Var};
@@ -37,6 +37,12 @@ fn push_var(out: &mut Vec<u8>, p: &Problem, v: u32) -> Result<(), OutOfMemory>
     ensures { OnOk result (out.new.items ≡ out.old.items ++ var_line p.now.bounds v) }
 {
     let (lo, hi) = p.bounds(Var(v));
+    push_range(out, v, lo, hi)
+}
+
+fn push_range(out: &mut Vec<u8>, v: u32, lo: i64, hi: i64) -> Result<(), OutOfMemory>
+    ensures { OnOk result (out.new.items ≡ out.old.items ++ range_line v lo hi) }
+{
     out.extend_from_slice(b"var")?;
     push_number(out, v)?;
     push_value(out, lo)?;

@@ -1,16 +1,16 @@
 //! The objectives of a model as expressions.
-ghost use Rattle.std.specs.Prelude.{◌≡◌, ◌+◌, ◌<◌, ◌≤◌, ◌^◌, ◌++◌, ℕ, length, map, pos, negsuc, neg_ℤ, cond, count_by, unsigned_abs, All, IfOk, OnOk};
+ghost use Rattle.std.specs.Prelude.{◌≡◌, ◌<◌, ◌≤◌, ◌^◌, ◌++◌, length, map, pos, negsuc, neg_ℤ, cond, count_by, unsigned_abs, All, IfOk, OnOk};
 ghost use Rattle.cgm_model.specs.Model.{lists_of};
 ghost use Rattle.cgm_model.specs.Statement.{IsKnownQuantity};
 ghost use Rattle.cgm_evolve.specs.Costs.{elements_of_interest as elements_of_interest_in};
-ghost use Rattle.cgm_encode.specs.Building.{expression_of};
+ghost use Rattle.cgm_encode.specs.Building.{expression_of, share_size};
 ghost use Rattle.cgm_encode.specs.Summands.{AreSummandsOf, AreVariablesOfPreferences};
 ghost use Rattle.cgm_encode.specs.Quantities as quantities;
 ghost use Rattle.cgm_encode.specs.Quantities.{objective_total, ones as ones_of, quantity_total};
-ghost use Rattle.cgm_encode.specs.Totals.{Share};
+ghost use Rattle.cgm_encode.specs.Totals.{opposite_total};
 ghost use Rattle.cgm_encode.specs.Variables.{first_objective};
 
-use crate::expressions::{Expression, combined_terms, opposite};
+use crate::expressions::{Expression, combined_terms};
 use crate::interest::{
     elements_of_interest, free_requirements, leaf_tasks, possible_work, was_true_before,
 };
@@ -55,33 +55,68 @@ fn objective_expression(
 ) -> Result<Expression, OutOfMemory>
     requires preferences { AreVariablesOfPreferences (lists_of m.now) preferences.now }
     requires known { IsKnownQuantity (lists_of m.now) o.of }
+    requires shares { All (λ s. s.1 < first_objective (lists_of m.now)) (objective_total (lists_of m.now) e.now.pairs o).shares }
+    requires numbers { share_size (objective_total (lists_of m.now) e.now.pairs o).shares < 2 ^ 63 }
+    requires constant { unsigned_abs (objective_total (lists_of m.now) e.now.pairs o).constant < 2 ^ 63 }
     ensures { IfOk result (λ x. x ≡ expression_of (first_objective (lists_of m.now)) (objective_total (lists_of m.now) e.now.pairs o)) }
 {
-    let quantity = quantity_expression(alloc, m, e, preferences, o.of)?;
-    if o.max {
-        opposite(alloc, &quantity)
-    } else {
-        Ok(quantity)
-    }
-}
-
-fn quantity_expression(
-    alloc: Global,
-    m: &Model,
-    e: &Earlier,
-    preferences: &[u32],
-    q: Quantity,
-) -> Result<Expression, OutOfMemory>
-    requires preferences { AreVariablesOfPreferences (lists_of m.now) preferences.now }
-    requires known { IsKnownQuantity (lists_of m.now) q }
-    ensures { IfOk result (λ x. x ≡ expression_of (first_objective (lists_of m.now)) (quantity_total (lists_of m.now) e.now.pairs q)) }
-{
-    let summands = summands_of(alloc, m, e, preferences, q)?;
+    let summands = objective_summands(alloc, m, e, preferences, o)?;
     let terms = combined_terms(alloc, summands.shares.as_slice())?;
     Ok(Expression {
         terms: Seq::of(terms),
         constant: summands.constant,
     })
+}
+
+fn objective_summands(
+    alloc: Global,
+    m: &Model,
+    e: &Earlier,
+    preferences: &[u32],
+    o: Objective,
+) -> Result<Summands, OutOfMemory>
+    requires preferences { AreVariablesOfPreferences (lists_of m.now) preferences.now }
+    requires known { IsKnownQuantity (lists_of m.now) o.of }
+    requires numbers { share_size (objective_total (lists_of m.now) e.now.pairs o).shares < 2 ^ 63 }
+    requires constant { unsigned_abs (objective_total (lists_of m.now) e.now.pairs o).constant < 2 ^ 63 }
+    ensures { IfOk result (λ s. AreSummandsOf s (objective_total (lists_of m.now) e.now.pairs o)) }
+{
+    let summands = summands_of(alloc, m, e, preferences, o.of)?;
+    if o.max {
+        return opposite(alloc, &summands);
+    }
+    Ok(summands)
+}
+
+/// The summands with their signs changed.
+fn opposite(alloc: Global, summands: &Summands) -> Result<Summands, OutOfMemory>
+    requires shares { All (λ s. unsigned_abs s.0 < 2 ^ 63) summands.now.shares }
+    requires constant { unsigned_abs summands.now.constant < 2 ^ 63 }
+    ensures { IfOk result (λ s. AreSummandsOf s (opposite_total (record { shares = summands.now.shares; constant = summands.now.constant }))) }
+{
+    let shares = opposite_shares(alloc, summands.shares.as_slice())?;
+    Ok(Summands {
+        shares: Seq::of(shares),
+        constant: -summands.constant,
+    })
+}
+
+fn opposite_shares(alloc: Global, shares: &[(i64, u32)]) -> Result<Vec<(i64, u32)>, OutOfMemory>
+    requires { All (λ s. unsigned_abs s.0 < 2 ^ 63) shares.now }
+    ensures { IfOk result (λ opposites. opposites.items ≡ map (λ s. (neg_ℤ s.0, s.1)) shares.now) }
+{
+    let mut opposites = Vec::with_capacity(alloc, shares.len())?;
+    for share in shares {
+        opposites.push(opposite_share(share))?;
+    }
+    Ok(opposites)
+}
+
+fn opposite_share(share: &(i64, u32)) -> (i64, u32)
+    requires { unsigned_abs share.now.0 < 2 ^ 63 }
+    ensures { result ≡ (neg_ℤ share.now.0, share.now.1) }
+{
+    (-share.0, share.1)
 }
 
 fn summands_of(

@@ -1,0 +1,10 @@
+pub mod Agreement
+pub mod DefinitionTruths
+pub mod Extending
+pub mod LiteralTruths
+pub mod NamingKnown
+pub mod NamingTruths
+pub mod RuleMeanings
+pub mod Splits
+pub mod TermOrders
+pub mod TermSums

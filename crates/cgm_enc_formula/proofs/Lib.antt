@@ -1,10 +1,13 @@
 pub mod Agreement
+pub mod DefinitionLists
 pub mod DefinitionTruths
 pub mod Extending
 pub mod LiteralTruths
 pub mod NamingKnown
 pub mod NamingTruths
 pub mod RuleMeanings
+pub mod RuleSizes
 pub mod Splits
 pub mod TermOrders
 pub mod TermSums
+pub mod WellFormedRules

@@ -3,6 +3,8 @@ use Rattle.std.specs.Prelude.{◌≡◌, ◌↔◌, ℕ, ◌+◌, ◌*◌, ◌<�
 use Rattle.std.specs.List.{All}
 use Rattle.cgm_atom.specs.Atoms.{clause_true, row_true}
 use Rattle.cgm_atom.specs.Bounds.{value_of}
+use Rattle.cgm_base.specs.declared.limit.Which.TheVariants as limits
+use Rattle.cgm_base.specs.Words.{limit_number}
 use Rattle.cgm_formula.specs.declared.assignment.Assignment.{Assignment}
 use Rattle.cgm_formula.specs.declared.formula.Number.TheVariants as number
 use Rattle.cgm_model.specs.declared.lists.Lists.{Lists}
@@ -17,8 +19,8 @@ use Rattle.cgm_enc_graph.specs.Assignments.{StandFor}
 
 -- each variable and each sum has the value of its problem variable
 pub record StandForNumbers (m : Lists) (values : List ℤ) (a : Assignment) (sums : List ℤ) : Type 0 where
-  pub vars : (k : ℕ) → k < length m.vars → slice_index_or a.vars k (pos 0) ≡ value_of values (number_variable m (number.Var k))
-  pub sums : (k : ℕ) → k < length m.sums → slice_index_or sums k (pos 0) ≡ value_of values (number_variable m (number.Sum k))
+  pub variables : (k : ℕ) → k < length m.vars → slice_index_or a.vars k (pos 0) ≡ value_of values (number_variable m (number.Var k))
+  pub totals : (k : ℕ) → k < length m.sums → slice_index_or sums k (pos 0) ≡ value_of values (number_variable m (number.Sum k))
 
 -- each clause is true and each row is met
 pub record MeetPart (values : List ℤ) (part : Part) : Type 0 where
@@ -53,3 +55,12 @@ RuleDefinitionsAreKnown =
     → ∥ IsWellFormed m ∥₁
     → model_variables m ≤ n
     → AreDefinitionsFrom n (rule_definitions m n m.rules)
+
+-- for each node of the formulas at most three naming variables, four clauses, those of the rules included, and four rows
+pub record IsSmallPart (part : Part) : Type 0 where
+  pub names : part.names ≤ 3 * limit_number limits.FormulaNodes
+  pub clauses : length part.clauses ≤ 4 * limit_number limits.FormulaNodes
+  pub rows : length part.rows ≤ 4 * limit_number limits.FormulaNodes
+
+abbrev pub RulesPartIsSmall : Type 0
+RulesPartIsSmall = (m : Lists) (n : ℕ) → ∥ IsWellFormed m ∥₁ → IsSmallPart (rules_part m n m.rules)

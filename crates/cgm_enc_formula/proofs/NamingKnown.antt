@@ -62,7 +62,7 @@ module _ (m : Lists) where
   abbrev pub HasTerms : Linear × ℤ → Type 0
   HasTerms c = AreTermsOf (model_variables m) (nonzero (variable_terms m c.0.terms))
 
-  abbrev IsNameable : Formula → Type 0
+  abbrev pub IsNameable : Formula → Type 0
   IsNameable f = All (IsKnownTruth m) (names_of f) → All HasTerms (comparisons f) → (n : ℕ) → model_variables m ≤ n → IsKnownNamed n (naming m f n)
 
   by_step : (f : Formula) (step : Naming) (n : ℕ) → naming m f ≡ step → IsKnownNamed n (step n) → IsKnownNamed n (naming m f n)

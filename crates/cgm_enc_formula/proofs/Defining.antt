@@ -21,6 +21,7 @@ use Rattle.cgm_enc_formula.proofs.TermOrders.{terms_wider}
 use Rattle.cgm_enc_graph.specs.Adding.{CanTake, with_written}
 use Rattle.cgm_enc_graph.specs.GraphClauses.{clause}
 use Rattle.cgm_enc_graph.specs.Literals.{literal, negated}
+use Rattle.cgm_enc_graph.proofs.Additions.{AreLeft, first_left, left_all, left_last, left_more}
 
 abbrev pub named : Instance → Instance
 named p = with_var p (pos 0) (pos 1)
@@ -151,3 +152,63 @@ pub named_terms : (p : Instance) (terms : List (ℤ × Var)) → AreTermsOf (var
 named_terms p terms h =
     let count = named-count p in
     terms_wider (var_count p) (var_count (named p)) (omega arith) terms h
+
+-- the terms are known behind the variable too
+pub terms_after : (old new : Instance) (terms same : List (ℤ × Var)) → var_count new ≡ var_count old + 1 → same ≡ terms → AreTermsOf (var_count old) terms → AreTermsOf (var_count new) same
+terms_after old new terms same count e h =
+    subst (λ (ts : List (ℤ × Var)). AreTermsOf (var_count new) ts) (sym e) (terms_wider (var_count old) (var_count new) (omega arith) terms h)
+
+-- ---- the clauses of a definition, one after another
+
+-- all of them are left where the variable alone was added
+pub all_left : (old p : Instance) (d : Definition) → p ≡ named old → IsDefinitionOf (var_count old) d → HasRoomFor old (definition_part (var_count old) d) → AreLeft p (definition_clauses (var_count old) d) p (definition_clauses (var_count old) d)
+all_left old p d e known h =
+    left_all p (definition_clauses (var_count old) d) (subst (λ (q : Instance). CanTake q (definition_clauses (var_count old) d)) (sym e) (clauses_fit old d known h))
+
+pub clauses_added : (old p q : Instance) (clauses : List Clause) → p ≡ named old → q ≡ with_written p clauses → q ≡ with_part old (record_part 1 clauses [])
+clauses_added old p q clauses e is = is ∙ ap (λ (x : Instance). with_written x clauses) e ∙ defined_by_clauses old clauses
+
+-- of two literals
+module _ (old p : Instance) (f g : Literal) (e : p ≡ named old) (known_f : f.variable < var_count old) (known_g : g.variable < var_count old) (room : HasRoomFor old (definition_part (var_count old) (same_as f g))) where
+  abbrev pub first : Clause
+  first = clause (negated (var_count old) ∷ atom_of (opposite f) ∷ atom_of g ∷ [])
+
+  abbrev pub second : Clause
+  second = clause (negated (var_count old) ∷ atom_of f ∷ atom_of (opposite g) ∷ [])
+
+  abbrev pub third : Clause
+  third = clause (literal (var_count old) ∷ atom_of f ∷ atom_of g ∷ [])
+
+  abbrev pub fourth : Clause
+  fourth = clause (literal (var_count old) ∷ atom_of (opposite f) ∷ atom_of (opposite g) ∷ [])
+
+  abbrev all : List Clause
+  all = first ∷ second ∷ third ∷ fourth ∷ []
+
+  at_first : AreLeft p all p all
+  at_first = all_left old p (same_as f g) e (known_f, known_g) room
+
+  pub first_fits : CanTake p (first ∷ [])
+  first_fits = first_left p p all (first ∷ []) (second ∷ third ∷ fourth ∷ []) at_first
+
+  after_first : (q : Instance) → q ≡ with_written p (first ∷ []) → AreLeft p all q (second ∷ third ∷ fourth ∷ [])
+  after_first q is = left_more p p q all (first ∷ []) (second ∷ third ∷ fourth ∷ []) at_first is
+
+  pub second_fits : (q : Instance) → q ≡ with_written p (first ∷ []) → CanTake q (second ∷ [])
+  second_fits q is = first_left p q all (second ∷ []) (third ∷ fourth ∷ []) (after_first q is)
+
+  after_second : (q r : Instance) → q ≡ with_written p (first ∷ []) → r ≡ with_written q (second ∷ []) → AreLeft p all r (third ∷ fourth ∷ [])
+  after_second q r is next = left_more p q r all (second ∷ []) (third ∷ fourth ∷ []) (after_first q is) next
+
+  pub third_fits : (q r : Instance) → q ≡ with_written p (first ∷ []) → r ≡ with_written q (second ∷ []) → CanTake r (third ∷ [])
+  third_fits q r is next = first_left p r all (third ∷ []) (fourth ∷ []) (after_second q r is next)
+
+  after_third : (q r s : Instance) → q ≡ with_written p (first ∷ []) → r ≡ with_written q (second ∷ []) → s ≡ with_written r (third ∷ []) → AreLeft p all s (fourth ∷ [])
+  after_third q r s is next more = left_more p r s all (third ∷ []) (fourth ∷ []) (after_second q r is next) more
+
+  pub fourth_fits : (q r s : Instance) → q ≡ with_written p (first ∷ []) → r ≡ with_written q (second ∷ []) → s ≡ with_written r (third ∷ []) → CanTake s (fourth ∷ [])
+  fourth_fits q r s is next more = (after_third q r s is next more).room
+
+  pub same_added : (q r s t : Instance) → q ≡ with_written p (first ∷ []) → r ≡ with_written q (second ∷ []) → s ≡ with_written r (third ∷ []) → t ≡ with_written s (fourth ∷ []) → t ≡ with_part old (definition_part (var_count old) (same_as f g))
+  same_added q r s t is next more last =
+      clauses_added old p t all e (left_last p s t all (fourth ∷ []) (after_third q r s is next more) last)

@@ -20,22 +20,3 @@ add_row-requires-2-clause-terms c =
     let b = c.args.b.now in
     let count = ap (λ (x : Instance). var_count x) c.in_ok-add_row.ensures ∙ ap (λ (x : Instance). var_count x) c.in_ok-p.ensures.added ∙ named-count b in
     terms_after b c.add_row.new.b c.args.terms.now c.in_ok-same_terms.same_terms.items count c.in_ok-same_terms.ensures.items c.requires.known
-
-pub returns-clause-added : goal.returns-clause-added
-returns-clause-added c =
-    let b = c.args.b.now in
-    let n = var_count b in
-    let terms = c.args.terms.now in
-    let k = c.args.k in
-    let p : c.in_ok-p.p ≡ n = c.in_ok-p.ensures.number in
-    let one : c.literal.result ≡ literal n = c.literal.ensures ∙ ap literal p in
-    let other : c.negated.result ≡ negated n = c.negated.ensures ∙ ap negated p in
-    let first : row_where c.literal.result c.in_ok-negative_terms.negative_terms.items c.negated_number.result ≡ row_where (literal n) (negative terms) (neg_ℤ k) = cc c.in_ok-negative_terms.ensures in
-    let second : row_where c.negated.result c.in_ok-same_terms.same_terms.items c.next_number.result ≡ row_where (negated n) terms (k +ℤ pos 1) = cc c.in_ok-same_terms.ensures.items in
-    let last = row_where (negated n) terms (k +ℤ pos 1) in
-    c.in_ok-add_row-2.ensures
-    ∙ ap (λ (r : Row). with_row c.add_row.new.b r) second
-    ∙ ap (λ (x : Instance). with_row x last) c.in_ok-add_row.ensures
-    ∙ ap (λ (r : Row). with_row (with_row c.new_name.new.b r) last) first
-    ∙ ap (λ (x : Instance). with_row (with_row x (row_where (literal n) (negative terms) (neg_ℤ k))) last) c.in_ok-p.ensures.added
-    ∙ defined_by_rows b (row_where (literal n) (negative terms) (neg_ℤ k)) last

@@ -1,7 +1,5 @@
 -- The definitions of a formula have variables before their own, and its literal is one of them or of the model.
-use Rattle.std.proofs.Common.{◌≡◌, ℕ, ◌+◌, ◌<◌, ◌≤◌, List, [], ◌∷◌, ◌++◌, length, map, refl, sym, ap, ◌∙◌, subst, arith}
-use Rattle.std.proofs.Math.Logic.{∥∥₁_elim}
-use Rattle.std.proofs.Props.{props}
+use Rattle.std.proofs.Common.{◌≡◌, ℕ, ◌+◌, ◌<◌, ◌≤◌, List, [], ◌∷◌, ◌++◌, length, get_or, map, refl, sym, ap, ◌∙◌, subst, arith}
 use Rattle.std.specs.Prelude.{ℤ, IsTrue}
 use Rattle.std.specs.List.{All, AllByRecursion, list_all}
 use Rattle.std.proofs.lemmas.List.{length-append}
@@ -30,6 +28,7 @@ use Rattle.cgm_enc_formula.specs.Rules.{rule_definitions}
 use Rattle.cgm_enc_formula.specs.Terms.{model_variables, nonzero, row_terms, variable_terms}
 use Rattle.cgm_enc_formula.proofs.Splits.{name_of_name, names_of_conjunction, names_of_disjunction, names_of_equivalence, names_of_implication, names_of_negation}
 use Rattle.cgm_enc_formula.proofs.TermOrders.{row_terms_known, terms_known, terms_wider}
+use Rattle.cgm_enc_formula.proofs.WellFormedRules.{each_rule}
 use Rattle.cgm_enc_graph.specs.Literals.{truth_variables, variable_of}
 
 pub known_both : (n : ℕ) (xs ys : List Definition) → AreDefinitionsFrom n xs → AreDefinitionsFrom (n + length xs) ys → AreDefinitionsFrom n (xs ++ ys)
@@ -63,7 +62,7 @@ module _ (m : Lists) where
   abbrev pub HasTerms : Linear × ℤ → Type 0
   HasTerms c = AreTermsOf (model_variables m) (nonzero (variable_terms m c.0.terms))
 
-  abbrev IsNameable : Formula → Type 0
+  abbrev pub IsNameable : Formula → Type 0
   IsNameable f = All (IsKnownTruth m) (names_of f) → All HasTerms (comparisons f) → (n : ℕ) → model_variables m ≤ n → IsKnownNamed n (naming m f n)
 
   by_step : (f : Formula) (step : Naming) (n : ℕ) → naming m f ≡ step → IsKnownNamed n (step n) → IsKnownNamed n (naming m f n)
@@ -210,11 +209,8 @@ module _ (m : Lists) where
       known_both n named.definitions (rule_definitions m (n + length named.definitions) rs) one.definitions
       (definitions_known (n + length named.definitions) rs (omega arith) (All-tail HasKnownFormula r rs h))
 
-  formulas_known : IsWellFormed m → All HasKnownFormula m.rules
-  formulas_known w k d l = formula_known _ (w.rules k d l)
-
 pub rule_formulas_known : (m : Lists) → ∥ IsWellFormed m ∥₁ → All (HasKnownFormula m) m.rules
-rule_formulas_known m well = ∥∥₁_elim well (hlevel props) (formulas_known m)
+rule_formulas_known m well k d l = formula_known m (get_or m.rules k d) (each_rule m well k d l)
 
 pub rule_definitions_known : (m : Lists) (n : ℕ) → ∥ IsWellFormed m ∥₁ → model_variables m ≤ n → AreDefinitionsFrom n (rule_definitions m n m.rules)
 rule_definitions_known m n well few = definitions_known m n m.rules few (rule_formulas_known m well)

@@ -1,7 +1,5 @@
 -- The clauses and rows of rules are met exactly where the naming variables are defined and each rule holds.
 use Rattle.std.proofs.Common.{◌≡◌, ℕ, ◌+◌, ◌<◌, ◌↔◌, Bool, true, false, cond, not, ◌||◌, ◌&&◌, IsTrue, List, [], ◌∷◌, ◌++◌, length, map, refl, sym, ap, ◌∙◌, subst, Decides, arith}
-use Rattle.std.proofs.Math.Logic.{∥∥₁_elim}
-use Rattle.std.proofs.Props.{props}
 use Rattle.std.specs.Prelude.{ℤ, pos}
 use Rattle.std.specs.List.{All, enumerate_from, flat_map, list_all}
 use Rattle.std.proofs.lemmas.Bool.{and_parts, and_from}
@@ -36,24 +34,15 @@ use Rattle.cgm_enc_formula.specs.Literals.{literal_true}
 use Rattle.cgm_enc_formula.specs.Naming.{naming}
 use Rattle.cgm_enc_formula.specs.Rules.{clauses_from, rows_from, rule_clause, rule_clauses, rule_definitions, rule_rows}
 use Rattle.cgm_enc_formula.proofs.Agreement.{truth_agrees}
+use Rattle.cgm_enc_formula.proofs.DefinitionLists.{rows_both}
 use Rattle.cgm_enc_formula.proofs.DefinitionTruths.{definitions_mean, met, met-append}
 use Rattle.cgm_enc_formula.proofs.LiteralTruths.{or_false}
 use Rattle.cgm_enc_formula.proofs.NamingTruths.{both_defined, defined_both, literal_is_truth, names_at, numbers_at}
+use Rattle.cgm_enc_formula.proofs.WellFormedRules.{each_rule}
 use Rattle.cgm_enc_graph.specs.Assignments.{StandFor, truth_at}
 use Rattle.cgm_enc_graph.specs.Literals.{variable_of}
 use Rattle.cgm_enc_graph.proofs.ClauseTruths.{all_repeats-true, negated-true}
 use Rattle.cgm_enc_graph.proofs.RuleTruths.{Decides-implies}
-
--- ---- rows of definitions in two parts
-
-rows_both : (n : ℕ) (xs ys : List Definition) → rows_from n (xs ++ ys) ≡ rows_from n xs ++ rows_from (n + length xs) ys
-rows_both n [] ys =
-    let here : n ≡ n + 0 = omega arith in
-    ap (λ (k : ℕ). rows_from k ys) here
-rows_both n (x ∷ xs) ys =
-    let there : n + 1 + length xs ≡ n + length (x ∷ xs) = omega arith in
-    ap (λ (rows : List Row). definition_rows n x ++ rows) (rows_both (n + 1) xs ys ∙ ap (λ (k : ℕ). rows_from (n + 1) xs ++ rows_from k ys) there)
-    ∙ sym (append_assoc (definition_rows n x) (rows_from (n + 1) xs) (rows_from (n + length (x ∷ xs)) ys))
 
 grouped : (a b c : Bool) → ((a && b) && c) ≡ (a && (b && c))
 grouped true b c = refl
@@ -139,8 +128,8 @@ module _ (m : Lists) (values : List ℤ) (a : Assignment) (sums : List ℤ) (sta
   same_name (names.Refinement k) known = sym (stand.refinements k known)
 
   same_number : (x : Number) → IsKnownNumber m x → numbers_at m values x ≡ number_in a sums x
-  same_number (number.Var k) known = sym (numbers.vars k known)
-  same_number (number.Sum k) known = sym (numbers.sums k known)
+  same_number (number.Var k) known = sym (numbers.variables k known)
+  same_number (number.Sum k) known = sym (numbers.totals k known)
 
   same_truth_of : (r : Rule) → IsProperRule m r → truth (names_at m values) (numbers_at m values) (formula_of r) ≡ truth (name_in a) (number_in a sums) (formula_of r)
   same_truth_of r proper =
@@ -171,11 +160,8 @@ module _ (m : Lists) (values : List ℤ) (a : Assignment) (sums : List ℤ) (sta
   each_held place (r ∷ rs) proper h =
       ((same_rule place r (All-head (IsProperRule m) r rs proper)).1 h.0, each_held (place + 1) rs (All-tail (IsProperRule m) r rs proper) h.1)
 
-proper_of : (m : Lists) → IsWellFormed m → All (IsProperRule m) m.rules
-proper_of m w k d l = (w.rules k d l).proper
-
 proper_rules : (m : Lists) → ∥ IsWellFormed m ∥₁ → All (IsProperRule m) m.rules
-proper_rules m well = ∥∥₁_elim well (hlevel props) (proper_of m)
+proper_rules m well k d l = (each_rule m well k d l).proper
 
 pub rules_part_means : (m : Lists) (values : List ℤ) (a : Assignment) (sums : List ℤ) (n : ℕ) → ∥ IsWellFormed m ∥₁ → StandFor m values a → StandForNumbers m values a sums → MeetPart values (rules_part m n m.rules) ↔ (AreDefined values n (rule_definitions m n m.rules) × Each (KeepsRule a sums) m.rules)
 unfolding rules_part

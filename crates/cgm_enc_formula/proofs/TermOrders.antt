@@ -44,7 +44,7 @@ terms_placed count t (u ∷ terms) h =
     (absent_placed u.1.0 t terms apart h.3.2)
     (terms_placed count t terms (h.0, h.1, h.2.1, h.3.3))
 
-apart_placed : (t : ℤ × Var) (so_far rest : List (ℤ × Var)) → AreApart so_far rest → IsAbsent t.1.0 rest → AreApart (placed t so_far) rest
+pub apart_placed : (t : ℤ × Var) (so_far rest : List (ℤ × Var)) → AreApart so_far rest → IsAbsent t.1.0 rest → AreApart (placed t so_far) rest
 apart_placed t so_far [] h k = tt
 apart_placed t so_far (u ∷ rest) h k =
     let apart : t.1.0 ≢ u.1.0 = λ same. k.0 (sym same) in

@@ -1,5 +1,5 @@
 //! Naming variables, each with the clauses or rows that define it.
-ghost use Rattle.std.specs.Prelude.{◌≡◌, ◌+◌, ◌-◌, ◌^◌, ◌<◌, ◌≤◌, ◌∷◌, [], length, map, pos, neg_ℤ, unsigned_abs, All, IfOk, OnOk};
+ghost use Rattle.std.specs.Prelude.{◌≡◌, ◌+◌, ◌-◌, ◌^◌, ◌<◌, ◌≤◌, ◌∷◌, [], length, map, pos, neg_ℤ, ◌+ℤ◌, unsigned_abs, All, IfOk, OnOk};
 ghost use Rattle.cgm_atom.specs.Building.{with_row, with_var};
 ghost use Rattle.cgm_atom.specs.Instance.{var_count};
 ghost use Rattle.cgm_atom.specs.Limits.{AreTermsOf, max_measure};
@@ -89,9 +89,9 @@ pub(crate) fn define_at_most(
 {
     let p = new_name(b)?;
     let negative_terms = negative(alloc, terms)?;
-    add_row(b, literal(p), negative_terms, -k)?;
+    add_row(b, literal(p), negative_terms, negated_number(k))?;
     let same_terms = Vec::from_slice(alloc, terms)?;
-    add_row(b, negated(p), same_terms, k + 1)?;
+    add_row(b, negated(p), same_terms, next_number(k))?;
     Ok(positive(p))
 }
 
@@ -115,6 +115,20 @@ pub(crate) fn define_at_least(
     let negative_terms = negative(alloc, terms)?;
     add_row(b, negated(p), negative_terms, 1 - k)?;
     Ok(positive(p))
+}
+
+fn negated_number(k: i64) -> i64
+    requires { unsigned_abs k ≤ max_measure }
+    ensures { result ≡ neg_ℤ k }
+{
+    -k
+}
+
+fn next_number(k: i64) -> i64
+    requires { unsigned_abs k ≤ max_measure }
+    ensures { result ≡ k +ℤ pos 1 }
+{
+    k + 1
 }
 
 /// A new variable of 0 or 1.

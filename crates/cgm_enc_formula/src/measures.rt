@@ -1,5 +1,5 @@
 //! The measures of comparisons.
-ghost use Rattle.std.specs.Prelude.{◌≡◌, ◌*◌, ◌≤◌, ◌↔◌, ◌^◌, nat_le, length, unsigned_abs, IsTrue, All, MatchOption};
+ghost use Rattle.std.specs.Prelude.{◌≡◌, ◌*◌, ◌≤◌, ◌↔◌, ◌^◌, ◌&&◌, nat_le, length, unsigned_abs, IsTrue, All, MatchOption};
 ghost use Rattle.std.specs.List.{list_all};
 ghost use Rattle.cgm_atom.specs.Instance.{var_count};
 ghost use Rattle.cgm_atom.specs.Limits.{greatest_size, max_measure, measure};
@@ -57,12 +57,12 @@ fn has_small_measures(m: &Model, b: &ProblemBuilder, formula: &Formula) -> bool
         Formula::Implies(premise, conclusion) => {
             let premise = has_small_measures(m, b, premise.get());
             let conclusion = has_small_measures(m, b, conclusion.get());
-            premise && conclusion
+            both(premise, conclusion)
         }
         Formula::Iff(one, other) => {
             let one = has_small_measures(m, b, one.get());
             let other = has_small_measures(m, b, other.get());
-            one && other
+            both(one, other)
         }
         Formula::AtMost(linear, k) => is_small(m, b, linear, *k),
         Formula::AtLeast(linear, k) => is_small(m, b, linear, *k),
@@ -82,6 +82,12 @@ fn have_small_measures(m: &Model, b: &ProblemBuilder, parts: &[Formula]) -> bool
         }
     }
     true
+}
+
+fn both(one: bool, other: bool) -> bool
+    ensures { result ≡ (one && other) }
+{
+    one && other
 }
 
 /// Whether a comparison's measure is within the limit.

@@ -21,8 +21,18 @@ pub(crate) fn row_terms(
     ensures { IfOk result (λ terms. terms.items ≡ row_terms_of (lists_of m.now) l.now) }
 {
     let coefficients = by_variable(alloc, m, l.terms.as_slice())?;
+    table_terms(alloc, &coefficients)
+}
+
+/// The terms of a table of coefficients, by ascending variable.
+fn table_terms(
+    alloc: Global,
+    coefficients: &BTreeMap<u32, i64>,
+) -> Result<Vec<(i64, Var)>, OutOfMemory>
+    ensures { IfOk result (λ terms. terms.items ≡ as_terms coefficients.now.entries) }
+{
     let mut terms = Vec::new(alloc);
-    for (variable, coefficient) in &coefficients {
+    for (variable, coefficient) in coefficients {
         terms.push((*coefficient, Var(*variable)))?;
     }
     Ok(terms)

@@ -1,0 +1,168 @@
+-- The steps of naming a formula: parts, then the whole.
+use Rattle.std.proofs.Common.{◌≡◌, ℕ, ◌+◌, ◌<◌, ◌≤◌, List, [], ◌∷◌, ◌++◌, length, get_or, map, drop, refl, sym, ap, ◌∙◌, subst, arith}
+use Rattle.std.specs.List.{All}
+use Rattle.std.proofs.lemmas.List.{append_assoc, append-nil}
+use Rattle.std.proofs.lemmas.List.Elements.{All-head, All-tail, All-weaker, recursion_from_All}
+use Rattle.cgm_atom.specs.Instance.{Instance, var_count}
+use Rattle.cgm_formula.specs.declared.formula.Formula.{Formula}
+use Rattle.cgm_formula.specs.declared.formula.Linear.{Linear}
+use Rattle.cgm_formula.specs.Nodes.{comparisons, names as names_of}
+use Rattle.cgm_model.specs.declared.lists.Lists.{Lists}
+use Rattle.cgm_model.specs.Formulas.{IsKnownTruth}
+use Rattle.cgm_enc_formula.specs.declared.literals.Literal.{Literal}
+use Rattle.cgm_enc_formula.specs.Building.{HasRoomFor, Part, both, definition_part, definitions_part, with_part}
+use Rattle.cgm_enc_formula.specs.Definitions.{Definition}
+use Rattle.cgm_enc_formula.specs.Naming.{Named, NamedParts, Naming, naming, parts_named}
+use Rattle.cgm_enc_formula.specs.Terms.{IsEncodable, IsEncodableFormula, model_variables}
+use Rattle.cgm_enc_formula.proofs.NamingKnown.{AreKnownParts, HasTerms, IsKnownNamed, naming_known, parts_known, IsNameable}
+use Rattle.cgm_enc_formula.proofs.Steps.{IsLeft, definitions_both, first_fits, left_all, left_first, left_more, left_none, one_definition, rest_fits, with-count, with_both}
+
+-- the builder holds the definitions behind what it held
+abbrev pub Adds : Instance → List Definition → Instance → Type 0
+Adds old ds new = new ≡ with_part old (definitions_part (var_count old) ds)
+
+-- there is room for the definitions
+abbrev pub Fits : Instance → List Definition → Type 0
+Fits p ds = HasRoomFor p (definitions_part (var_count p) ds)
+
+pub count_after : (old new : Instance) (ds : List Definition) → Adds old ds new → var_count new ≡ var_count old + length ds
+count_after old new ds e = ap (λ (p : Instance). var_count p) e ∙ with-count old (definitions_part (var_count old) ds)
+
+-- ---- definitions in two parts
+
+pub front_fits : (p : Instance) (xs ys : List Definition) → Fits p (xs ++ ys) → Fits p xs
+front_fits p xs ys h =
+    let n = var_count p in
+    first_fits p (definitions_part n xs) (definitions_part (n + length xs) ys) (subst (λ (x : Part). HasRoomFor p x) (definitions_both n xs ys) h)
+
+pub back_fits : (old new : Instance) (xs ys : List Definition) → Adds old xs new → Fits old (xs ++ ys) → Fits new ys
+back_fits old new xs ys e h =
+    let n = var_count old in
+    let back = rest_fits old (definitions_part n xs) (definitions_part (n + length xs) ys) (subst (λ (x : Part). HasRoomFor old x) (definitions_both n xs ys) h) in
+    subst (λ (k : ℕ). HasRoomFor new (definitions_part k ys)) (sym (count_after old new xs e))
+    (subst (λ (p : Instance). HasRoomFor p (definitions_part (n + length xs) ys)) (sym e) back)
+
+pub both_added : (old new last : Instance) (xs ys : List Definition) → Adds old xs new → Adds new ys last → Adds old (xs ++ ys) last
+both_added old new last xs ys e is =
+    let n = var_count old in
+    is
+    ∙ ap (λ (k : ℕ). with_part new (definitions_part k ys)) (count_after old new xs e)
+    ∙ ap (λ (p : Instance). with_part p (definitions_part (n + length xs) ys)) e
+    ∙ with_both old (definitions_part n xs) (definitions_part (n + length xs) ys)
+    ∙ ap (λ (x : Part). with_part old x) (sym (definitions_both n xs ys))
+
+-- ---- one definition behind others
+
+pub whole_fits : (old new : Instance) (ds : List Definition) (d : Definition) → Adds old ds new → Fits old (ds ++ d ∷ []) → HasRoomFor new (definition_part (var_count new) d)
+whole_fits old new ds d e h =
+    subst (λ (x : Part). HasRoomFor new x) (one_definition (var_count new) d) (back_fits old new ds (d ∷ []) e h)
+
+pub whole_added : (old new last : Instance) (ds : List Definition) (d : Definition) → Adds old ds new → last ≡ with_part new (definition_part (var_count new) d) → Adds old (ds ++ d ∷ []) last
+whole_added old new last ds d e is =
+    both_added old new last ds (d ∷ []) e (is ∙ ap (λ (x : Part). with_part new x) (sym (one_definition (var_count new) d)))
+
+-- ---- formulas
+
+module _ (m : Lists) where
+  pub formula_named : (f : Formula) (n : ℕ) → IsEncodableFormula m f → model_variables m ≤ n → IsKnownNamed n (naming m f n)
+  formula_named f n h few = naming_known m f h.names (λ k d l. (h.comparisons k d l).terms) n few
+
+  -- a formula's literal is known behind its definitions
+  pub literal_within : (f : Formula) (old new : Instance) → IsEncodableFormula m f → model_variables m ≤ var_count old → Adds old (naming m f (var_count old)).definitions new → (naming m f (var_count old)).literal.variable < var_count new
+  literal_within f old new h few e =
+      let known = (formula_named f (var_count old) h few).literal in
+      let count = count_after old new (naming m f (var_count old)).definitions e in
+      omega arith
+
+  -- ---- two formulas, one after the other
+
+  abbrev pub second_naming : Formula → Formula → ℕ → Named
+  second_naming one other n = naming m other (n + length (naming m one n).definitions)
+
+  abbrev pub two_definitions : Formula → Formula → ℕ → List Definition
+  two_definitions one other n = (naming m one n).definitions ++ (second_naming one other n).definitions
+
+  pub second_at : (one other : Formula) (old new : Instance) → Adds old (naming m one (var_count old)).definitions new → second_naming one other (var_count old) ≡ naming m other (var_count new)
+  second_at one other old new e = ap (λ (k : ℕ). naming m other k) (sym (count_after old new (naming m one (var_count old)).definitions e))
+
+  pub first_of_two : (one other : Formula) (d : Definition) (p : Instance) → Fits p (two_definitions one other (var_count p) ++ d ∷ []) → Fits p (naming m one (var_count p)).definitions
+  first_of_two one other d p h =
+      front_fits p (naming m one (var_count p)).definitions (second_naming one other (var_count p)).definitions
+      (front_fits p (two_definitions one other (var_count p)) (d ∷ []) h)
+
+  pub second_of_two : (one other : Formula) (d : Definition) (old new : Instance) → Adds old (naming m one (var_count old)).definitions new → Fits old (two_definitions one other (var_count old) ++ d ∷ []) → Fits new (naming m other (var_count new)).definitions
+  second_of_two one other d old new e h =
+      let n = var_count old in
+      subst (λ (x : Named). Fits new x.definitions) (second_at one other old new e)
+      (back_fits old new (naming m one n).definitions (second_naming one other n).definitions e (front_fits old (two_definitions one other n) (d ∷ []) h))
+
+  pub two_added : (one other : Formula) (old new last : Instance) → Adds old (naming m one (var_count old)).definitions new → Adds new (naming m other (var_count new)).definitions last → Adds old (two_definitions one other (var_count old)) last
+  two_added one other old new last e is =
+      let n = var_count old in
+      both_added old new last (naming m one n).definitions (second_naming one other n).definitions e
+      (subst (λ (x : Named). Adds new x.definitions last) (sym (second_at one other old new e)) is)
+
+  -- ---- a list of formulas
+
+  abbrev pub parts_at : List Formula → ℕ → NamedParts
+  parts_at parts n = parts_named (map (naming m) parts) n
+
+  -- the literals of a list of formulas are known behind their definitions
+  pub literals_within : (parts : List Formula) (old new : Instance) → All (IsEncodableFormula m) parts → model_variables m ≤ var_count old → Adds old (parts_at parts (var_count old)).definitions new → All (λ l. l.variable < var_count new) (parts_at parts (var_count old)).literals
+  literals_within parts old new h few e =
+      let n = var_count old in
+      let known = parts_known m parts (recursion_from_All (IsNameable m) parts (λ k d l. naming_known m (get_or parts k d)))
+          (recursion_from_All (λ f. All (IsKnownTruth m) (names_of f)) parts (λ k d l. (h k d l).names))
+          (recursion_from_All (λ f. All (HasTerms m) (comparisons f)) parts (λ k d l i x w. ((h k d l).comparisons i x w).terms)) n few in
+      let count = count_after old new (parts_at parts n).definitions e in
+      All-weaker (λ (l : Literal). l.variable < n + length (parts_at parts n).definitions) (λ l. l.variable < var_count new) (λ l w. omega arith)
+      (parts_at parts n).literals known.literals
+
+  -- the parts before the rest are named, and the rest is left
+  pub record AreNamed (old : Instance) (all : List Formula) (new : Instance) (ls : List Literal) (rest : List Formula) : Type 0 where
+    pub known : All (IsEncodableFormula m) rest
+    pub variables : model_variables m ≤ var_count new
+    pub left : IsLeft old (definitions_part (var_count old) (parts_at all (var_count old)).definitions) new (definitions_part (var_count new) (parts_at rest (var_count new)).definitions)
+    pub literals : ls ++ (parts_at rest (var_count new)).literals ≡ (parts_at all (var_count old)).literals
+
+  pub named_at_first : (p : Instance) (all : List Formula) → All (IsEncodableFormula m) all → model_variables m ≤ var_count p → Fits p (parts_at all (var_count p)).definitions → AreNamed p all p [] all
+  named_at_first p all h few room = record {
+    known = h;
+    variables = few;
+    left = left_all p (definitions_part (var_count p) (parts_at all (var_count p)).definitions) room;
+    literals = refl;
+  }
+
+  pub next_known : (old p : Instance) (all : List Formula) (ls : List Literal) (part : Formula) (rest : List Formula) → AreNamed old all p ls (part ∷ rest) → IsEncodableFormula m part
+  next_known old p all ls part rest far = All-head (IsEncodableFormula m) part rest far.known
+
+  pub next_fits : (old p : Instance) (all : List Formula) (ls : List Literal) (part : Formula) (rest : List Formula) → AreNamed old all p ls (part ∷ rest) → Fits p (naming m part (var_count p)).definitions
+  next_fits old p all ls part rest far =
+      let n = var_count p in
+      let first = (naming m part n).definitions in
+      front_fits p first (parts_at rest (n + length first)).definitions far.left.room
+
+  pub named_more : (old p q : Instance) (all : List Formula) (ls : List Literal) (l : Literal) (part : Formula) (rest : List Formula) → AreNamed old all p ls (part ∷ rest) → Adds p (naming m part (var_count p)).definitions q → l ≡ (naming m part (var_count p)).literal → AreNamed old all q (ls ++ l ∷ []) rest
+  named_more old p q all ls l part rest far e is =
+      let n = var_count p in
+      let first = naming m part n in
+      let next = n + length first.definitions in
+      let count : var_count q ≡ next = count_after p q first.definitions e in
+      let few = far.variables in
+      let more = (parts_at rest next).definitions in
+      let left = left_more old p q (definitions_part (var_count old) (parts_at all (var_count old)).definitions) (definitions_part n first.definitions)
+          (definitions_part next more) (definitions_part n (first.definitions ++ more)) (definitions_both n first.definitions more) far.left e in
+      record {
+        known = All-tail (IsEncodableFormula m) part rest far.known;
+        variables = omega arith;
+        left = subst (λ (k : ℕ). IsLeft old (definitions_part (var_count old) (parts_at all (var_count old)).definitions) q (definitions_part k (parts_at rest k).definitions)) (sym count) left;
+        literals =
+            append_assoc ls (l ∷ []) (parts_at rest (var_count q)).literals
+            ∙ ap (λ (k : ℕ). ls ++ l ∷ (parts_at rest k).literals) count
+            ∙ ap (λ (x : Literal). ls ++ x ∷ (parts_at rest next).literals) is
+            ∙ far.literals;
+      }
+
+  pub named_at_end : (old p : Instance) (all : List Formula) (ls : List Literal) → AreNamed old all p ls [] → Adds old (parts_at all (var_count old)).definitions p × (ls ≡ (parts_at all (var_count old)).literals)
+  named_at_end old p all ls far =
+      (left_none old p (definitions_part (var_count old) (parts_at all (var_count old)).definitions) far.left, sym (append-nil ls) ∙ far.literals)

@@ -1,6 +1,6 @@
 -- Variables that are added one after another: those that were added with those that are left come to all.
-use Rattle.std.proofs.Common.{◌≡◌, ℕ, suc, ◌+◌, ◌<◌, ◌≤◌, List, [], ◌∷◌, ◌++◌, length, map, refl, sym, ap, ◌∙◌, subst, arith}
-use Rattle.std.specs.Prelude.{ℤ, pos, ◌≤ℤ◌, ◌-◌, ◌^◌, replicate}
+use Rattle.std.proofs.Common.{◌≡◌, ℕ, zero, suc, ◌+◌, ◌<◌, ◌≤◌, List, [], ◌∷◌, ◌++◌, length, map, refl, sym, ap, ◌∙◌, subst, arith}
+use Rattle.std.specs.Prelude.{ℤ, pos, ◌≤ℤ◌, ◌-◌, ◌^◌}
 use Rattle.std.specs.List.{All, range_with_len}
 use Rattle.std.proofs.lemmas.List.{append-nil, append_assoc, length-append, length-replicate}
 use Rattle.std.proofs.lemmas.List.Elements.{All-cons, All-head, All-nil, All-tail}
@@ -10,7 +10,7 @@ use Rattle.cgm_encode.specs.Building.{with_ranges}
 use Rattle.cgm_encode.specs.Problem.{bits}
 use Rattle.cgm_encode.specs.Totals.{Range}
 
-abbrev IsOrderedRange : Range → Type 0
+abbrev pub IsOrderedRange : Range → Type 0
 IsOrderedRange r = r.0 ≤ℤ r.1
 
 abbrev made : Instance → List ℤ → List ℤ → Instance
@@ -117,3 +117,9 @@ pub bits_end : (old p : Instance) (count i : ℕ) (variables : List ℕ) → cou
 bits_end old p count i variables l far =
     let none : count - i ≡ 0 = omega arith in
     ranges_end old p (bits count) (subst (λ (k : ℕ). AreRangesLeft old (bits count) p (bits k)) none far.left)
+
+-- ---- the variables that are answered
+
+pub answered_more : (first i x : ℕ) (variables more : List ℕ) → variables ≡ range_with_len first i → x ≡ first + i → more ≡ variables ++ x ∷ [] → more ≡ range_with_len first (i + 1)
+answered_more first i x variables more are at added =
+    added ∙ ap (λ (vs : List ℕ). vs ++ x ∷ []) are ∙ ap (λ (k : ℕ). range_with_len first i ++ k ∷ []) at ∙ sym (range_more first i)

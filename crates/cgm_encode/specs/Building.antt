@@ -1,5 +1,5 @@
 -- Variables and rows that are added to a problem, and expressions: the terms and the constant of a total.
-use Rattle.std.specs.Prelude.{ℕ, ◌+◌, ◌^◌, ◌<◌, ◌≤◌, List, [], ◌∷◌, ◌++◌, map, ℤ, pos, negsuc, ◌+ℤ◌, neg_ℤ, unsigned_abs, sum_by}
+use Rattle.std.specs.Prelude.{ℕ, ◌+◌, ◌^◌, ◌<◌, ◌≤◌, List, [], ◌∷◌, ◌++◌, map, ℤ, pos, negsuc, ◌+ℤ◌, ◌≤ℤ◌, neg_ℤ, unsigned_abs, sum_by}
 use Rattle.std.specs.List.{All}
 use Rattle.std.specs.BTreeMap.{BTreeMap, get}
 use Rattle.std.specs.Option.{unwrap_or}
@@ -56,12 +56,13 @@ defining_rows e =
     ∷ row_of ((negsuc 0, record { 0 = e.0 }) ∷ e.1.terms) (neg_ℤ e.1.constant)
     ∷ []
 
--- the expression has terms of the problem, its measure and its constant are within their limits
+-- the expression has terms of the problem, its numbers are within their limits, and its range is in order
 pub record IsMeasured (p : Instance) (e : Expression) : Type 0 where
   pub terms : AreTermsOf (var_count p) e.terms
   pub coefficients : All (λ t. unsigned_abs t.0 < 2 ^ 63) e.terms
   pub measure_limit : measure p.bounds e.terms ≤ max_measure
   pub constant : unsigned_abs e.constant ≤ max_measure
+  pub ordered : (expression_range p.bounds e).0 ≤ℤ (expression_range p.bounds e).1
 
 -- the expression can define a variable behind the first n: its terms are those of the first n variables, and its sign can be changed
 pub record IsDefining (n : ℕ) (e : Expression) : Type 0 where

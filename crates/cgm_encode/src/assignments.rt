@@ -19,7 +19,8 @@ pub fn decode(alloc: Global, enc: &Encoded, values: &[i64]) -> Result<Assignment
     requires { IsSolution enc.now.problem values.now }
     ensures { IfOk result (λ a. IsDecoded enc.now values.now a) }
 {
-    assignment(alloc, enc, values)
+    let a = assignment(alloc, enc, values)?;
+    Ok(a)
 }
 
 fn assignment(alloc: Global, enc: &Encoded, values: &[i64]) -> Result<Assignment, OutOfMemory>

@@ -27,7 +27,8 @@ pub(crate) fn combined_terms(
     ensures { IfOk result (λ terms. (n : ℕ) → All (λ s. s.1 < n) shares.now → terms.items ≡ terms_of n shares.now) }
 {
     let numbers = combine(alloc, shares)?;
-    nonzero_terms(alloc, &numbers)
+    let terms = nonzero_terms(alloc, &numbers)?;
+    Ok(terms)
 }
 
 /// The numbers for each variable, added up.

@@ -1,4 +1,4 @@
-use Rattle.std.proofs.Common.{◌≡◌, drop}
+use Rattle.std.proofs.Common.{◌≡◌, ◌+◌, drop}
 use Rattle.std.specs.List.{range_with_len}
 use Rattle.cgm_atom.specs.Instance.{var_count}
 use Rattle.cgm_encode.proofs.AddedVariables.{AreRangesLeft}

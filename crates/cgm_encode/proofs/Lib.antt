@@ -28,6 +28,7 @@ pub mod RuleLaws
 pub mod Shares
 pub mod SharesBySum
 pub mod SharesSoFar
+pub mod ToldRules
 pub mod ToldValues
 pub mod TotalRows
 pub mod TotalSums

@@ -204,7 +204,7 @@ module _ (m : Lists) (names : Truth → Bool) (numbers : Number → ℤ) where
       ∙ more_bits values ts t)
 
   -- one formula after another
-  two : (f : Formula) (values : List ℤ) (rest : ℕ → List Definition) (us : List Bool) → IsTold f → Reads values → IsReadable f → ((more : List ℤ) → Reads more → extended more (rest (length more)) ≡ more ++ map bit us) → extended values ((naming m f (length values)).definitions ++ rest (length values + length (naming m f (length values)).definitions)) ≡ values ++ map bit ((says f).truths ++ us)
+  pub two : (f : Formula) (values : List ℤ) (rest : ℕ → List Definition) (us : List Bool) → IsTold f → Reads values → IsReadable f → ((more : List ℤ) → Reads more → extended more (rest (length more)) ≡ more ++ map bit us) → extended values ((naming m f (length values)).definitions ++ rest (length values + length (naming m f (length values)).definitions)) ≡ values ++ map bit ((says f).truths ++ us)
   two f values rest us h reads readable k =
       let ds = (naming m f (length values)).definitions in
       let before = extended values ds in

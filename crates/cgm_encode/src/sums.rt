@@ -18,7 +18,8 @@ pub(crate) fn sum_expressions(alloc: Global, m: &Model) -> Result<Vec<Expression
     ensures { IfOk result (λ es. es.items ≡ map (λ sum. expression_of (truth_variables (lists_of m.now)) (sum_total (lists_of m.now) sum)) (range_with_len 0 (length m.now.sums))) }
 {
     let lists = shares_by_sum(alloc, m)?;
-    expressions_of(alloc, m, lists.as_slice())
+    let expressions = expressions_of(alloc, m, lists.as_slice())?;
+    Ok(expressions)
 }
 
 /// The numbers of each sum for elements and refinements, in one pass over all value lines.

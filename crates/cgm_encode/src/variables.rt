@@ -34,8 +34,17 @@ pub(crate) fn add_own(b: &mut ProblemBuilder, vars: &[Variable]) -> Result<(), O
     ensures { OnOk result (b.new ≡ with_ranges b.old (map own_range vars.now)) }
 {
     for v in vars {
-        add_variable(b, &(v.lo, v.hi))?;
+        add_one_own(b, v)?;
     }
+    Ok(())
+}
+
+fn add_one_own(b: &mut ProblemBuilder, v: &Variable) -> Result<(), OutOfMemory>
+    requires ordered { v.now.lo ≤ℤ v.now.hi }
+    requires room { var_count b.old < 2 ^ 32 - 1 }
+    ensures { OnOk result (b.new ≡ with_var b.old v.now.lo v.now.hi) }
+{
+    add_variable(b, &(v.lo, v.hi))?;
     Ok(())
 }
 

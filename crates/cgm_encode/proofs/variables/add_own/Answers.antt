@@ -20,6 +20,6 @@ loop-v-preserved c =
     let i = c.loop-v.v-index in
     let v = c.v-item.result in
     let p = c.loop-v.b in
-    ranges_more c.args.b.now p c.add_variable.new.b (map own_range vars) (own_range (get_or vars i v)) (map own_range (drop (i + 1) vars))
+    ranges_more c.args.b.now p c.add_one_own.new.b (map own_range vars) (own_range (get_or vars i v)) (map own_range (drop (i + 1) vars))
     (rest_at (λ rest. AreRangesLeft c.args.b.now (map own_range vars) p (map own_range rest)) vars i v c.loop-v-test.true c.loop-v.invariant)
-    (c.in_ok-add_variable.ensures.added ∙ ap (λ (w : Variable). with_var p w.lo w.hi) c.v-item.is)
+    (c.in_ok-add_one_own.ensures ∙ ap (λ (w : Variable). with_var p w.lo w.hi) c.v-item.is)

@@ -10,7 +10,7 @@ use Rattle.cgm_encode.proofs.variables.add_variables.Goals as goal
 
 pub loop-range-init : goal.loop-range-init
 loop-range-init c =
-    (ranges_all c.args.b.now c.args.ranges.now c.requires.ordered c.requires.room, (c.new-variables.ensures.items, omega arith))
+    (ranges_all c.args.b.now c.args.ranges.now c.requires.ordered c.requires.room, c.new-variables.ensures.items, omega arith)
 
 pub add_variable-requires-clause-room : goal.add_variable-requires-clause-room
 add_variable-requires-clause-room c =
@@ -31,12 +31,12 @@ loop-range-preserved c =
     let x = c.in_ok-add_variable.field-0 in
     let far = c.loop-range.invariant in
     let count : var_count q ≡ var_count p + 1 = ap (λ (n : Instance). var_count n) c.in_ok-add_variable.ensures.added ∙ count_more p r.0 r.1 in
-    let at : x ≡ var_count c.args.b.now + i = c.in_ok-add_variable.ensures.variable ∙ far.1.1 in (
+    let at : x ≡ var_count c.args.b.now + i = c.in_ok-add_variable.ensures.variable ∙ far.2 in (
       ranges_more c.args.b.now p q ranges r (drop (i + 1) ranges)
           (rest_at (λ rest. AreRangesLeft c.args.b.now ranges p rest) ranges i (pos 0, pos 0) c.loop-range-test.true far.0)
           c.in_ok-add_variable.ensures.added,
-      (answered_more (var_count c.args.b.now) i x c.loop-range.variables.items c.push.new.self.items far.1.0 at c.in_ok-push.ensures.items,
-      omega (arith, count, far.1.1)),
+      answered_more (var_count c.args.b.now) i x c.loop-range.variables.items c.push.new.self.items far.1 at c.in_ok-push.ensures.items,
+      omega (arith, count, far.2),
     )
 
 pub returns-clause-added : goal.returns-clause-added

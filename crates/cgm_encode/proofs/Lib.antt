@@ -10,6 +10,7 @@ pub mod DefiningTerms
 pub mod Extending
 pub mod GroupPlaces
 pub mod Growing
+pub mod Kept
 pub mod KnownParts
 pub mod KnownSizes
 pub mod LeastSolutions

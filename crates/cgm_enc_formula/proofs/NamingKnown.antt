@@ -84,7 +84,7 @@ module _ (m : Lists) where
             (literals_wider (next + length rest.definitions) (n + length (first.definitions ++ rest.definitions)) (omega arith) rest.literals others.literals);
       }
 
-  name_within : (name : Truth) → IsKnownTruth m name → variable_of m name < truth_variables m
+  pub name_within : (name : Truth) → IsKnownTruth m name → variable_of m name < truth_variables m
   name_within (names.Element k) h = omega arith
   name_within (names.Refinement k) h = omega arith
 

@@ -1,9 +1,9 @@
 -- A naming variable with its clauses or its rows: there is room for them, they have known variables, and together they are the part of the definition.
-use Rattle.std.proofs.Common.{◌≡◌, ◌≢◌, ℕ, ◌+◌, ◌^◌, ◌<◌, ◌≤◌, Bool, true, false, cond, List, [], ◌∷◌, ◌++◌, length, get_or, map, refl, sym, ap, ◌∙◌, subst, arith}
-use Rattle.std.specs.Prelude.{ℤ, pos, neg_ℤ, unsigned_abs}
+use Rattle.std.proofs.Common.{◌≡◌, ◌≢◌, ℕ, ◌+◌, ◌<◌, Bool, true, false, cond, List, [], ◌∷◌, ◌++◌, get_or, map, refl, sym, ap, ◌∙◌, subst, arith}
+use Rattle.std.specs.Prelude.{ℤ, pos, neg_ℤ}
 use Rattle.std.specs.List.{All}
 use Rattle.std.proofs.lemmas.Int.{ints}
-use Rattle.std.proofs.lemmas.List.{append-nil, append_assoc, length-append, length_push}
+use Rattle.std.proofs.lemmas.List.{append-nil, append_assoc, length_push}
 use Rattle.std.proofs.lemmas.List.Elements.{All-append, All-cons, All-map, All-nil, All-weaker}
 use Rattle.cgm_atom.specs.declared.constraints.Atom.{Atom}
 use Rattle.cgm_atom.specs.declared.constraints.Clause.{Clause}
@@ -13,8 +13,8 @@ use Rattle.cgm_atom.specs.Building.{with_row, with_var, without_repeats}
 use Rattle.cgm_atom.specs.Instance.{Instance, var_count}
 use Rattle.cgm_atom.specs.Limits.{AreTermsOf, IsAbsent, IsAtomOf, IsClauseOf}
 use Rattle.cgm_enc_formula.specs.declared.literals.Literal.{Literal}
-use Rattle.cgm_enc_formula.specs.Building.{HasRoomFor, Part, clause_part, definition_part, with_part}
-use Rattle.cgm_enc_formula.specs.Definitions.{Definition, IsDefinitionOf, all_of, any_of, at_least, at_most, definition_clauses, definition_rows, negative, one_of, pairs, same_as}
+use Rattle.cgm_enc_formula.specs.Building.{HasRoomFor, definition_part, with_part}
+use Rattle.cgm_enc_formula.specs.Definitions.{Definition, IsDefinitionOf, all_of, any_of, at_least, at_most, definition_clauses, negative, one_of, pairs, same_as}
 use Rattle.cgm_enc_formula.specs.Literals.{atom_of, opposite}
 use Rattle.cgm_enc_formula.proofs.Steps.{record_part, same_made}
 use Rattle.cgm_enc_formula.proofs.TermOrders.{terms_wider}

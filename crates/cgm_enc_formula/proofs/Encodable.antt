@@ -1,5 +1,5 @@
 -- The rules of a well-formed model can be encoded where their measures are within the limit, and there is room for them.
-use Rattle.std.proofs.Common.{◌≡◌, ℕ, ◌+◌, ◌^◌, ◌≤◌, Bool, true, List, [], ◌∷◌, length, get_or, subst, sym, arith}
+use Rattle.std.proofs.Common.{◌≡◌, ℕ, ◌+◌, ◌^◌, ◌≤◌, true, List, [], ◌∷◌, length, get_or, arith}
 use Rattle.std.specs.Prelude.{ℤ, nat_le, unsigned_abs}
 use Rattle.std.specs.List.{All}
 use Rattle.std.proofs.lemmas.Bool.{leb-true}
@@ -7,7 +7,7 @@ use Rattle.std.proofs.lemmas.List.Elements.{All-cons, All-nil}
 use Rattle.std.proofs.lemmas.List.Sums.{AllPass-from_list_all}
 use Rattle.cgm_atom.specs.Bounds.{Bounds}
 use Rattle.cgm_atom.specs.Instance.{Instance, var_count}
-use Rattle.cgm_atom.specs.Limits.{max_measure, measure}
+use Rattle.cgm_atom.specs.Limits.{max_measure}
 use Rattle.cgm_base.specs.declared.limit.Which.TheVariants as limits
 use Rattle.cgm_base.specs.Words.{limit_number}
 use Rattle.cgm_formula.specs.declared.formula.Linear.{Linear}
@@ -20,7 +20,7 @@ use Rattle.cgm_model.specs.WellFormed.{IsRule, IsWellFormed}
 use Rattle.cgm_enc_formula.specs.Building.{HasRoomFor, rules_part}
 use Rattle.cgm_enc_formula.specs.Measures.{HasKnownNumbers, IsWithinMeasure, comparison_measure, has_small_measures}
 use Rattle.cgm_enc_formula.specs.Rules.{IsEncodableRule}
-use Rattle.cgm_enc_formula.specs.Terms.{IsEncodable, IsEncodableFormula, variable_terms}
+use Rattle.cgm_enc_formula.specs.Terms.{IsEncodableFormula}
 use Rattle.cgm_enc_formula.proofs.RuleSizes.{rules_part_small}
 use Rattle.cgm_enc_formula.proofs.TermOrders.{terms_known}
 use Rattle.cgm_enc_formula.proofs.WellFormedRules.{each_rule}

@@ -8,7 +8,6 @@ use Rattle.cgm_enc_formula.specs.declared.literals.Literal.{Literal}
 use Rattle.cgm_enc_formula.specs.Definitions.{one_of, pairs}
 use Rattle.cgm_enc_formula.specs.Literals.{atom_of, literal_true, opposite, positive}
 use Rattle.cgm_enc_graph.specs.Assignments.{truth_at}
-use Rattle.cgm_enc_graph.specs.GraphClauses.{clause}
 use Rattle.cgm_enc_graph.specs.Literals.{literal, negated}
 use Rattle.cgm_enc_graph.proofs.ClauseTruths.{negated-true}
 
@@ -43,9 +42,9 @@ distributed false t s = refl
 pub pairs-true : (values : List ℤ) (a : Atom) (ls : List Literal) → list_all (clause_true values) (pairs a ls) ≡ (atom_true values a || list_all (literal_true values) ls)
 pairs-true values a [] = all_true (atom_true values a)
   where
-  all_true : (t : Bool) → true ≡ (t || true)
-  all_true true = refl
-  all_true false = refl
+    all_true : (t : Bool) → true ≡ (t || true)
+    all_true true = refl
+    all_true false = refl
 pairs-true values a (l ∷ ls) =
     ap (λ (t : Bool). (atom_true values a || t) && list_all (clause_true values) (pairs a ls)) (or_false (literal_true values l))
     ∙ ap (λ (t : Bool). (atom_true values a || literal_true values l) && t) (pairs-true values a ls)

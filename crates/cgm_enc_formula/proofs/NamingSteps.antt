@@ -1,5 +1,5 @@
 -- The steps of naming a formula: parts, then the whole.
-use Rattle.std.proofs.Common.{◌≡◌, ℕ, ◌+◌, ◌^◌, ◌<◌, ◌≤◌, List, [], ◌∷◌, ◌++◌, length, get_or, map, drop, refl, sym, ap, ◌∙◌, subst, arith}
+use Rattle.std.proofs.Common.{◌≡◌, ℕ, ◌+◌, ◌^◌, ◌<◌, ◌≤◌, List, [], ◌∷◌, ◌++◌, length, get_or, map, refl, sym, ap, ◌∙◌, subst, arith}
 use Rattle.std.specs.Prelude.{ℤ, unsigned_abs}
 use Rattle.std.specs.List.{All, AllByRecursion}
 use Rattle.std.proofs.lemmas.List.{append_assoc, append-nil}
@@ -17,14 +17,14 @@ use Rattle.cgm_formula.proofs.Folds.{fold-And, fold-Iff, fold-Implies, fold-Not,
 use Rattle.cgm_model.specs.declared.lists.Lists.{Lists}
 use Rattle.cgm_model.specs.Formulas.{IsKnownTruth}
 use Rattle.cgm_enc_formula.specs.declared.literals.Literal.{Literal}
-use Rattle.cgm_enc_formula.specs.Building.{HasRoomFor, Part, both, definition_part, definitions_part, with_part}
+use Rattle.cgm_enc_formula.specs.Building.{HasRoomFor, Part, definition_part, definitions_part, with_part}
 use Rattle.cgm_enc_formula.specs.Definitions.{Definition, all_of, any_of, same_as}
 use Rattle.cgm_enc_formula.specs.Naming.{Named, NamedParts, Naming, defined, naming, naming_step, parts_named}
 use Rattle.cgm_enc_formula.specs.Literals.{opposite}
 use Rattle.cgm_enc_formula.specs.Terms.{IsEncodable, IsEncodableFormula, model_variables, row_terms}
-use Rattle.cgm_enc_formula.proofs.NamingKnown.{AreKnownParts, HasTerms, IsKnownNamed, naming_known, parts_known, IsNameable}
+use Rattle.cgm_enc_formula.proofs.NamingKnown.{HasTerms, IsKnownNamed, naming_known, parts_known, IsNameable}
 use Rattle.cgm_enc_formula.proofs.Splits.{name_of_name, names_of_conjunction, names_of_disjunction, names_of_equivalence, names_of_implication, names_of_negation}
-use Rattle.cgm_enc_formula.proofs.Steps.{IsLeft, definitions_both, first_fits, left_all, left_first, left_more, left_none, one_definition, rest_fits, with-count, with_both}
+use Rattle.cgm_enc_formula.proofs.Steps.{IsLeft, definitions_both, first_fits, left_all, left_more, left_none, one_definition, rest_fits, with-count, with_both}
 use Rattle.cgm_enc_formula.proofs.TermOrders.{All-row_terms, row_terms_known, terms_wider}
 
 -- the builder holds the definitions behind what it held
@@ -188,8 +188,8 @@ module _ (m : Lists) where
   literals_within parts old new h few e =
       let n = var_count old in
       let known = parts_known m parts (recursion_from_All (IsNameable m) parts (λ k d l. naming_known m (get_or parts k d)))
-          (recursion_from_All (λ f. All (IsKnownTruth m) (names_of f)) parts (λ k d l. (h k d l).names))
-          (recursion_from_All (λ f. All (HasTerms m) (comparisons f)) parts (λ k d l i x w. ((h k d l).comparisons i x w).terms)) n few in
+      (recursion_from_All (λ f. All (IsKnownTruth m) (names_of f)) parts (λ k d l. (h k d l).names))
+      (recursion_from_All (λ f. All (HasTerms m) (comparisons f)) parts (λ k d l i x w. ((h k d l).comparisons i x w).terms)) n few in
       let count = count_after old new (parts_at parts n).definitions e in
       All-weaker (λ (l : Literal). l.variable < n + length (parts_at parts n).definitions) (λ l. l.variable < var_count new) (λ l w. omega arith)
       (parts_at parts n).literals known.literals
@@ -227,7 +227,7 @@ module _ (m : Lists) where
       let few = far.variables in
       let more = (parts_at rest next).definitions in
       let left = left_more old p q (definitions_part (var_count old) (parts_at all (var_count old)).definitions) (definitions_part n first.definitions)
-          (definitions_part next more) (definitions_part n (first.definitions ++ more)) (definitions_both n first.definitions more) far.left e in
+      (definitions_part next more) (definitions_part n (first.definitions ++ more)) (definitions_both n first.definitions more) far.left e in
       record {
         known = All-tail (IsEncodableFormula m) part rest far.known;
         variables = omega arith;

@@ -1,5 +1,5 @@
 -- The steps of adding rules: the definitions of a rule's formula, then the rule's own clause, and one rule after another.
-use Rattle.std.proofs.Common.{◌≡◌, ℕ, ◌+◌, ◌^◌, ◌<◌, ◌≤◌, List, [], ◌∷◌, ◌++◌, length, refl, sym, ap, ◌∙◌, subst, arith}
+use Rattle.std.proofs.Common.{◌≡◌, ℕ, ◌+◌, ◌≤◌, List, [], ◌∷◌, ◌++◌, length, refl, sym, ap, ◌∙◌, subst, arith}
 use Rattle.std.specs.List.{All}
 use Rattle.std.proofs.lemmas.List.{append-nil, append_assoc, length-append}
 use Rattle.std.proofs.lemmas.List.Elements.{All-head, All-tail}
@@ -12,13 +12,13 @@ use Rattle.cgm_model.specs.declared.lists.Rule.{Rule}
 use Rattle.cgm_model.specs.Formulas.{formula_of}
 use Rattle.cgm_enc_formula.specs.Building.{HasRoomFor, Part, both, clause_part, definitions_part, rule_part, rules_part, with_part}
 use Rattle.cgm_enc_formula.specs.Definitions.{Definition}
-use Rattle.cgm_enc_formula.specs.Naming.{Named, naming}
+use Rattle.cgm_enc_formula.specs.Naming.{naming}
 use Rattle.cgm_enc_formula.specs.Rules.{IsEncodableRule, clauses_from, rows_from, rule_clause, rule_clauses, rule_definitions, rule_rows}
 use Rattle.cgm_enc_formula.specs.Terms.{model_variables}
 use Rattle.cgm_enc_formula.proofs.Defining.{one_clause, written_part}
 use Rattle.cgm_enc_formula.proofs.DefinitionLists.{rows_both}
-use Rattle.cgm_enc_formula.proofs.NamingSteps.{Adds, Fits, count_after}
-use Rattle.cgm_enc_formula.proofs.Steps.{IsLeft, first_fits, left_all, left_first, left_more, left_none, no_part, record_part, rest_fits, same_part, with-count, with_both}
+use Rattle.cgm_enc_formula.proofs.NamingSteps.{Adds, Fits}
+use Rattle.cgm_enc_formula.proofs.Steps.{IsLeft, first_fits, left_all, left_first, left_more, left_none, no_part, rest_fits, same_part, with-count, with_both}
 use Rattle.cgm_enc_graph.specs.Adding.{CanTake, with_written}
 
 -- ---- one rule

@@ -1,7 +1,7 @@
 -- Terms stay those of a row where they are placed in order; those of a rule's comparisons are such.
-use Rattle.std.proofs.Common.{◌≡◌, ◌≢◌, ℕ, ◌+◌, ◌<◌, ◌≤◌, Bool, true, false, cond, not, ◌&&◌, nat_eq, List, [], ◌∷◌, length, map, refl, sym, ap, ◌∙◌, subst, arith}
+use Rattle.std.proofs.Common.{◌≡◌, ◌≢◌, ℕ, ◌<◌, ◌≤◌, Bool, true, false, cond, not, List, [], ◌∷◌, refl, sym, ◌∙◌, arith}
 use Rattle.std.specs.Prelude.{ℤ, pos, nat_lt}
-use Rattle.std.specs.List.{All, list_all, list_any}
+use Rattle.std.specs.List.{All, list_any}
 use Rattle.std.proofs.lemmas.Bool.{and_parts, eq-eqb, not-true, or_parts, true≢false}
 use Rattle.std.proofs.lemmas.Bool.Decides.{Decides-int_eq}
 use Rattle.std.proofs.lemmas.List.Elements.{All-cons, All-filter, All-head, All-map, All-nil, All-tail}
@@ -12,8 +12,7 @@ use Rattle.cgm_formula.specs.declared.formula.Number.{Number}
 use Rattle.cgm_formula.specs.declared.formula.Number.TheVariants as number
 use Rattle.cgm_model.specs.declared.lists.Lists.{Lists}
 use Rattle.cgm_model.specs.Formulas.{IsKnownNumber, are_distinct_terms, is_same_number}
-use Rattle.cgm_enc_formula.specs.Terms.{AreApart, all_placed, ascending, is_zero, model_variables, nonzero, number_variable, placed, row_terms, variable_terms}
-use Rattle.cgm_enc_graph.specs.Literals.{truth_variables}
+use Rattle.cgm_enc_formula.specs.Terms.{AreApart, all_placed, is_zero, model_variables, nonzero, number_variable, placed, row_terms, variable_terms}
 
 pub terms_wider : (count more : ℕ) → count ≤ more → (terms : List (ℤ × Var)) → AreTermsOf count terms → AreTermsOf more terms
 terms_wider count more few [] h = tt

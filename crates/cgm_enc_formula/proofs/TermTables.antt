@@ -1,9 +1,8 @@
 -- A table of coefficients by variable holds the terms so far in their order.
-use Rattle.std.proofs.Common.{◌≡◌, ◌≢◌, ℕ, ◌+◌, ◌<◌, ◌==◌, Bool, true, false, cond, not, List, [], ◌∷◌, ◌++◌, map, refl, sym, ap, ◌∙◌, subst}
+use Rattle.std.proofs.Common.{◌≡◌, ◌≢◌, ℕ, ◌<◌, ◌==◌, Bool, true, false, cond, not, List, [], ◌∷◌, refl, sym, ap, ◌∙◌, subst}
 use Rattle.std.specs.Prelude.{ℤ, pos, nat_lt}
 use Rattle.std.specs.BTreeMap.{insert_entry}
 use Rattle.std.specs.Ordering.{match_ordering, nat_cmp}
-use Rattle.std.specs.declared.cmp.Ordering.{Ordering}
 use Rattle.std.specs.declared.cmp.Ordering.TheVariants.{Less, Equal, Greater}
 use Rattle.std.proofs.lemmas.Bool.{eqb-true}
 use Rattle.std.proofs.lemmas.Bool.Decides.{Decides-int_eq}
@@ -41,9 +40,9 @@ module _ (m : Lists) where
   not_zero : (t : ℤ × Number) → t.0 ≢ pos 0 → is_zero (own t) ≡ false
   not_zero t h = not_true (is_zero (own t)) (λ e. h ((Decides-int_eq t.0 (pos 0)).0 e))
     where
-    not_true : (b : Bool) → (b ≡ true → ⊥) → b ≡ false
-    not_true true h = absurd (h refl)
-    not_true false h = refl
+      not_true : (b : Bool) → (b ≡ true → ⊥) → b ≡ false
+      not_true true h = absurd (h refl)
+      not_true false h = refl
 
   -- a term alone, where its coefficient is 0 and where it isn't
   pub none_left : (t : ℤ × Number) → t.0 ≡ pos 0 → left (t ∷ []) ≡ []

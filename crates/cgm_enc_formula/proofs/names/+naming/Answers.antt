@@ -1,24 +1,21 @@
 -- What is known of the whole formula is known of its parts, and the parts with the whole behind them come to the formula's naming.
-use Rattle.std.proofs.Common.{rules, ◌≡◌, ℕ, ◌+◌, ◌<◌, ◌≤◌, ◌∷◌, ◌++◌, [], List, ℤ, to_z, of_z, w64, drop, refl, subst, sym, ap, ◌∙◌, arith}
+use Rattle.std.proofs.Common.{rules, ◌≡◌, ℕ, ◌+◌, ◌<◌, ◌≤◌, ◌∷◌, [], List, ℤ, to_z, of_z, w64, drop, refl, subst, sym, ap, ◌∙◌, arith}
 use Rattle.std.specs.List.{All}
 use Rattle.std.proofs.lemmas.List.Elements.{All-cons, All-nil}
 use Rattle.std.proofs.lemmas.Result.{IfOk-weaker, on_ok_weaker}
-use Rattle.cgm_atom.specs.Instance.{Instance, var_count}
+use Rattle.cgm_atom.specs.Instance.{var_count}
 use Rattle.cgm_formula.specs.declared.formula.Formula.{Formula}
-use Rattle.cgm_formula.specs.declared.formula.Formula.TheVariants.{Name, Not, And, Or, Implies, Iff, AtMost, AtLeast, Equal}
 use Rattle.cgm_formula.specs.declared.formula.Formula.TheViews.{the_lemmas}
 use Rattle.cgm_formula.proofs.Comparisons.{of_at_least, of_at_most, of_equality}
-use Rattle.cgm_model.specs.declared.lists.Lists.{Lists}
-use Rattle.cgm_model.specs.Formulas.{IsKnownTruth}
 use Rattle.cgm_model.specs.Model.{lists_of}
 use Rattle.cgm_model.proofs.Places.{drop-read}
 use Rattle.cgm_enc_formula.specs.declared.literals.Literal.{Literal}
 use Rattle.cgm_enc_formula.specs.Building.{HasRoomFor, definition_part, with_part}
 use Rattle.cgm_enc_formula.specs.Definitions.{Definition, all_of, any_of, same_as}
 use Rattle.cgm_enc_formula.specs.Literals.{opposite, positive}
-use Rattle.cgm_enc_formula.specs.Naming.{Named, defined, naming, parts_named}
+use Rattle.cgm_enc_formula.specs.Naming.{Named, naming}
 use Rattle.cgm_enc_formula.specs.Terms.{IsEncodable, IsEncodableFormula, model_variables}
-use Rattle.cgm_enc_formula.proofs.NamingSteps.{Adds, AreNamed, Fits, all_named, any_named, count_after, encodable_conjunction, encodable_disjunction, encodable_equivalence, encodable_implication, encodable_name, encodable_negation, first_of_two, front_fits, iff_definition, implies_definition, literal_within, literals_within, naming-And, naming-Iff, naming-Implies, naming-Not, naming-Or, named_more, next_fits, next_known, parts_at, second_at, second_naming, second_of_two, two_added, two_definitions, whole_added, whole_fits}
+use Rattle.cgm_enc_formula.proofs.NamingSteps.{Adds, AreNamed, Fits, count_after, encodable_conjunction, encodable_disjunction, encodable_equivalence, encodable_implication, encodable_name, encodable_negation, first_of_two, front_fits, iff_definition, implies_definition, literal_within, literals_within, naming-And, naming-Iff, naming-Implies, naming-Not, naming-Or, named_more, next_fits, next_known, parts_at, second_at, second_naming, second_of_two, two_added, two_definitions, whole_added, whole_fits}
 use Rattle.cgm_enc_formula.proofs.names.+naming.Goals as goal
 
 pub name_formula-truth_variable-requires :
@@ -41,8 +38,10 @@ name_formula-name_formula-requires t c =
       search (rules, the_lemmas),
       (
         subst (IsEncodableFormula m) (sym c.get.ensures) (encodable_negation m c.in-Not.part (subst (IsEncodableFormula m) c.in-Not.is c.requires.formula)),
-        (c.requires.variables,
-        subst (λ (x : Formula). Fits b (naming m x n).definitions) (sym c.get.ensures) room),
+        (
+          c.requires.variables,
+          subst (λ (x : Formula). Fits b (naming m x n).definitions) (sym c.get.ensures) room,
+        ),
       ),
     )
 
@@ -58,9 +57,11 @@ name_formula-name_each-requires t c =
       search (rules, the_lemmas),
       (
         subst (All (IsEncodableFormula m)) (sym c.as_slice.ensures) (encodable_conjunction m parts (subst (IsEncodableFormula m) c.in-And.is c.requires.formula)),
-        (c.requires.variables,
-        subst (λ (xs : List Formula). Fits b (parts_at m xs n).definitions) (sym c.as_slice.ensures)
-            (front_fits b (parts_at m parts n).definitions (all_of (parts_at m parts n).literals ∷ []) room)),
+        (
+          c.requires.variables,
+          subst (λ (xs : List Formula). Fits b (parts_at m xs n).definitions) (sym c.as_slice.ensures)
+              (front_fits b (parts_at m parts n).definitions (all_of (parts_at m parts n).literals ∷ []) room),
+        ),
       ),
     )
 
@@ -76,9 +77,11 @@ name_formula-name_each-requires-in-Or t c =
       search (rules, the_lemmas),
       (
         subst (All (IsEncodableFormula m)) (sym c.as_slice-in-Or.ensures) (encodable_disjunction m parts (subst (IsEncodableFormula m) c.in-Or.is c.requires.formula)),
-        (c.requires.variables,
-        subst (λ (xs : List Formula). Fits b (parts_at m xs n).definitions) (sym c.as_slice-in-Or.ensures)
-            (front_fits b (parts_at m parts n).definitions (any_of (parts_at m parts n).literals ∷ []) room)),
+        (
+          c.requires.variables,
+          subst (λ (xs : List Formula). Fits b (parts_at m xs n).definitions) (sym c.as_slice-in-Or.ensures)
+              (front_fits b (parts_at m parts n).definitions (any_of (parts_at m parts n).literals ∷ []) room),
+        ),
       ),
     )
 
@@ -95,8 +98,10 @@ name_formula-name_formula-requires-in-Implies t c =
       search (rules, the_lemmas),
       (
         subst (IsEncodableFormula m) (sym c.get-in-Implies.ensures) (encodable_implication m first second (subst (IsEncodableFormula m) c.in-Implies.is c.requires.formula)).0,
-        (c.requires.variables,
-        subst (λ (x : Formula). Fits b (naming m x n).definitions) (sym c.get-in-Implies.ensures) (first_of_two m first second (implies_definition m first second n) b room)),
+        (
+          c.requires.variables,
+          subst (λ (x : Formula). Fits b (naming m x n).definitions) (sym c.get-in-Implies.ensures) (first_of_two m first second (implies_definition m first second n) b room),
+        ),
       ),
     )
 
@@ -113,8 +118,10 @@ name_formula-name_formula-requires-in-Iff t c =
       search (rules, the_lemmas),
       (
         subst (IsEncodableFormula m) (sym c.get-in-Iff.ensures) (encodable_equivalence m first second (subst (IsEncodableFormula m) c.in-Iff.is c.requires.formula)).0,
-        (c.requires.variables,
-        subst (λ (x : Formula). Fits b (naming m x n).definitions) (sym c.get-in-Iff.ensures) (first_of_two m first second (iff_definition m first second n) b room)),
+        (
+          c.requires.variables,
+          subst (λ (x : Formula). Fits b (naming m x n).definitions) (sym c.get-in-Iff.ensures) (first_of_two m first second (iff_definition m first second n) b room),
+        ),
       ),
     )
 
@@ -303,8 +310,7 @@ name_formula-name_formula-requires-in-Implies-2 t c =
     let added : Adds b (naming m one n).definitions p = subst (λ (x : Formula). Adds b (naming m x n).definitions p) c.get-in-Implies.ensures c.in_ok-premise-in-Implies.ensures.added in
     let count = count_after b p (naming m one n).definitions added in
     let few = c.requires.variables in
-    let more : model_variables m ≤ var_count p = omega arith in
-    (
+    let more : model_variables m ≤ var_count p = omega arith in (
       search (rules, the_lemmas),
       (
         subst (IsEncodableFormula m) (sym c.get-in-Implies-2.ensures) known.1,
@@ -464,8 +470,7 @@ name_formula-name_formula-requires-in-Iff-2 t c =
     let added : Adds b (naming m one n).definitions p = subst (λ (x : Formula). Adds b (naming m x n).definitions p) c.get-in-Iff.ensures c.in_ok-one-in-Iff.ensures.added in
     let count = count_after b p (naming m one n).definitions added in
     let few = c.requires.variables in
-    let more : model_variables m ≤ var_count p = omega arith in
-    (
+    let more : model_variables m ≤ var_count p = omega arith in (
       search (rules, the_lemmas),
       (
         subst (IsEncodableFormula m) (sym c.get-in-Iff-2.ensures) known.1,

@@ -3,13 +3,12 @@ use Rattle.std.proofs.Common.{◌≡◌, ◌≢◌, ℕ, ◌+◌, ◌<◌, Bool,
 use Rattle.std.specs.Prelude.{ℤ, pos, neg_ℤ}
 use Rattle.std.specs.List.{All}
 use Rattle.std.proofs.lemmas.Int.{ints}
-use Rattle.std.proofs.lemmas.List.{append-nil, append_assoc, length_push}
+use Rattle.std.proofs.lemmas.List.{append-nil, length_push}
 use Rattle.std.proofs.lemmas.List.Elements.{All-append, All-cons, All-map, All-nil, All-weaker}
 use Rattle.cgm_atom.specs.declared.constraints.Atom.{Atom}
 use Rattle.cgm_atom.specs.declared.constraints.Clause.{Clause}
-use Rattle.cgm_atom.specs.declared.constraints.Row.{Row}
 use Rattle.cgm_atom.specs.declared.constraints.Var.{Var}
-use Rattle.cgm_atom.specs.Building.{with_row, with_var, without_repeats}
+use Rattle.cgm_atom.specs.Building.{with_var, without_repeats}
 use Rattle.cgm_atom.specs.Instance.{Instance, var_count}
 use Rattle.cgm_atom.specs.Limits.{AreTermsOf, IsAbsent, IsAtomOf, IsClauseOf}
 use Rattle.cgm_enc_formula.specs.declared.literals.Literal.{Literal}
@@ -43,13 +42,6 @@ defined_by_clauses p clauses =
     let upper = p.bounds.upper ++ pos 1 ∷ [] in
     let all = p.clauses ++ map without_repeats clauses in
     same_made p lower lower upper upper all all p.rows (p.rows ++ []) refl refl refl (sym (append-nil p.rows))
-
-pub defined_by_rows : (p : Instance) (r s : Row) → with_row (with_row (named p) r) s ≡ with_part p (record_part 1 [] (r ∷ s ∷ []))
-defined_by_rows p r s =
-    let lower = p.bounds.lower ++ pos 0 ∷ [] in
-    let upper = p.bounds.upper ++ pos 1 ∷ [] in
-    same_made p lower lower upper upper p.clauses (p.clauses ++ []) ((p.rows ++ r ∷ []) ++ s ∷ []) (p.rows ++ r ∷ s ∷ []) refl refl
-    (sym (append-nil p.clauses)) (append_assoc p.rows (r ∷ []) (s ∷ []))
 
 -- ---- known variables
 
@@ -148,11 +140,6 @@ pub negative_known : (count : ℕ) (terms : List (ℤ × Var)) → AreTermsOf co
 negative_known count [] h = tt
 negative_known count (t ∷ terms) h = (h.0, not_zero t.0 h.1, absent_negative t.1.0 terms h.2, negative_known count terms h.3)
 
-pub named_terms : (p : Instance) (terms : List (ℤ × Var)) → AreTermsOf (var_count p) terms → AreTermsOf (var_count (named p)) terms
-named_terms p terms h =
-    let count = named-count p in
-    terms_wider (var_count p) (var_count (named p)) (omega arith) terms h
-
 -- the terms are known behind the variable too
 pub terms_after : (old new : Instance) (terms same : List (ℤ × Var)) → var_count new ≡ var_count old + 1 → same ≡ terms → AreTermsOf (var_count old) terms → AreTermsOf (var_count new) same
 terms_after old new terms same count e h =
@@ -193,9 +180,6 @@ module _ (old p : Instance) (f g : Literal) (e : p ≡ named old) (known_f : f.v
 
   after_first : (q : Instance) → q ≡ with_written p (first ∷ []) → AreLeft p all q (second ∷ third ∷ fourth ∷ [])
   after_first q is = left_more p p q all (first ∷ []) (second ∷ third ∷ fourth ∷ []) at_first is
-
-  pub second_fits : (q : Instance) → q ≡ with_written p (first ∷ []) → CanTake q (second ∷ [])
-  second_fits q is = first_left p q all (second ∷ []) (third ∷ fourth ∷ []) (after_first q is)
 
   after_second : (q r : Instance) → q ≡ with_written p (first ∷ []) → r ≡ with_written q (second ∷ []) → AreLeft p all r (third ∷ fourth ∷ [])
   after_second q r is next = left_more p q r all (second ∷ []) (third ∷ fourth ∷ []) (after_first q is) next

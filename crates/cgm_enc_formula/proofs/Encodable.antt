@@ -24,7 +24,6 @@ use Rattle.cgm_enc_formula.specs.Terms.{IsEncodableFormula}
 use Rattle.cgm_enc_formula.proofs.RuleSizes.{rules_part_small}
 use Rattle.cgm_enc_formula.proofs.TermOrders.{terms_known}
 use Rattle.cgm_enc_formula.proofs.WellFormedRules.{each_rule}
-use Rattle.cgm_enc_graph.proofs.KnownNames.{known_names}
 
 -- a fact of each item, whatever its place
 all_from_each : {X : Type 0} (P : X → Type 0) (place : ℕ) (xs : List X) → EachFrom place (λ _ x. P x) xs → All P xs
@@ -60,11 +59,6 @@ module _ (m : Lists) (b : Bounds) where
 
 pub known_numbers : (m : Lists) → ∥ IsWellFormed m ∥₁ → All (λ r. HasKnownNumbers m (formula_of r)) m.rules
 known_numbers m well k d l = (each_rule m well k d l).proper.formula.numbers
-
-pub few_rules : (m : Lists) → ∥ IsWellFormed m ∥₁ → length m.rules ≤ 2 ^ 32
-few_rules m well =
-    let statements = (known_names m well).statements in
-    omega arith
 
 pub room_for_rules : (m : Lists) (p : Instance) → ∥ IsWellFormed m ∥₁ → var_count p ≤ 2 ^ 31 → length p.clauses ≤ 2 ^ 31 + 2 ^ 28 → length p.rows ≤ 2 ^ 31 → HasRoomFor p (rules_part m (var_count p) m.rules)
 room_for_rules m p well few_variables few_clauses few_rows =

@@ -6,7 +6,7 @@ use Rattle.cgm_atom.specs.declared.constraints.Atom.{Atom}
 use Rattle.cgm_atom.specs.Atoms.{atom_true, clause_true}
 use Rattle.cgm_enc_formula.specs.declared.literals.Literal.{Literal}
 use Rattle.cgm_enc_formula.specs.Definitions.{one_of, pairs}
-use Rattle.cgm_enc_formula.specs.Literals.{atom_of, literal_true, opposite, positive}
+use Rattle.cgm_enc_formula.specs.Literals.{atom_of, literal_true, opposite}
 use Rattle.cgm_enc_graph.specs.Assignments.{truth_at}
 use Rattle.cgm_enc_graph.specs.Literals.{literal, negated}
 use Rattle.cgm_enc_graph.proofs.ClauseTruths.{negated-true}
@@ -29,9 +29,6 @@ opposite_by values false x = sym (not_not (truth_at values x)) ∙ ap (λ (t : B
 
 pub opposite-true : (values : List ℤ) (l : Literal) → literal_true values (opposite l) ≡ not (literal_true values l)
 opposite-true values l = opposite_by values l.is_positive l.variable
-
-pub positive-true : (values : List ℤ) (x : ℕ) → literal_true values (positive x) ≡ truth_at values x
-positive-true values x = refl
 
 -- ---- an atom with each of the literals
 

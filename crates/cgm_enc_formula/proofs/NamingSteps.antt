@@ -1,8 +1,8 @@
 -- The steps of naming a formula: parts, then the whole.
-use Rattle.std.proofs.Common.{◌≡◌, ℕ, ◌+◌, ◌^◌, ◌<◌, ◌≤◌, List, [], ◌∷◌, ◌++◌, length, get_or, map, refl, sym, ap, ◌∙◌, subst, arith}
+use Rattle.std.proofs.Common.{◌≡◌, ℕ, ◌+◌, ◌^◌, ◌<◌, ◌≤◌, List, [], ◌∷◌, ◌++◌, length, get_or, map, sym, ap, ◌∙◌, subst, arith}
 use Rattle.std.specs.Prelude.{ℤ, unsigned_abs}
 use Rattle.std.specs.List.{All, AllByRecursion}
-use Rattle.std.proofs.lemmas.List.{append_assoc, append-nil}
+use Rattle.std.proofs.lemmas.List.{append_assoc}
 use Rattle.std.proofs.lemmas.List.Elements.{All-head, All-tail, All-weaker, All-from_recursion, recursion_from_All}
 use Rattle.cgm_atom.specs.declared.constraints.Var.{Var}
 use Rattle.cgm_atom.specs.Instance.{Instance, var_count}
@@ -24,7 +24,7 @@ use Rattle.cgm_enc_formula.specs.Literals.{opposite}
 use Rattle.cgm_enc_formula.specs.Terms.{IsEncodable, IsEncodableFormula, model_variables, row_terms}
 use Rattle.cgm_enc_formula.proofs.NamingKnown.{HasTerms, IsKnownNamed, naming_known, parts_known, IsNameable}
 use Rattle.cgm_enc_formula.proofs.Splits.{name_of_name, names_of_conjunction, names_of_disjunction, names_of_equivalence, names_of_implication, names_of_negation}
-use Rattle.cgm_enc_formula.proofs.Steps.{IsLeft, definitions_both, first_fits, left_all, left_more, left_none, one_definition, rest_fits, with-count, with_both}
+use Rattle.cgm_enc_formula.proofs.Steps.{IsLeft, definitions_both, first_fits, left_more, one_definition, rest_fits, with-count, with_both}
 use Rattle.cgm_enc_formula.proofs.TermOrders.{All-row_terms, row_terms_known, terms_wider}
 
 -- the builder holds the definitions behind what it held
@@ -201,14 +201,6 @@ module _ (m : Lists) where
     pub left : IsLeft old (definitions_part (var_count old) (parts_at all (var_count old)).definitions) new (definitions_part (var_count new) (parts_at rest (var_count new)).definitions)
     pub literals : ls ++ (parts_at rest (var_count new)).literals ≡ (parts_at all (var_count old)).literals
 
-  pub named_at_first : (p : Instance) (all : List Formula) → All (IsEncodableFormula m) all → model_variables m ≤ var_count p → Fits p (parts_at all (var_count p)).definitions → AreNamed p all p [] all
-  named_at_first p all h few room = record {
-    known = h;
-    variables = few;
-    left = left_all p (definitions_part (var_count p) (parts_at all (var_count p)).definitions) room;
-    literals = refl;
-  }
-
   pub next_known : (old p : Instance) (all : List Formula) (ls : List Literal) (part : Formula) (rest : List Formula) → AreNamed old all p ls (part ∷ rest) → IsEncodableFormula m part
   next_known old p all ls part rest far = All-head (IsEncodableFormula m) part rest far.known
 
@@ -238,10 +230,6 @@ module _ (m : Lists) where
             ∙ ap (λ (x : Literal). ls ++ x ∷ (parts_at rest next).literals) is
             ∙ far.literals;
       }
-
-  pub named_at_end : (old p : Instance) (all : List Formula) (ls : List Literal) → AreNamed old all p ls [] → Adds old (parts_at all (var_count old)).definitions p × (ls ≡ (parts_at all (var_count old)).literals)
-  named_at_end old p all ls far =
-      (left_none old p (definitions_part (var_count old) (parts_at all (var_count old)).definitions) far.left, sym (append-nil ls) ∙ far.literals)
 
 -- ---- comparisons
 

@@ -13,9 +13,6 @@ use Rattle.cgm_model.specs.declared.lists.Lists.{Lists}
 use Rattle.cgm_enc_formula.specs.Terms.{all_placed, is_zero, nonzero, number_variable, placed, row_terms, variable_terms}
 
 module _ (values : List ℤ) where
-  term_value : ℤ × Var → ℤ
-  term_value t = t.0 *ℤ value_of values t.1.0
-
   placed_by : (t u : ℤ × Var) (terms : List (ℤ × Var)) (before : Bool) → activity values (placed t terms) ≡ (t.0 *ℤ value_of values t.1.0) +ℤ activity values terms → activity values (cond before (t ∷ u ∷ terms) (u ∷ placed t terms)) ≡ (t.0 *ℤ value_of values t.1.0) +ℤ activity values (u ∷ terms)
   placed_by t u terms true h = refl
   placed_by t u terms false h = omega (arith, ints)

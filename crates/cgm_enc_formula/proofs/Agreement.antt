@@ -4,15 +4,15 @@ use Rattle.std.specs.Prelude.{ℤ, ◌+ℤ◌, ◌*ℤ◌, int_le}
 use Rattle.std.specs.List.{All, AllByRecursion, list_all, list_any}
 use Rattle.std.proofs.lemmas.List.Elements.{All-head, All-tail, recursion_from_All}
 use Rattle.cgm_formula.specs.declared.formula.Formula.{Formula}
-use Rattle.cgm_formula.specs.declared.formula.Formula.TheVariants.{Name, Not, And, Or, Implies, Iff, AtMost, AtLeast, Equal}
+use Rattle.cgm_formula.specs.declared.formula.Formula.TheVariants.{And, Or, Implies, Iff}
 use Rattle.cgm_formula.specs.declared.formula.Linear.{Linear}
 use Rattle.cgm_formula.specs.declared.formula.Number.{Number}
 use Rattle.cgm_formula.specs.declared.formula.Truth.{Truth}
 use Rattle.cgm_formula.specs.Nodes.{comparisons, names as names_of}
-use Rattle.cgm_formula.specs.Truth.{linear_value, same_truth, total, truth, truth_step}
+use Rattle.cgm_formula.specs.Truth.{same_truth, total, truth, truth_step}
 use Rattle.cgm_formula.proofs.Comparisons.{of_at_least, of_at_most, of_conjunction, of_disjunction, of_equality, of_equivalence, of_implication, of_negation}
 use Rattle.cgm_formula.proofs.Folds.{fold-AtLeast, fold-AtMost, fold-Equal, fold-Iff, fold-Implies, fold-Name, fold-Not}
-use Rattle.cgm_formula.proofs.Induction.{Cases, by_cases}
+use Rattle.cgm_formula.proofs.Induction.{by_cases}
 use Rattle.cgm_formula.proofs.Truths.{truth-And, truth-Or}
 use Rattle.cgm_enc_formula.proofs.Splits.{name_of_name, names_of_conjunction, names_of_disjunction, names_of_equivalence, names_of_implication, names_of_negation}
 
@@ -51,7 +51,7 @@ module _ (names others : Truth → Bool) (numbers values : Number → ℤ) where
       truth-And names numbers parts
       ∙ all_of_each (truth names numbers) parts
       ∙ ap (λ (ts : List Bool). list_all (λ (t : Bool). t) ts)
-          (each_agree parts h (names_of_conjunction SameName parts k) (recursion_from_All (λ f. All SameTerms (comparisons f)) parts (of_conjunction SameTerms parts l)))
+      (each_agree parts h (names_of_conjunction SameName parts k) (recursion_from_All (λ f. All SameTerms (comparisons f)) parts (of_conjunction SameTerms parts l)))
       ∙ sym (all_of_each (truth others values) parts)
       ∙ sym (truth-And others values parts)
 
@@ -60,7 +60,7 @@ module _ (names others : Truth → Bool) (numbers values : Number → ℤ) where
       truth-Or names numbers parts
       ∙ any_of_each (truth names numbers) parts
       ∙ ap (λ (ts : List Bool). list_any (λ (t : Bool). t) ts)
-          (each_agree parts h (names_of_disjunction SameName parts k) (recursion_from_All (λ f. All SameTerms (comparisons f)) parts (of_disjunction SameTerms parts l)))
+      (each_agree parts h (names_of_disjunction SameName parts k) (recursion_from_All (λ f. All SameTerms (comparisons f)) parts (of_disjunction SameTerms parts l)))
       ∙ sym (any_of_each (truth others values) parts)
       ∙ sym (truth-Or others values parts)
 

@@ -1,20 +1,19 @@
 -- A naming variable with its clauses or its rows: there is room for them, they have known variables, and together they are the part of the definition.
-use Rattle.std.proofs.Common.{◌≡◌, ◌≢◌, ℕ, ◌+◌, ◌^◌, ◌<◌, ◌≤◌, Bool, true, false, cond, List, [], ◌∷◌, ◌++◌, length, get_or, map, refl, sym, ap, ◌∙◌, subst, arith}
-use Rattle.std.specs.Prelude.{ℤ, pos, neg_ℤ, unsigned_abs}
+use Rattle.std.proofs.Common.{◌≡◌, ◌≢◌, ℕ, ◌+◌, ◌<◌, Bool, true, false, cond, List, [], ◌∷◌, ◌++◌, get_or, map, refl, sym, ap, ◌∙◌, subst, arith}
+use Rattle.std.specs.Prelude.{ℤ, pos, neg_ℤ}
 use Rattle.std.specs.List.{All}
 use Rattle.std.proofs.lemmas.Int.{ints}
-use Rattle.std.proofs.lemmas.List.{append-nil, append_assoc, length-append, length_push}
+use Rattle.std.proofs.lemmas.List.{append-nil, length_push}
 use Rattle.std.proofs.lemmas.List.Elements.{All-append, All-cons, All-map, All-nil, All-weaker}
 use Rattle.cgm_atom.specs.declared.constraints.Atom.{Atom}
 use Rattle.cgm_atom.specs.declared.constraints.Clause.{Clause}
-use Rattle.cgm_atom.specs.declared.constraints.Row.{Row}
 use Rattle.cgm_atom.specs.declared.constraints.Var.{Var}
-use Rattle.cgm_atom.specs.Building.{with_row, with_var, without_repeats}
+use Rattle.cgm_atom.specs.Building.{with_var, without_repeats}
 use Rattle.cgm_atom.specs.Instance.{Instance, var_count}
 use Rattle.cgm_atom.specs.Limits.{AreTermsOf, IsAbsent, IsAtomOf, IsClauseOf}
 use Rattle.cgm_enc_formula.specs.declared.literals.Literal.{Literal}
-use Rattle.cgm_enc_formula.specs.Building.{HasRoomFor, Part, clause_part, definition_part, with_part}
-use Rattle.cgm_enc_formula.specs.Definitions.{Definition, IsDefinitionOf, all_of, any_of, at_least, at_most, definition_clauses, definition_rows, negative, one_of, pairs, same_as}
+use Rattle.cgm_enc_formula.specs.Building.{HasRoomFor, definition_part, with_part}
+use Rattle.cgm_enc_formula.specs.Definitions.{Definition, IsDefinitionOf, all_of, any_of, at_least, at_most, definition_clauses, negative, one_of, pairs, same_as}
 use Rattle.cgm_enc_formula.specs.Literals.{atom_of, opposite}
 use Rattle.cgm_enc_formula.proofs.Steps.{record_part, same_made}
 use Rattle.cgm_enc_formula.proofs.TermOrders.{terms_wider}
@@ -43,13 +42,6 @@ defined_by_clauses p clauses =
     let upper = p.bounds.upper ++ pos 1 ∷ [] in
     let all = p.clauses ++ map without_repeats clauses in
     same_made p lower lower upper upper all all p.rows (p.rows ++ []) refl refl refl (sym (append-nil p.rows))
-
-pub defined_by_rows : (p : Instance) (r s : Row) → with_row (with_row (named p) r) s ≡ with_part p (record_part 1 [] (r ∷ s ∷ []))
-defined_by_rows p r s =
-    let lower = p.bounds.lower ++ pos 0 ∷ [] in
-    let upper = p.bounds.upper ++ pos 1 ∷ [] in
-    same_made p lower lower upper upper p.clauses (p.clauses ++ []) ((p.rows ++ r ∷ []) ++ s ∷ []) (p.rows ++ r ∷ s ∷ []) refl refl
-    (sym (append-nil p.clauses)) (append_assoc p.rows (r ∷ []) (s ∷ []))
 
 -- ---- known variables
 
@@ -148,11 +140,6 @@ pub negative_known : (count : ℕ) (terms : List (ℤ × Var)) → AreTermsOf co
 negative_known count [] h = tt
 negative_known count (t ∷ terms) h = (h.0, not_zero t.0 h.1, absent_negative t.1.0 terms h.2, negative_known count terms h.3)
 
-pub named_terms : (p : Instance) (terms : List (ℤ × Var)) → AreTermsOf (var_count p) terms → AreTermsOf (var_count (named p)) terms
-named_terms p terms h =
-    let count = named-count p in
-    terms_wider (var_count p) (var_count (named p)) (omega arith) terms h
-
 -- the terms are known behind the variable too
 pub terms_after : (old new : Instance) (terms same : List (ℤ × Var)) → var_count new ≡ var_count old + 1 → same ≡ terms → AreTermsOf (var_count old) terms → AreTermsOf (var_count new) same
 terms_after old new terms same count e h =
@@ -193,9 +180,6 @@ module _ (old p : Instance) (f g : Literal) (e : p ≡ named old) (known_f : f.v
 
   after_first : (q : Instance) → q ≡ with_written p (first ∷ []) → AreLeft p all q (second ∷ third ∷ fourth ∷ [])
   after_first q is = left_more p p q all (first ∷ []) (second ∷ third ∷ fourth ∷ []) at_first is
-
-  pub second_fits : (q : Instance) → q ≡ with_written p (first ∷ []) → CanTake q (second ∷ [])
-  second_fits q is = first_left p q all (second ∷ []) (third ∷ fourth ∷ []) (after_first q is)
 
   after_second : (q r : Instance) → q ≡ with_written p (first ∷ []) → r ≡ with_written q (second ∷ []) → AreLeft p all r (third ∷ fourth ∷ [])
   after_second q r is next = left_more p q r all (second ∷ []) (third ∷ fourth ∷ []) (after_first q is) next

@@ -1,21 +1,21 @@
 -- The clauses and rows of a definition are met exactly where its variable has the truth of the definition.
-use Rattle.std.proofs.Common.{◌≡◌, ℕ, ◌+◌, Bool, true, false, cond, not, ◌||◌, ◌&&◌, List, [], ◌∷◌, ◌++◌, map, length, refl, sym, ap, ◌∙◌, subst, Decides, arith}
+use Rattle.std.proofs.Common.{◌≡◌, ℕ, ◌+◌, Bool, true, false, not, ◌||◌, ◌&&◌, List, [], ◌∷◌, ◌++◌, map, refl, ap, ◌∙◌, Decides, arith}
 use Rattle.std.specs.Prelude.{ℤ, pos, ◌+ℤ◌, ◌-ℤ◌, ◌*ℤ◌, neg_ℤ, int_le}
-use Rattle.std.specs.List.{enumerate_from, flat_map, list_all, list_any}
+use Rattle.std.specs.List.{list_all, list_any}
 use Rattle.std.proofs.lemmas.Bool.{false≢true, true≢false}
-use Rattle.std.proofs.lemmas.Bool.Decides.{Decides-and, Decides-at, Decides-like}
+use Rattle.std.proofs.lemmas.Bool.Decides.{Decides-and, Decides-at}
 use Rattle.std.proofs.lemmas.Int.{ints}
 use Rattle.std.proofs.lemmas.List.Folds.{list_all-append}
 use Rattle.cgm_atom.specs.declared.constraints.Clause.{Clause}
 use Rattle.cgm_atom.specs.declared.constraints.Row.{Row}
 use Rattle.cgm_atom.specs.declared.constraints.Var.{Var}
-use Rattle.cgm_atom.specs.Atoms.{activity, atom_true, clause_true, row_true}
+use Rattle.cgm_atom.specs.Atoms.{activity, clause_true, row_true}
 use Rattle.cgm_atom.specs.Bounds.{value_of}
 use Rattle.cgm_enc_formula.specs.declared.literals.Literal.{Literal}
 use Rattle.cgm_enc_formula.specs.Definitions.{AreDefined, Definition, all_of, any_of, at_least, at_most, definition_clauses, definition_rows, definition_true, negative, one_of, pairs, row_where, same_as}
-use Rattle.cgm_enc_formula.specs.Literals.{atom_of, literal_true, opposite}
+use Rattle.cgm_enc_formula.specs.Literals.{literal_true, opposite}
 use Rattle.cgm_enc_formula.specs.Rules.{clauses_from, rows_from}
-use Rattle.cgm_enc_formula.proofs.LiteralTruths.{and_true, one_of-true, opposite-true, opposites-all, opposites-any, or_false, pairs-true}
+use Rattle.cgm_enc_formula.proofs.LiteralTruths.{and_true, one_of-true, opposite-true, opposites-all, opposites-any, pairs-true}
 use Rattle.cgm_enc_graph.specs.Assignments.{truth_at}
 use Rattle.cgm_enc_graph.specs.Literals.{literal, negated}
 use Rattle.cgm_enc_graph.proofs.ClauseTruths.{negated-true}
@@ -48,8 +48,8 @@ activity-negative values (t ∷ terms) =
     let here = negated_product t.0 (value_of values t.1.0) in
     omega (arith, ints)
   where
-  negated_product : (c v : ℤ) → neg_ℤ c *ℤ v ≡ neg_ℤ (c *ℤ v)
-  negated_product c v = grind (arith, ints)
+    negated_product : (c v : ℤ) → neg_ℤ c *ℤ v ≡ neg_ℤ (c *ℤ v)
+    negated_product c v = grind (arith, ints)
 
 below : (k a : ℤ) → int_le (neg_ℤ k) (neg_ℤ a) ≡ int_le a k
 below k a = grind (arith, ints)

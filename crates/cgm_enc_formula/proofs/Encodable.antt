@@ -1,5 +1,5 @@
 -- The rules of a well-formed model can be encoded where their measures are within the limit, and there is room for them.
-use Rattle.std.proofs.Common.{◌≡◌, ℕ, ◌+◌, ◌^◌, ◌≤◌, Bool, true, List, [], ◌∷◌, length, get_or, subst, sym, arith}
+use Rattle.std.proofs.Common.{◌≡◌, ℕ, ◌+◌, ◌^◌, ◌≤◌, true, List, [], ◌∷◌, length, get_or, arith}
 use Rattle.std.specs.Prelude.{ℤ, nat_le, unsigned_abs}
 use Rattle.std.specs.List.{All}
 use Rattle.std.proofs.lemmas.Bool.{leb-true}
@@ -7,7 +7,7 @@ use Rattle.std.proofs.lemmas.List.Elements.{All-cons, All-nil}
 use Rattle.std.proofs.lemmas.List.Sums.{AllPass-from_list_all}
 use Rattle.cgm_atom.specs.Bounds.{Bounds}
 use Rattle.cgm_atom.specs.Instance.{Instance, var_count}
-use Rattle.cgm_atom.specs.Limits.{max_measure, measure}
+use Rattle.cgm_atom.specs.Limits.{max_measure}
 use Rattle.cgm_base.specs.declared.limit.Which.TheVariants as limits
 use Rattle.cgm_base.specs.Words.{limit_number}
 use Rattle.cgm_formula.specs.declared.formula.Linear.{Linear}
@@ -20,11 +20,10 @@ use Rattle.cgm_model.specs.WellFormed.{IsRule, IsWellFormed}
 use Rattle.cgm_enc_formula.specs.Building.{HasRoomFor, rules_part}
 use Rattle.cgm_enc_formula.specs.Measures.{HasKnownNumbers, IsWithinMeasure, comparison_measure, has_small_measures}
 use Rattle.cgm_enc_formula.specs.Rules.{IsEncodableRule}
-use Rattle.cgm_enc_formula.specs.Terms.{IsEncodable, IsEncodableFormula, variable_terms}
+use Rattle.cgm_enc_formula.specs.Terms.{IsEncodableFormula}
 use Rattle.cgm_enc_formula.proofs.RuleSizes.{rules_part_small}
 use Rattle.cgm_enc_formula.proofs.TermOrders.{terms_known}
 use Rattle.cgm_enc_formula.proofs.WellFormedRules.{each_rule}
-use Rattle.cgm_enc_graph.proofs.KnownNames.{known_names}
 
 -- a fact of each item, whatever its place
 all_from_each : {X : Type 0} (P : X → Type 0) (place : ℕ) (xs : List X) → EachFrom place (λ _ x. P x) xs → All P xs
@@ -60,11 +59,6 @@ module _ (m : Lists) (b : Bounds) where
 
 pub known_numbers : (m : Lists) → ∥ IsWellFormed m ∥₁ → All (λ r. HasKnownNumbers m (formula_of r)) m.rules
 known_numbers m well k d l = (each_rule m well k d l).proper.formula.numbers
-
-pub few_rules : (m : Lists) → ∥ IsWellFormed m ∥₁ → length m.rules ≤ 2 ^ 32
-few_rules m well =
-    let statements = (known_names m well).statements in
-    omega arith
 
 pub room_for_rules : (m : Lists) (p : Instance) → ∥ IsWellFormed m ∥₁ → var_count p ≤ 2 ^ 31 → length p.clauses ≤ 2 ^ 31 + 2 ^ 28 → length p.rows ≤ 2 ^ 31 → HasRoomFor p (rules_part m (var_count p) m.rules)
 room_for_rules m p well few_variables few_clauses few_rows =

@@ -81,3 +81,14 @@ extended_defined values (d ∷ ds) known =
     let here : truth_at all n ≡ definition_true values d = ap (λ (v : ℤ). int_le (pos 1) v) at ∙ bit_truth (definition_true values d) in
     let rest = extended_defined more ds (subst (λ (k : ℕ). AreDefinitionsFrom k ds) (sym long) known.1) in
     (here ∙ definition_agrees values all n keeps d known.0, subst (λ (k : ℕ). AreDefined all k ds) long rest)
+
+-- ---- values that agree up to the last naming variable
+
+pub defined_alike : (values others : List ℤ) (n : ℕ) (ds : List Definition) → ((x : ℕ) → x < n + length ds → value_of values x ≡ value_of others x) → AreDefinitionsFrom n ds → AreDefined values n ds → AreDefined others n ds
+defined_alike values others n [] same known h = tt
+defined_alike values others n (d ∷ ds) same known h =
+    let before : (x : ℕ) → x < n → value_of values x ≡ value_of others x = λ x within. same x (omega arith) in
+    let own = ap (λ (z : ℤ). int_le (pos 1) z) (same n (omega arith)) in (
+      sym own ∙ h.0 ∙ definition_agrees values others n before d known.0,
+      defined_alike values others (n + 1) ds (λ x within. same x (omega arith)) known.1 h.1,
+    )

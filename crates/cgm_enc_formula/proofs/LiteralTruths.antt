@@ -6,9 +6,8 @@ use Rattle.cgm_atom.specs.declared.constraints.Atom.{Atom}
 use Rattle.cgm_atom.specs.Atoms.{atom_true, clause_true}
 use Rattle.cgm_enc_formula.specs.declared.literals.Literal.{Literal}
 use Rattle.cgm_enc_formula.specs.Definitions.{one_of, pairs}
-use Rattle.cgm_enc_formula.specs.Literals.{atom_of, literal_true, opposite, positive}
+use Rattle.cgm_enc_formula.specs.Literals.{atom_of, literal_true, opposite}
 use Rattle.cgm_enc_graph.specs.Assignments.{truth_at}
-use Rattle.cgm_enc_graph.specs.GraphClauses.{clause}
 use Rattle.cgm_enc_graph.specs.Literals.{literal, negated}
 use Rattle.cgm_enc_graph.proofs.ClauseTruths.{negated-true}
 
@@ -31,9 +30,6 @@ opposite_by values false x = sym (not_not (truth_at values x)) ∙ ap (λ (t : B
 pub opposite-true : (values : List ℤ) (l : Literal) → literal_true values (opposite l) ≡ not (literal_true values l)
 opposite-true values l = opposite_by values l.is_positive l.variable
 
-pub positive-true : (values : List ℤ) (x : ℕ) → literal_true values (positive x) ≡ truth_at values x
-positive-true values x = refl
-
 -- ---- an atom with each of the literals
 
 distributed : (a t s : Bool) → ((a || t) && (a || s)) ≡ (a || (t && s))
@@ -43,9 +39,9 @@ distributed false t s = refl
 pub pairs-true : (values : List ℤ) (a : Atom) (ls : List Literal) → list_all (clause_true values) (pairs a ls) ≡ (atom_true values a || list_all (literal_true values) ls)
 pairs-true values a [] = all_true (atom_true values a)
   where
-  all_true : (t : Bool) → true ≡ (t || true)
-  all_true true = refl
-  all_true false = refl
+    all_true : (t : Bool) → true ≡ (t || true)
+    all_true true = refl
+    all_true false = refl
 pairs-true values a (l ∷ ls) =
     ap (λ (t : Bool). (atom_true values a || t) && list_all (clause_true values) (pairs a ls)) (or_false (literal_true values l))
     ∙ ap (λ (t : Bool). (atom_true values a || literal_true values l) && t) (pairs-true values a ls)

@@ -1,15 +1,15 @@
 -- The test of a formula's measures is that of its parts.
-use Rattle.std.proofs.Common.{◌≡◌, ◌&&◌, Bool, List, [], ◌∷◌, ◌++◌, map, refl, ap, ◌∙◌}
+use Rattle.std.proofs.Common.{◌≡◌, ◌&&◌, Bool, List, [], ◌∷◌, map, refl, ap, ◌∙◌}
 use Rattle.std.specs.Prelude.{ℤ, nat_le}
 use Rattle.std.specs.List.{list_all}
 use Rattle.std.proofs.lemmas.List.Folds.{list_all-append}
 use Rattle.cgm_atom.specs.Bounds.{Bounds}
 use Rattle.cgm_atom.specs.Limits.{max_measure}
 use Rattle.cgm_formula.specs.declared.formula.Formula.{Formula}
-use Rattle.cgm_formula.specs.declared.formula.Formula.TheVariants.{And, Or, Implies, Iff}
+use Rattle.cgm_formula.specs.declared.formula.Formula.TheVariants.{And, Or}
 use Rattle.cgm_formula.specs.declared.formula.Linear.{Linear}
 use Rattle.cgm_formula.specs.Nodes.{comparisons, comparisons_step, joined}
-use Rattle.cgm_formula.proofs.Folds.{fold-And, fold-Iff, fold-Implies, fold-Or}
+use Rattle.cgm_formula.proofs.Folds.{fold-And, fold-Or}
 use Rattle.cgm_model.specs.declared.lists.Lists.{Lists}
 use Rattle.cgm_enc_formula.specs.Measures.{comparison_measure, has_small_measures}
 
@@ -27,13 +27,3 @@ module _ (m : Lists) (b : Bounds) where
 
   pub small-Or : (parts : List Formula) → has_small_measures m b (Or parts) ≡ list_all (has_small_measures m b) parts
   small-Or parts = ap (λ (cs : List (Linear × ℤ)). list_all test cs) (fold-Or comparisons_step parts) ∙ list_all-joined test comparisons parts
-
-  pub small-Implies : (premise conclusion : Formula) → has_small_measures m b (Implies premise conclusion) ≡ (has_small_measures m b premise && has_small_measures m b conclusion)
-  small-Implies premise conclusion =
-      ap (λ (cs : List (Linear × ℤ)). list_all test cs) (fold-Implies comparisons_step premise conclusion)
-      ∙ list_all-append test (comparisons premise) (comparisons conclusion)
-
-  pub small-Iff : (one other : Formula) → has_small_measures m b (Iff one other) ≡ (has_small_measures m b one && has_small_measures m b other)
-  small-Iff one other =
-      ap (λ (cs : List (Linear × ℤ)). list_all test cs) (fold-Iff comparisons_step one other)
-      ∙ list_all-append test (comparisons one) (comparisons other)

@@ -1,7 +1,7 @@
 -- The definitions of a formula have variables before their own, and its literal is one of them or of the model.
-use Rattle.std.proofs.Common.{◌≡◌, ℕ, ◌+◌, ◌<◌, ◌≤◌, List, [], ◌∷◌, ◌++◌, length, get_or, map, refl, sym, ap, ◌∙◌, subst, arith}
-use Rattle.std.specs.Prelude.{ℤ, IsTrue}
-use Rattle.std.specs.List.{All, AllByRecursion, list_all}
+use Rattle.std.proofs.Common.{◌≡◌, ℕ, ◌+◌, ◌<◌, ◌≤◌, List, [], ◌∷◌, ◌++◌, length, get_or, map, sym, subst, arith}
+use Rattle.std.specs.Prelude.{ℤ}
+use Rattle.std.specs.List.{All, AllByRecursion}
 use Rattle.std.proofs.lemmas.List.{length-append}
 use Rattle.std.proofs.lemmas.List.Elements.{All-cons, All-head, All-nil, All-tail, All-weaker, recursion_from_All}
 use Rattle.std.proofs.lemmas.List.Sums.{AllPass-from_list_all}
@@ -15,7 +15,7 @@ use Rattle.cgm_formula.specs.declared.formula.Truth.TheVariants as names
 use Rattle.cgm_formula.specs.Nodes.{comparisons, names as names_of}
 use Rattle.cgm_formula.proofs.Comparisons.{of_at_least, of_at_most, of_conjunction, of_disjunction, of_equality, of_equivalence, of_implication, of_negation}
 use Rattle.cgm_formula.proofs.Folds.{fold-AtLeast, fold-AtMost, fold-And, fold-Equal, fold-Iff, fold-Implies, fold-Name, fold-Not, fold-Or}
-use Rattle.cgm_formula.proofs.Induction.{Cases, by_cases}
+use Rattle.cgm_formula.proofs.Induction.{by_cases}
 use Rattle.cgm_model.specs.declared.lists.Lists.{Lists}
 use Rattle.cgm_model.specs.declared.lists.Rule.{Rule}
 use Rattle.cgm_model.specs.Formulas.{IsKnownTruth, formula_of, has_distinct_terms}
@@ -23,7 +23,7 @@ use Rattle.cgm_model.specs.WellFormed.{IsRule, IsWellFormed}
 use Rattle.cgm_enc_formula.specs.declared.literals.Literal.{Literal}
 use Rattle.cgm_enc_formula.specs.Definitions.{AreDefinitionsFrom, Definition, IsDefinitionOf, all_of, any_of, at_least, at_most, same_as}
 use Rattle.cgm_enc_formula.specs.Literals.{opposite, positive}
-use Rattle.cgm_enc_formula.specs.Naming.{Named, NamedParts, Naming, equal_definitions, naming, naming_step, parts_named}
+use Rattle.cgm_enc_formula.specs.Naming.{Named, NamedParts, Naming, naming, naming_step, parts_named}
 use Rattle.cgm_enc_formula.specs.Rules.{rule_definitions}
 use Rattle.cgm_enc_formula.specs.Terms.{model_variables, nonzero, row_terms, variable_terms}
 use Rattle.cgm_enc_formula.proofs.Splits.{name_of_name, names_of_conjunction, names_of_disjunction, names_of_equivalence, names_of_implication, names_of_negation}
@@ -84,7 +84,7 @@ module _ (m : Lists) where
             (literals_wider (next + length rest.definitions) (n + length (first.definitions ++ rest.definitions)) (omega arith) rest.literals others.literals);
       }
 
-  name_within : (name : Truth) → IsKnownTruth m name → variable_of m name < truth_variables m
+  pub name_within : (name : Truth) → IsKnownTruth m name → variable_of m name < truth_variables m
   name_within (names.Element k) h = omega arith
   name_within (names.Refinement k) h = omega arith
 
@@ -166,10 +166,14 @@ module _ (m : Lists) where
       (record {
         definitions = (
           terms_wider (model_variables m) n few (row_terms m l) terms,
-          (terms_wider (model_variables m) (n + 1) (omega arith) (row_terms m l) terms,
-          (All-cons (λ (l : Literal). l.variable < n + 1 + 1) (positive n) (positive (n + 1) ∷ []) (omega arith)
-          (All-cons (λ (l : Literal). l.variable < n + 1 + 1) (positive (n + 1)) [] (omega arith) (All-nil (λ (l : Literal). l.variable < n + 1 + 1))),
-          tt)),
+          (
+            terms_wider (model_variables m) (n + 1) (omega arith) (row_terms m l) terms,
+            (
+              All-cons (λ (l : Literal). l.variable < n + 1 + 1) (positive n) (positive (n + 1) ∷ []) (omega arith)
+                  (All-cons (λ (l : Literal). l.variable < n + 1 + 1) (positive (n + 1)) [] (omega arith) (All-nil (λ (l : Literal). l.variable < n + 1 + 1))),
+              tt,
+            ),
+          ),
         );
         literal = omega arith;
       })

@@ -1,21 +1,31 @@
 -- The steps of naming a formula: parts, then the whole.
-use Rattle.std.proofs.Common.{◌≡◌, ℕ, ◌+◌, ◌<◌, ◌≤◌, List, [], ◌∷◌, ◌++◌, length, get_or, map, drop, refl, sym, ap, ◌∙◌, subst, arith}
-use Rattle.std.specs.List.{All}
-use Rattle.std.proofs.lemmas.List.{append_assoc, append-nil}
-use Rattle.std.proofs.lemmas.List.Elements.{All-head, All-tail, All-weaker, recursion_from_All}
+use Rattle.std.proofs.Common.{◌≡◌, ℕ, ◌+◌, ◌^◌, ◌<◌, ◌≤◌, List, [], ◌∷◌, ◌++◌, length, get_or, map, sym, ap, ◌∙◌, subst, arith}
+use Rattle.std.specs.Prelude.{ℤ, unsigned_abs}
+use Rattle.std.specs.List.{All, AllByRecursion}
+use Rattle.std.proofs.lemmas.List.{append_assoc}
+use Rattle.std.proofs.lemmas.List.Elements.{All-head, All-tail, All-weaker, All-from_recursion, recursion_from_All}
+use Rattle.cgm_atom.specs.declared.constraints.Var.{Var}
 use Rattle.cgm_atom.specs.Instance.{Instance, var_count}
+use Rattle.cgm_atom.specs.Limits.{AreTermsOf}
 use Rattle.cgm_formula.specs.declared.formula.Formula.{Formula}
+use Rattle.cgm_formula.specs.declared.formula.Formula.TheVariants.{Name, Not, And, Or, Implies, Iff}
 use Rattle.cgm_formula.specs.declared.formula.Linear.{Linear}
+use Rattle.cgm_formula.specs.declared.formula.Truth.{Truth}
 use Rattle.cgm_formula.specs.Nodes.{comparisons, names as names_of}
+use Rattle.cgm_formula.proofs.Comparisons.{of_conjunction, of_disjunction, of_equivalence, of_implication, of_negation}
+use Rattle.cgm_formula.proofs.Folds.{fold-And, fold-Iff, fold-Implies, fold-Not, fold-Or}
 use Rattle.cgm_model.specs.declared.lists.Lists.{Lists}
 use Rattle.cgm_model.specs.Formulas.{IsKnownTruth}
 use Rattle.cgm_enc_formula.specs.declared.literals.Literal.{Literal}
-use Rattle.cgm_enc_formula.specs.Building.{HasRoomFor, Part, both, definition_part, definitions_part, with_part}
-use Rattle.cgm_enc_formula.specs.Definitions.{Definition}
-use Rattle.cgm_enc_formula.specs.Naming.{Named, NamedParts, Naming, naming, parts_named}
-use Rattle.cgm_enc_formula.specs.Terms.{IsEncodable, IsEncodableFormula, model_variables}
-use Rattle.cgm_enc_formula.proofs.NamingKnown.{AreKnownParts, HasTerms, IsKnownNamed, naming_known, parts_known, IsNameable}
-use Rattle.cgm_enc_formula.proofs.Steps.{IsLeft, definitions_both, first_fits, left_all, left_first, left_more, left_none, one_definition, rest_fits, with-count, with_both}
+use Rattle.cgm_enc_formula.specs.Building.{HasRoomFor, Part, definition_part, definitions_part, with_part}
+use Rattle.cgm_enc_formula.specs.Definitions.{Definition, all_of, any_of, same_as}
+use Rattle.cgm_enc_formula.specs.Naming.{Named, NamedParts, Naming, defined, naming, naming_step, parts_named}
+use Rattle.cgm_enc_formula.specs.Literals.{opposite}
+use Rattle.cgm_enc_formula.specs.Terms.{IsEncodable, IsEncodableFormula, model_variables, row_terms}
+use Rattle.cgm_enc_formula.proofs.NamingKnown.{HasTerms, IsKnownNamed, naming_known, parts_known, IsNameable}
+use Rattle.cgm_enc_formula.proofs.Splits.{name_of_name, names_of_conjunction, names_of_disjunction, names_of_equivalence, names_of_implication, names_of_negation}
+use Rattle.cgm_enc_formula.proofs.Steps.{IsLeft, definitions_both, first_fits, left_more, one_definition, rest_fits, with-count, with_both}
+use Rattle.cgm_enc_formula.proofs.TermOrders.{All-row_terms, row_terms_known, terms_wider}
 
 -- the builder holds the definitions behind what it held
 abbrev pub Adds : Instance → List Definition → Instance → Type 0
@@ -74,6 +84,60 @@ module _ (m : Lists) where
       let count = count_after old new (naming m f (var_count old)).definitions e in
       omega arith
 
+  -- ---- what is known of a formula is known of its parts
+
+  pub encodable_name : (name : Truth) → IsEncodableFormula m (Name name) → IsKnownTruth m name
+  encodable_name name h = name_of_name (IsKnownTruth m) name h.names
+
+  pub encodable_negation : (part : Formula) → IsEncodableFormula m (Not part) → IsEncodableFormula m part
+  encodable_negation part h = record {
+    names = names_of_negation (IsKnownTruth m) part h.names;
+    comparisons = of_negation (IsEncodable m) part h.comparisons;
+  }
+
+  parts_encodable : (parts : List Formula) → AllByRecursion (λ f. All (IsKnownTruth m) (names_of f)) parts → All (λ f. All (IsEncodable m) (comparisons f)) parts → All (IsEncodableFormula m) parts
+  parts_encodable parts h k i d l = record {
+    names = All-from_recursion (λ f. All (IsKnownTruth m) (names_of f)) parts h i d l;
+    comparisons = k i d l;
+  }
+
+  pub encodable_conjunction : (parts : List Formula) → IsEncodableFormula m (And parts) → All (IsEncodableFormula m) parts
+  encodable_conjunction parts h =
+      parts_encodable parts (names_of_conjunction (IsKnownTruth m) parts h.names) (of_conjunction (IsEncodable m) parts h.comparisons)
+
+  pub encodable_disjunction : (parts : List Formula) → IsEncodableFormula m (Or parts) → All (IsEncodableFormula m) parts
+  encodable_disjunction parts h =
+      parts_encodable parts (names_of_disjunction (IsKnownTruth m) parts h.names) (of_disjunction (IsEncodable m) parts h.comparisons)
+
+  pub encodable_implication : (premise conclusion : Formula) → IsEncodableFormula m (Implies premise conclusion) → IsEncodableFormula m premise × IsEncodableFormula m conclusion
+  encodable_implication premise conclusion h =
+      let names = names_of_implication (IsKnownTruth m) premise conclusion h.names in
+      let cs = of_implication (IsEncodable m) premise conclusion h.comparisons in
+      (record { names = names.0; comparisons = cs.0 }, record { names = names.1; comparisons = cs.1 })
+
+  pub encodable_equivalence : (one other : Formula) → IsEncodableFormula m (Iff one other) → IsEncodableFormula m one × IsEncodableFormula m other
+  encodable_equivalence one other h =
+      let names = names_of_equivalence (IsKnownTruth m) one other h.names in
+      let cs = of_equivalence (IsEncodable m) one other h.comparisons in
+      (record { names = names.0; comparisons = cs.0 }, record { names = names.1; comparisons = cs.1 })
+
+  -- ---- the naming of each kind of formula
+
+  abbrev pub all_named : List Formula → ℕ → Named
+  all_named parts n = defined n (parts_named (map (naming m) parts) n).definitions (all_of (parts_named (map (naming m) parts) n).literals)
+
+  abbrev pub any_named : List Formula → ℕ → Named
+  any_named parts n = defined n (parts_named (map (naming m) parts) n).definitions (any_of (parts_named (map (naming m) parts) n).literals)
+
+  pub naming-Not : (f part : Formula) (n : ℕ) → f ≡ Not part → naming m f n ≡ record { definitions = (naming m part n).definitions; literal = opposite (naming m part n).literal }
+  naming-Not f part n e = ap (λ (x : Formula). naming m x n) e ∙ ap (λ (x : Naming). x n) (fold-Not (naming_step m) part)
+
+  pub naming-And : (f : Formula) (parts : List Formula) (n : ℕ) → f ≡ And parts → naming m f n ≡ all_named parts n
+  naming-And f parts n e = ap (λ (x : Formula). naming m x n) e ∙ ap (λ (x : Naming). x n) (fold-And (naming_step m) parts)
+
+  pub naming-Or : (f : Formula) (parts : List Formula) (n : ℕ) → f ≡ Or parts → naming m f n ≡ any_named parts n
+  naming-Or f parts n e = ap (λ (x : Formula). naming m x n) e ∙ ap (λ (x : Naming). x n) (fold-Or (naming_step m) parts)
+
   -- ---- two formulas, one after the other
 
   abbrev pub second_naming : Formula → Formula → ℕ → Named
@@ -102,6 +166,18 @@ module _ (m : Lists) where
       both_added old new last (naming m one n).definitions (second_naming one other n).definitions e
       (subst (λ (x : Named). Adds new x.definitions last) (sym (second_at one other old new e)) is)
 
+  abbrev pub implies_definition : Formula → Formula → ℕ → Definition
+  implies_definition one other n = any_of (opposite (naming m one n).literal ∷ (second_naming one other n).literal ∷ [])
+
+  abbrev pub iff_definition : Formula → Formula → ℕ → Definition
+  iff_definition one other n = same_as (naming m one n).literal (second_naming one other n).literal
+
+  pub naming-Implies : (f one other : Formula) (n : ℕ) → f ≡ Implies one other → naming m f n ≡ defined n (two_definitions one other n) (implies_definition one other n)
+  naming-Implies f one other n e = ap (λ (x : Formula). naming m x n) e ∙ ap (λ (x : Naming). x n) (fold-Implies (naming_step m) one other)
+
+  pub naming-Iff : (f one other : Formula) (n : ℕ) → f ≡ Iff one other → naming m f n ≡ defined n (two_definitions one other n) (iff_definition one other n)
+  naming-Iff f one other n e = ap (λ (x : Formula). naming m x n) e ∙ ap (λ (x : Naming). x n) (fold-Iff (naming_step m) one other)
+
   -- ---- a list of formulas
 
   abbrev pub parts_at : List Formula → ℕ → NamedParts
@@ -112,8 +188,8 @@ module _ (m : Lists) where
   literals_within parts old new h few e =
       let n = var_count old in
       let known = parts_known m parts (recursion_from_All (IsNameable m) parts (λ k d l. naming_known m (get_or parts k d)))
-          (recursion_from_All (λ f. All (IsKnownTruth m) (names_of f)) parts (λ k d l. (h k d l).names))
-          (recursion_from_All (λ f. All (HasTerms m) (comparisons f)) parts (λ k d l i x w. ((h k d l).comparisons i x w).terms)) n few in
+      (recursion_from_All (λ f. All (IsKnownTruth m) (names_of f)) parts (λ k d l. (h k d l).names))
+      (recursion_from_All (λ f. All (HasTerms m) (comparisons f)) parts (λ k d l i x w. ((h k d l).comparisons i x w).terms)) n few in
       let count = count_after old new (parts_at parts n).definitions e in
       All-weaker (λ (l : Literal). l.variable < n + length (parts_at parts n).definitions) (λ l. l.variable < var_count new) (λ l w. omega arith)
       (parts_at parts n).literals known.literals
@@ -124,14 +200,6 @@ module _ (m : Lists) where
     pub variables : model_variables m ≤ var_count new
     pub left : IsLeft old (definitions_part (var_count old) (parts_at all (var_count old)).definitions) new (definitions_part (var_count new) (parts_at rest (var_count new)).definitions)
     pub literals : ls ++ (parts_at rest (var_count new)).literals ≡ (parts_at all (var_count old)).literals
-
-  pub named_at_first : (p : Instance) (all : List Formula) → All (IsEncodableFormula m) all → model_variables m ≤ var_count p → Fits p (parts_at all (var_count p)).definitions → AreNamed p all p [] all
-  named_at_first p all h few room = record {
-    known = h;
-    variables = few;
-    left = left_all p (definitions_part (var_count p) (parts_at all (var_count p)).definitions) room;
-    literals = refl;
-  }
 
   pub next_known : (old p : Instance) (all : List Formula) (ls : List Literal) (part : Formula) (rest : List Formula) → AreNamed old all p ls (part ∷ rest) → IsEncodableFormula m part
   next_known old p all ls part rest far = All-head (IsEncodableFormula m) part rest far.known
@@ -151,7 +219,7 @@ module _ (m : Lists) where
       let few = far.variables in
       let more = (parts_at rest next).definitions in
       let left = left_more old p q (definitions_part (var_count old) (parts_at all (var_count old)).definitions) (definitions_part n first.definitions)
-          (definitions_part next more) (definitions_part n (first.definitions ++ more)) (definitions_both n first.definitions more) far.left e in
+      (definitions_part next more) (definitions_part n (first.definitions ++ more)) (definitions_both n first.definitions more) far.left e in
       record {
         known = All-tail (IsEncodableFormula m) part rest far.known;
         variables = omega arith;
@@ -163,6 +231,14 @@ module _ (m : Lists) where
             ∙ far.literals;
       }
 
-  pub named_at_end : (old p : Instance) (all : List Formula) (ls : List Literal) → AreNamed old all p ls [] → Adds old (parts_at all (var_count old)).definitions p × (ls ≡ (parts_at all (var_count old)).literals)
-  named_at_end old p all ls far =
-      (left_none old p (definitions_part (var_count old) (parts_at all (var_count old)).definitions) far.left, sym (append-nil ls) ∙ far.literals)
+-- ---- comparisons
+
+pub row_terms_fit : (m : Lists) (p : Instance) (l : Linear) (k : ℤ) (terms : List (ℤ × Var)) → terms ≡ row_terms m l → model_variables m ≤ var_count p → IsEncodable m (l, k) → AreTermsOf (var_count p) terms
+row_terms_fit m p l k terms e few h =
+    subst (λ (ts : List (ℤ × Var)). AreTermsOf (var_count p) ts) (sym e)
+    (terms_wider (model_variables m) (var_count p) few (row_terms m l) (row_terms_known m l h.terms))
+
+pub row_terms_small : (m : Lists) (l : Linear) (k : ℤ) (terms : List (ℤ × Var)) → terms ≡ row_terms m l → IsEncodable m (l, k) → All (λ t. unsigned_abs t.0 < 2 ^ 63) terms
+row_terms_small m l k terms e h =
+    subst (λ (ts : List (ℤ × Var)). All (λ t. unsigned_abs t.0 < 2 ^ 63) ts) (sym e)
+    (All-row_terms (λ c. unsigned_abs c < 2 ^ 63) m l (λ i d within. (let small = h.coefficients i d within in omega arith)))

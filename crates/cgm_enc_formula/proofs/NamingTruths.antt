@@ -1,6 +1,6 @@
 -- Where each naming variable has the truth of its definition, a formula's literal has the truth of the formula.
-use Rattle.std.proofs.Common.{◌≡◌, ℕ, ◌+◌, Bool, true, false, cond, not, ◌||◌, ◌&&◌, List, [], ◌∷◌, ◌++◌, map, length, refl, sym, ap, ◌∙◌, subst, arith}
-use Rattle.std.specs.Prelude.{ℤ, pos, int_le}
+use Rattle.std.proofs.Common.{◌≡◌, ℕ, ◌+◌, Bool, true, false, not, ◌||◌, ◌&&◌, List, [], ◌∷◌, ◌++◌, map, length, refl, sym, ap, ◌∙◌, subst, arith}
+use Rattle.std.specs.Prelude.{ℤ, int_le}
 use Rattle.std.specs.List.{AllByRecursion, list_all, list_any}
 use Rattle.std.proofs.lemmas.List.Folds.{list_all-map}
 use Rattle.cgm_atom.specs.Bounds.{value_of}
@@ -12,13 +12,13 @@ use Rattle.cgm_formula.specs.declared.formula.Number.{Number}
 use Rattle.cgm_formula.specs.declared.formula.Truth.{Truth}
 use Rattle.cgm_formula.specs.Truth.{linear_value, same_truth, truth, truth_step}
 use Rattle.cgm_formula.proofs.Folds.{fold-AtLeast, fold-AtMost, fold-And, fold-Equal, fold-Iff, fold-Implies, fold-Name, fold-Not, fold-Or}
-use Rattle.cgm_formula.proofs.Induction.{Cases, by_cases}
+use Rattle.cgm_formula.proofs.Induction.{by_cases}
 use Rattle.cgm_formula.proofs.Truths.{list_any-map, truth-And, truth-Or}
 use Rattle.cgm_model.specs.declared.lists.Lists.{Lists}
 use Rattle.cgm_enc_formula.specs.declared.literals.Literal.{Literal}
 use Rattle.cgm_enc_formula.specs.Definitions.{AreDefined, Definition, all_of, any_of, at_least, at_most, definition_true, same_as}
-use Rattle.cgm_enc_formula.specs.Literals.{literal_true, opposite, positive}
-use Rattle.cgm_enc_formula.specs.Naming.{Named, NamedParts, Naming, defined, equal_definitions, naming, naming_step, parts_named}
+use Rattle.cgm_enc_formula.specs.Literals.{literal_true, opposite}
+use Rattle.cgm_enc_formula.specs.Naming.{Named, Naming, defined, naming, naming_step, parts_named}
 use Rattle.cgm_enc_formula.specs.Terms.{number_variable, row_terms}
 use Rattle.cgm_enc_formula.proofs.LiteralTruths.{opposite-true, or_false}
 use Rattle.cgm_enc_formula.proofs.TermSums.{row-sum}

@@ -1,18 +1,14 @@
 -- The clauses and rows of rules are met exactly where the naming variables are defined and each rule holds.
-use Rattle.std.proofs.Common.{◌≡◌, ℕ, ◌+◌, ◌<◌, ◌↔◌, Bool, true, false, cond, not, ◌||◌, ◌&&◌, IsTrue, List, [], ◌∷◌, ◌++◌, length, map, refl, sym, ap, ◌∙◌, subst, Decides, arith}
-use Rattle.std.specs.Prelude.{ℤ, pos}
-use Rattle.std.specs.List.{All, enumerate_from, flat_map, list_all}
+use Rattle.std.proofs.Common.{◌≡◌, ℕ, ◌+◌, ◌↔◌, Bool, true, false, not, ◌||◌, ◌&&◌, IsTrue, List, [], ◌∷◌, length, refl, sym, ap, ◌∙◌, Decides}
+use Rattle.std.specs.Prelude.{ℤ}
+use Rattle.std.specs.List.{All, list_all}
 use Rattle.std.proofs.lemmas.Bool.{and_parts, and_from}
-use Rattle.std.proofs.lemmas.Bool.Decides.{Decides-at, Decides-like, Decides-not}
-use Rattle.std.proofs.lemmas.List.{append_assoc}
+use Rattle.std.proofs.lemmas.Bool.Decides.{Decides-at, Decides-not}
 use Rattle.std.proofs.lemmas.List.Elements.{All-head, All-tail}
 use Rattle.std.proofs.lemmas.List.Sums.{AllPass-from_list_all, list_all-from_AllPass}
-use Rattle.cgm_atom.specs.declared.constraints.Clause.{Clause}
 use Rattle.cgm_atom.specs.declared.constraints.Row.{Row}
-use Rattle.cgm_atom.specs.Atoms.{atom_true, clause_true, row_true}
+use Rattle.cgm_atom.specs.Atoms.{clause_true, row_true}
 use Rattle.cgm_formula.specs.declared.assignment.Assignment.{Assignment}
-use Rattle.cgm_formula.specs.declared.formula.Formula.{Formula}
-use Rattle.cgm_formula.specs.declared.formula.Linear.{Linear}
 use Rattle.cgm_formula.specs.declared.formula.Number.{Number}
 use Rattle.cgm_formula.specs.declared.formula.Number.TheVariants as number
 use Rattle.cgm_formula.specs.declared.formula.Truth.{Truth}
@@ -22,13 +18,13 @@ use Rattle.cgm_formula.specs.Truth.{truth}
 use Rattle.cgm_model.specs.declared.lists.Lists.{Lists}
 use Rattle.cgm_model.specs.declared.lists.Rule.{Rule}
 use Rattle.cgm_model.specs.declared.lists.Rule.TheVariants as rules
-use Rattle.cgm_model.specs.Formulas.{IsKnownNumber, IsKnownTruth, IsProperRule, condition_names, formula_of}
+use Rattle.cgm_model.specs.Formulas.{IsKnownNumber, IsKnownTruth, IsProperRule, formula_of}
 use Rattle.cgm_model.specs.Place.{Each, EachFrom}
 use Rattle.cgm_model.specs.Realization.{KeepsRule}
-use Rattle.cgm_model.specs.WellFormed.{IsRule, IsWellFormed}
+use Rattle.cgm_model.specs.WellFormed.{IsWellFormed}
 use Rattle.cgm_enc_formula.specs.declared.literals.Literal.{Literal}
 use Rattle.cgm_enc_formula.specs.Building.{rules_part}
-use Rattle.cgm_enc_formula.specs.Definitions.{AreDefined, Definition, definition_rows}
+use Rattle.cgm_enc_formula.specs.Definitions.{AreDefined}
 use Rattle.cgm_enc_formula.specs.Laws.{MeetPart, StandForNumbers}
 use Rattle.cgm_enc_formula.specs.Literals.{literal_true}
 use Rattle.cgm_enc_formula.specs.Naming.{naming}
@@ -39,9 +35,9 @@ use Rattle.cgm_enc_formula.proofs.DefinitionTruths.{definitions_mean, met, met-a
 use Rattle.cgm_enc_formula.proofs.LiteralTruths.{or_false}
 use Rattle.cgm_enc_formula.proofs.NamingTruths.{both_defined, defined_both, literal_is_truth, names_at, numbers_at}
 use Rattle.cgm_enc_formula.proofs.WellFormedRules.{each_rule}
-use Rattle.cgm_enc_graph.specs.Assignments.{StandFor, truth_at}
+use Rattle.cgm_enc_graph.specs.Assignments.{StandFor}
 use Rattle.cgm_enc_graph.specs.Literals.{variable_of}
-use Rattle.cgm_enc_graph.proofs.ClauseTruths.{all_repeats-true, negated-true}
+use Rattle.cgm_enc_graph.proofs.ClauseTruths.{negated-true}
 use Rattle.cgm_enc_graph.proofs.RuleTruths.{Decides-implies}
 
 grouped : (a b c : Bool) → ((a && b) && c) ≡ (a && (b && c))
@@ -88,7 +84,7 @@ module _ (m : Lists) (values : List ℤ) where
       ap (λ (rows : List Row). met values (rule_clauses m n (r ∷ rs)) rows) (rows_both n named.definitions (rule_definitions m next rs))
       ∙ met-append values (clauses_from n named.definitions) (own ∷ rule_clauses m next rs) (rows_from n named.definitions) (rule_rows m next rs)
       ∙ ap (λ (t : Bool). met values (clauses_from n named.definitions) (rows_from n named.definitions) && t)
-          (grouped (clause_true values own) (list_all (clause_true values) (rule_clauses m next rs)) (list_all (row_true values) (rule_rows m next rs)))
+      (grouped (clause_true values own) (list_all (clause_true values) (rule_clauses m next rs)) (list_all (row_true values) (rule_rows m next rs)))
 
   rules_hold : (n place : ℕ) (rs : List Rule) → met values (rule_clauses m n rs) (rule_rows m n rs) ≡ true → AreDefined values n (rule_definitions m n rs) × EachFrom place (λ _ r. RuleHolds r) rs
   rules_hold n place [] h = (tt, tt)
@@ -101,8 +97,7 @@ module _ (m : Lists) (values : List ℤ) where
       let parts = and_parts before (own && after) (sym (split_rule n r rs) ∙ h) in
       let more = and_parts own after parts.1 in
       let defined = (definitions_mean values n named.definitions).0 parts.0 in
-      let rest = rules_hold next (place + 1) rs more.1 in
-      (
+      let rest = rules_hold next (place + 1) rs more.1 in (
         both_defined values n named.definitions (rule_definitions m next rs) defined rest.0,
         ((rule_clause_means r named.literal (literal_is_truth m values (formula_of r) n defined)).0 more.0, rest.1),
       )
@@ -118,7 +113,7 @@ module _ (m : Lists) (values : List ℤ) where
       let defined = defined_both values n named.definitions (rule_definitions m next rs) h in
       split_rule n r rs
       ∙ and_from before (own && after) ((definitions_mean values n named.definitions).1 defined.0)
-          (and_from own after ((rule_clause_means r named.literal (literal_is_truth m values (formula_of r) n defined.0)).1 k.0) (rules_are_met next (place + 1) rs defined.1 k.1))
+      (and_from own after ((rule_clause_means r named.literal (literal_is_truth m values (formula_of r) n defined.0)).1 k.0) (rules_are_met next (place + 1) rs defined.1 k.1))
 
 -- ---- the assignment that the values stand for
 
@@ -168,11 +163,10 @@ unfolding rules_part
 rules_part_means m values a sums n well stand numbers =
     let proper = proper_rules m well in
     let clauses = rule_clauses m n m.rules in
-    let rows = rule_rows m n m.rules in
-    (
+    let rows = rule_rows m n m.rules in (
       λ h.
           let met_all = and_from (list_all (clause_true values) clauses) (list_all (row_true values) rows)
-              (list_all-from_AllPass (clause_true values) clauses h.clauses) (list_all-from_AllPass (row_true values) rows h.rows) in
+          (list_all-from_AllPass (clause_true values) clauses h.clauses) (list_all-from_AllPass (row_true values) rows h.rows) in
           let both = rules_hold m values n 0 m.rules met_all in
           (both.0, each_kept m values a sums stand numbers 0 m.rules proper both.1),
       λ h.

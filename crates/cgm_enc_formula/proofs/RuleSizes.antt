@@ -2,9 +2,8 @@
 use Rattle.std.proofs.Common.{◌≡◌, ℕ, ◌+◌, ◌*◌, ◌≤◌, List, [], ◌∷◌, ◌++◌, length, map, refl, sym, ap, ◌∙◌, subst, arith}
 use Rattle.std.specs.Prelude.{ℤ, sum}
 use Rattle.std.specs.List.{AllByRecursion}
-use Rattle.std.proofs.lemmas.List.{append_assoc, length-append, length-map}
+use Rattle.std.proofs.lemmas.List.{length-append, length-map}
 use Rattle.std.proofs.lemmas.List.Sums.{sum_by-cons}
-use Rattle.cgm_atom.specs.declared.constraints.Atom.{Atom}
 use Rattle.cgm_atom.specs.declared.constraints.Clause.{Clause}
 use Rattle.cgm_formula.specs.declared.formula.Formula.{Formula}
 use Rattle.cgm_formula.specs.declared.formula.Formula.TheOpen.{Formula-F}
@@ -13,19 +12,18 @@ use Rattle.cgm_formula.specs.declared.formula.Linear.{Linear}
 use Rattle.cgm_formula.specs.declared.formula.Truth.{Truth}
 use Rattle.cgm_formula.specs.Nodes.{node_count, node_step}
 use Rattle.cgm_formula.proofs.Folds.{fold-AtLeast, fold-AtMost, fold-And, fold-Equal, fold-Iff, fold-Implies, fold-Name, fold-Not, fold-Or}
-use Rattle.cgm_formula.proofs.Induction.{Cases, by_cases}
+use Rattle.cgm_formula.proofs.Induction.{by_cases}
 use Rattle.cgm_model.specs.declared.lists.Lists.{Lists}
 use Rattle.cgm_model.specs.declared.lists.Rule.{Rule}
 use Rattle.cgm_model.specs.Formulas.{formula_of, node_total}
 use Rattle.cgm_model.specs.WellFormed.{IsWellFormed}
 use Rattle.cgm_enc_formula.specs.declared.literals.Literal.{Literal}
 use Rattle.cgm_enc_formula.specs.Building.{rules_part}
-use Rattle.cgm_enc_formula.specs.Definitions.{Definition, all_of, any_of, at_least, at_most, definition_clauses, definition_rows, pairs, same_as}
+use Rattle.cgm_enc_formula.specs.Definitions.{Definition, all_of, any_of, definition_clauses, definition_rows, same_as}
 use Rattle.cgm_enc_formula.specs.Laws.{IsSmallPart}
 use Rattle.cgm_enc_formula.specs.Literals.{opposite, positive}
-use Rattle.cgm_enc_formula.specs.Naming.{Named, NamedParts, Naming, equal_definitions, naming, naming_step, parts_named}
+use Rattle.cgm_enc_formula.specs.Naming.{Named, NamedParts, Naming, naming, naming_step, parts_named}
 use Rattle.cgm_enc_formula.specs.Rules.{clauses_from, rows_from, rule_clause, rule_clauses, rule_definitions, rule_rows}
-use Rattle.cgm_enc_formula.specs.Terms.{row_terms}
 use Rattle.cgm_enc_formula.proofs.DefinitionLists.{clauses_both, rows_both}
 use Rattle.cgm_enc_formula.proofs.WellFormedRules.{few_nodes}
 

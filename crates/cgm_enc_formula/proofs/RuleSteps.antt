@@ -1,5 +1,5 @@
 -- The steps of adding rules: the definitions of a rule's formula, then the rule's own clause, and one rule after another.
-use Rattle.std.proofs.Common.{◌≡◌, ℕ, ◌+◌, ◌^◌, ◌<◌, ◌≤◌, List, [], ◌∷◌, ◌++◌, length, refl, sym, ap, ◌∙◌, subst, arith}
+use Rattle.std.proofs.Common.{◌≡◌, ℕ, ◌+◌, ◌≤◌, List, [], ◌∷◌, ◌++◌, length, refl, sym, ap, ◌∙◌, subst, arith}
 use Rattle.std.specs.List.{All}
 use Rattle.std.proofs.lemmas.List.{append-nil, append_assoc, length-append}
 use Rattle.std.proofs.lemmas.List.Elements.{All-head, All-tail}
@@ -12,13 +12,13 @@ use Rattle.cgm_model.specs.declared.lists.Rule.{Rule}
 use Rattle.cgm_model.specs.Formulas.{formula_of}
 use Rattle.cgm_enc_formula.specs.Building.{HasRoomFor, Part, both, clause_part, definitions_part, rule_part, rules_part, with_part}
 use Rattle.cgm_enc_formula.specs.Definitions.{Definition}
-use Rattle.cgm_enc_formula.specs.Naming.{Named, naming}
+use Rattle.cgm_enc_formula.specs.Naming.{naming}
 use Rattle.cgm_enc_formula.specs.Rules.{IsEncodableRule, clauses_from, rows_from, rule_clause, rule_clauses, rule_definitions, rule_rows}
 use Rattle.cgm_enc_formula.specs.Terms.{model_variables}
 use Rattle.cgm_enc_formula.proofs.Defining.{one_clause, written_part}
 use Rattle.cgm_enc_formula.proofs.DefinitionLists.{rows_both}
-use Rattle.cgm_enc_formula.proofs.NamingSteps.{Adds, Fits, count_after}
-use Rattle.cgm_enc_formula.proofs.Steps.{IsLeft, first_fits, left_all, left_first, left_more, left_none, no_part, record_part, rest_fits, same_part, with-count, with_both}
+use Rattle.cgm_enc_formula.proofs.NamingSteps.{Adds}
+use Rattle.cgm_enc_formula.proofs.Steps.{IsLeft, left_first, left_more, left_none, no_part, rest_fits, same_part, with-count, with_both}
 use Rattle.cgm_enc_graph.specs.Adding.{CanTake, with_written}
 
 -- ---- one rule
@@ -26,9 +26,6 @@ use Rattle.cgm_enc_graph.specs.Adding.{CanTake, with_written}
 module _ (ds : List Definition) (c : Clause) where
   abbrev own_part : ℕ → Part
   own_part n = both (definitions_part n ds) (clause_part c)
-
-  pub formula_fits : (p : Instance) → HasRoomFor p (own_part (var_count p)) → Fits p ds
-  formula_fits p h = first_fits p (definitions_part (var_count p) ds) (clause_part c) h
 
   pub clause_fits : (old new : Instance) → Adds old ds new → IsClauseOf (var_count new) c → HasRoomFor old (own_part (var_count old)) → CanTake new (c ∷ [])
   clause_fits old new e known h =
@@ -67,9 +64,6 @@ module _ (m : Lists) where
     pub known : All (IsEncodableRule m) rest
     pub variables : model_variables m ≤ var_count new
     pub left : IsLeft old (rules_part m (var_count old) all) new (rules_part m (var_count new) rest)
-
-  pub added_at_first : (p : Instance) (all : List Rule) → All (IsEncodableRule m) all → model_variables m ≤ var_count p → HasRoomFor p (rules_part m (var_count p) all) → AreAdded p all p all
-  added_at_first p all h few room = record { known = h; variables = few; left = left_all p (rules_part m (var_count p) all) room }
 
   pub next_known : (old p : Instance) (all : List Rule) (r : Rule) (rest : List Rule) → AreAdded old all p (r ∷ rest) → IsEncodableRule m r
   next_known old p all r rest far = All-head (IsEncodableRule m) r rest far.known

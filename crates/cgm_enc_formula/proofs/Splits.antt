@@ -1,13 +1,13 @@
 -- What holds of each name, or of each comparison, of a formula holds of those of its parts.
-use Rattle.std.proofs.Common.{List, [], ◌∷◌, ◌++◌, map, subst}
+use Rattle.std.proofs.Common.{List, [], ◌∷◌, map, subst}
 use Rattle.std.specs.List.{All, AllByRecursion}
-use Rattle.std.proofs.lemmas.List.Elements.{All-from_recursion, recursion_from_All}
+use Rattle.std.proofs.lemmas.List.Elements.{recursion_from_All}
 use Rattle.cgm_formula.specs.declared.formula.Formula.{Formula}
 use Rattle.cgm_formula.specs.declared.formula.Formula.TheVariants.{Name, Not, And, Or, Implies, Iff}
 use Rattle.cgm_formula.specs.declared.formula.Truth.{Truth}
 use Rattle.cgm_formula.specs.Nodes as nodes
 use Rattle.cgm_formula.specs.Nodes.{joined}
-use Rattle.cgm_formula.proofs.Comparisons.{split, All-both}
+use Rattle.cgm_formula.proofs.Comparisons.{All-both}
 use Rattle.cgm_formula.proofs.Folds.{fold-And, fold-Iff, fold-Implies, fold-Name, fold-Not, fold-Or}
 
 pub each_joined : {A : Type 0} (Q : A → Type 0) (g : Formula → List A) (parts : List Formula) → All Q (joined (map g parts)) → AllByRecursion (λ f. All Q (g f)) parts

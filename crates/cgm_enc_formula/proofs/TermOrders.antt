@@ -1,10 +1,10 @@
 -- Terms stay those of a row where they are placed in order; those of a rule's comparisons are such.
-use Rattle.std.proofs.Common.{◌≡◌, ◌≢◌, ℕ, ◌+◌, ◌<◌, ◌≤◌, Bool, true, false, cond, not, ◌&&◌, nat_eq, List, [], ◌∷◌, length, map, refl, sym, ap, ◌∙◌, subst, arith}
+use Rattle.std.proofs.Common.{◌≡◌, ◌≢◌, ℕ, ◌<◌, ◌≤◌, Bool, true, false, cond, not, List, [], ◌∷◌, refl, sym, ◌∙◌, arith}
 use Rattle.std.specs.Prelude.{ℤ, pos, nat_lt}
-use Rattle.std.specs.List.{All, list_all, list_any}
+use Rattle.std.specs.List.{All, list_any}
 use Rattle.std.proofs.lemmas.Bool.{and_parts, eq-eqb, not-true, or_parts, true≢false}
 use Rattle.std.proofs.lemmas.Bool.Decides.{Decides-int_eq}
-use Rattle.std.proofs.lemmas.List.Elements.{All-head, All-tail}
+use Rattle.std.proofs.lemmas.List.Elements.{All-cons, All-filter, All-head, All-map, All-nil, All-tail}
 use Rattle.cgm_atom.specs.declared.constraints.Var.{Var}
 use Rattle.cgm_atom.specs.Limits.{AreTermsOf, IsAbsent}
 use Rattle.cgm_formula.specs.declared.formula.Linear.{Linear}
@@ -12,8 +12,7 @@ use Rattle.cgm_formula.specs.declared.formula.Number.{Number}
 use Rattle.cgm_formula.specs.declared.formula.Number.TheVariants as number
 use Rattle.cgm_model.specs.declared.lists.Lists.{Lists}
 use Rattle.cgm_model.specs.Formulas.{IsKnownNumber, are_distinct_terms, is_same_number}
-use Rattle.cgm_enc_formula.specs.Terms.{AreApart, all_placed, ascending, is_zero, model_variables, nonzero, number_variable, placed, row_terms, variable_terms}
-use Rattle.cgm_enc_graph.specs.Literals.{truth_variables}
+use Rattle.cgm_enc_formula.specs.Terms.{AreApart, all_placed, is_zero, model_variables, nonzero, number_variable, placed, row_terms, variable_terms}
 
 pub terms_wider : (count more : ℕ) → count ≤ more → (terms : List (ℤ × Var)) → AreTermsOf count terms → AreTermsOf more terms
 terms_wider count more few [] h = tt
@@ -104,3 +103,28 @@ module _ (m : Lists) where
       terms_nonzero (model_variables m) own (nonzero (variable_terms m terms)) (is_zero own) refl (number_known m t.1 here)
       (others_absent t.1 terms here later (not-true (list_any (λ y. is_same_number y.1 t.1) terms) parts.0))
       (terms_known terms later parts.1)
+
+-- ---- a fact of each coefficient
+
+module _ (P : ℤ → Type 0) where
+  abbrev Has : ℤ × Var → Type 0
+  Has t = P t.0
+
+  placed_by_all : (t u : ℤ × Var) (terms rest : List (ℤ × Var)) (before : Bool) → Has t → All Has (u ∷ terms) → All Has rest → All Has (cond before (t ∷ u ∷ terms) (u ∷ rest))
+  placed_by_all t u terms rest true h k l = All-cons Has t (u ∷ terms) h k
+  placed_by_all t u terms rest false h k l = All-cons Has u rest (All-head Has u terms k) l
+
+  placed_all : (t : ℤ × Var) (terms : List (ℤ × Var)) → Has t → All Has terms → All Has (placed t terms)
+  placed_all t [] h k = All-cons Has t [] h k
+  placed_all t (u ∷ terms) h k =
+      placed_by_all t u terms (placed t terms) (nat_lt t.1.0 u.1.0) h k (placed_all t terms h (All-tail Has u terms k))
+
+  all_placed_all : (so_far terms : List (ℤ × Var)) → All Has so_far → All Has terms → All Has (all_placed so_far terms)
+  all_placed_all so_far [] h k = h
+  all_placed_all so_far (t ∷ terms) h k =
+      all_placed_all (placed t so_far) terms (placed_all t so_far (All-head Has t terms k) h) (All-tail Has t terms k)
+
+  pub All-row_terms : (m : Lists) (l : Linear) → All (λ t. P t.0) l.terms → All Has (row_terms m l)
+  All-row_terms m l h =
+      all_placed_all [] (nonzero (variable_terms m l.terms)) (All-nil Has)
+      (All-filter (λ t. not (is_zero t)) Has (variable_terms m l.terms) (All-map Has (λ (t : ℤ × Number). (t.0, record { 0 = number_variable m t.1 })) l.terms h))

@@ -1,7 +1,6 @@
 -- The sum of a row's terms is the value of the linear expression.
-use Rattle.std.proofs.Common.{◌≡◌, ℕ, ◌+◌, Bool, true, false, cond, not, List, [], ◌∷◌, map, refl, sym, ap, ◌∙◌, arith}
-use Rattle.std.specs.Prelude.{ℤ, pos, ◌+ℤ◌, ◌*ℤ◌, nat_lt, filter}
-use Rattle.std.specs.Ordering.{int_eq}
+use Rattle.std.proofs.Common.{◌≡◌, Bool, true, false, cond, not, List, [], ◌∷◌, refl, ap, arith}
+use Rattle.std.specs.Prelude.{ℤ, pos, ◌+ℤ◌, ◌*ℤ◌, nat_lt}
 use Rattle.std.proofs.lemmas.Bool.Decides.{Decides-int_eq}
 use Rattle.std.proofs.lemmas.Int.{ints}
 use Rattle.cgm_atom.specs.declared.constraints.Var.{Var}
@@ -11,12 +10,9 @@ use Rattle.cgm_formula.specs.declared.formula.Linear.{Linear}
 use Rattle.cgm_formula.specs.declared.formula.Number.{Number}
 use Rattle.cgm_formula.specs.Truth.{linear_value, total}
 use Rattle.cgm_model.specs.declared.lists.Lists.{Lists}
-use Rattle.cgm_enc_formula.specs.Terms.{all_placed, ascending, is_zero, nonzero, number_variable, placed, row_terms, variable_terms}
+use Rattle.cgm_enc_formula.specs.Terms.{all_placed, is_zero, nonzero, number_variable, placed, row_terms, variable_terms}
 
 module _ (values : List ℤ) where
-  term_value : ℤ × Var → ℤ
-  term_value t = t.0 *ℤ value_of values t.1.0
-
   placed_by : (t u : ℤ × Var) (terms : List (ℤ × Var)) (before : Bool) → activity values (placed t terms) ≡ (t.0 *ℤ value_of values t.1.0) +ℤ activity values terms → activity values (cond before (t ∷ u ∷ terms) (u ∷ placed t terms)) ≡ (t.0 *ℤ value_of values t.1.0) +ℤ activity values (u ∷ terms)
   placed_by t u terms true h = refl
   placed_by t u terms false h = omega (arith, ints)

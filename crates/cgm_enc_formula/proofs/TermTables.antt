@@ -1,9 +1,8 @@
 -- A table of coefficients by variable holds the terms so far in their order.
-use Rattle.std.proofs.Common.{◌≡◌, ◌≢◌, ℕ, ◌+◌, ◌<◌, ◌==◌, Bool, true, false, cond, not, List, [], ◌∷◌, ◌++◌, map, refl, sym, ap, ◌∙◌, subst}
+use Rattle.std.proofs.Common.{◌≡◌, ◌≢◌, ℕ, ◌==◌, Bool, true, false, cond, not, List, [], ◌∷◌, refl, sym, ap, ◌∙◌, subst}
 use Rattle.std.specs.Prelude.{ℤ, pos, nat_lt}
 use Rattle.std.specs.BTreeMap.{insert_entry}
 use Rattle.std.specs.Ordering.{match_ordering, nat_cmp}
-use Rattle.std.specs.declared.cmp.Ordering.{Ordering}
 use Rattle.std.specs.declared.cmp.Ordering.TheVariants.{Less, Equal, Greater}
 use Rattle.std.proofs.lemmas.Bool.{eqb-true}
 use Rattle.std.proofs.lemmas.Bool.Decides.{Decides-int_eq}
@@ -41,19 +40,12 @@ module _ (m : Lists) where
   not_zero : (t : ℤ × Number) → t.0 ≢ pos 0 → is_zero (own t) ≡ false
   not_zero t h = not_true (is_zero (own t)) (λ e. h ((Decides-int_eq t.0 (pos 0)).0 e))
     where
-    not_true : (b : Bool) → (b ≡ true → ⊥) → b ≡ false
-    not_true true h = absurd (h refl)
-    not_true false h = refl
-
-  -- a term alone, where its coefficient is 0 and where it isn't
-  pub none_left : (t : ℤ × Number) → t.0 ≡ pos 0 → left (t ∷ []) ≡ []
-  none_left t h = ap (λ (zero : Bool). cond (not zero) (own t ∷ []) []) ((Decides-int_eq t.0 (pos 0)).1 h)
+      not_true : (b : Bool) → (b ≡ true → ⊥) → b ≡ false
+      not_true true h = absurd (h refl)
+      not_true false h = refl
 
   pub one_left : (t : ℤ × Number) → t.0 ≢ pos 0 → left (t ∷ []) ≡ own t ∷ []
   one_left t h = ap (λ (zero : Bool). cond (not zero) (own t ∷ []) []) (not_zero t h)
-
-  pub known_left : (count : ℕ) (t : ℤ × Number) → t.0 ≢ pos 0 → AreTermsOf count (left (t ∷ [])) → number_variable m t.1 < count
-  known_left count t h known = (subst (λ (terms : List (ℤ × Var)). AreTermsOf count terms) (one_left t h) known).0
 
   pub inserted : (t : ℤ × Number) (es fs : List (ℕ × ℤ)) (k : ℕ) → t.0 ≢ pos 0 → k ≡ number_variable m t.1 → AreApart (as_terms es) (left (t ∷ [])) → fs ≡ insert_entry nat_cmp es k t.0 → as_terms fs ≡ all_placed (as_terms es) (left (t ∷ []))
   inserted t es fs k h at apart is =
@@ -73,9 +65,6 @@ module _ (m : Lists) where
 
   pub table_at_first : (all : List (ℤ × Number)) → AreTermsOf (model_variables m) (left all) → IsTableAt all [] all
   table_at_first all h = record { terms = h; apart = apart_at_first (model_variables m) (left all) h; total = refl }
-
-  pub table_at_end : (all : List (ℤ × Number)) (es : List (ℕ × ℤ)) → IsTableAt all es [] → as_terms es ≡ all_placed [] (left all)
-  table_at_end all es far = far.total
 
   first_known : (t : ℤ × Number) (rest : List (ℤ × Var)) (zero : Bool) → AreTermsOf (model_variables m) (cond (not zero) (own t ∷ rest) rest) → AreTermsOf (model_variables m) (cond (not zero) (own t ∷ []) [])
   first_known t rest true h = tt

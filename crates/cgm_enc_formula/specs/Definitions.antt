@@ -1,6 +1,6 @@
 -- What a naming variable stands for, and the clauses and rows that define it. In comments a name stands for its literal, and `~` is negation.
-use Rattle.std.specs.Prelude.{◌≡◌, ℕ, ◌+◌, ◌<◌, Bool, List, [], ◌∷◌, ◌++◌, map, flat_map, Some, ℤ, pos, ◌+ℤ◌, ◌-ℤ◌, neg_ℤ, int_le}
-use Rattle.std.specs.List.{All, enumerate_from, list_all, list_any}
+use Rattle.std.specs.Prelude.{◌≡◌, ℕ, ◌+◌, ◌<◌, Bool, List, [], ◌∷◌, ◌++◌, map, Some, ℤ, pos, ◌+ℤ◌, ◌-ℤ◌, neg_ℤ, int_le}
+use Rattle.std.specs.List.{All, list_all, list_any}
 use Rattle.cgm_atom.specs.declared.constraints.Atom.{Atom}
 use Rattle.cgm_atom.specs.declared.constraints.Clause.{Clause}
 use Rattle.cgm_atom.specs.declared.constraints.Row.{Row}

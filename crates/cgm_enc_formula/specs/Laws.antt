@@ -1,5 +1,5 @@
 -- Laws over the definitions: what the clauses and rows of rules mean, that values can be extended to meet them, and how many they are.
-use Rattle.std.specs.Prelude.{◌≡◌, ◌↔◌, ℕ, ◌+◌, ◌*◌, ◌<◌, ◌≤◌, Bool, cond, IsTrue, List, [], ◌∷◌, ◌++◌, length, ℤ, pos, slice_index_or}
+use Rattle.std.specs.Prelude.{◌≡◌, ◌↔◌, ℕ, ◌*◌, ◌<◌, ◌≤◌, cond, IsTrue, List, [], ◌∷◌, ◌++◌, length, ℤ, pos, slice_index_or}
 use Rattle.std.specs.List.{All}
 use Rattle.cgm_atom.specs.Atoms.{clause_true, row_true}
 use Rattle.cgm_atom.specs.Bounds.{value_of}

@@ -1,5 +1,5 @@
 -- The measure of a comparison, and the first rule with a comparison whose measure passes the limit.
-use Rattle.std.specs.Prelude.{◌≡◌, ℕ, ◌+◌, ◌≤◌, nat_le, Bool, true, List, ℤ, unsigned_abs, Result, Ok, Err}
+use Rattle.std.specs.Prelude.{◌≡◌, ℕ, ◌+◌, nat_le, Bool, true, ℤ, unsigned_abs, Result, Ok, Err}
 use Rattle.std.specs.List.{All, list_all}
 use Rattle.cgm_atom.specs.Bounds.{Bounds}
 use Rattle.cgm_atom.specs.Instance.{Instance, var_count}

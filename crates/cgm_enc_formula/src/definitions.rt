@@ -2,7 +2,7 @@
 ghost use Rattle.std.specs.Prelude.{◌≡◌, ◌+◌, ◌-◌, ◌^◌, ◌<◌, ◌≤◌, ◌∷◌, [], length, map, pos, neg_ℤ, ◌+ℤ◌, unsigned_abs, All, IfOk, OnOk};
 ghost use Rattle.cgm_atom.specs.Building.{with_row, with_var};
 ghost use Rattle.cgm_atom.specs.Instance.{var_count};
-ghost use Rattle.cgm_atom.specs.Limits.{AreTermsOf, max_measure};
+ghost use Rattle.cgm_atom.specs.Limits.{AreTermsOf, max_least, max_measure};
 ghost use Rattle.cgm_enc_formula.specs.Building.{HasRoomFor, definition_part, with_part};
 ghost use Rattle.cgm_enc_formula.specs.Definitions.{all_of, any_of, at_least, at_most, one_of as one_of_clause, pairs, row_where, same_as};
 ghost use Rattle.cgm_enc_formula.specs.Literals.{opposite as opposite_of, positive as positive_of};
@@ -118,14 +118,14 @@ pub(crate) fn define_at_least(
 }
 
 fn negated_number(k: i64) -> i64
-    requires { unsigned_abs k ≤ max_measure }
+    requires { unsigned_abs k ≤ max_least }
     ensures { result ≡ neg_ℤ k }
 {
     -k
 }
 
 fn next_number(k: i64) -> i64
-    requires { unsigned_abs k ≤ max_measure }
+    requires { unsigned_abs k ≤ max_least }
     ensures { result ≡ k +ℤ pos 1 }
 {
     k + 1

@@ -126,7 +126,10 @@ fn term_measure(m: &Model, b: &ProblemBuilder, term: &(i64, Number)) -> u128
     ensures { result ≡ unsigned_abs term.now.0 * greatest_size b.now.bounds (variable_in (lists_of m.now) term.now.1) }
 {
     let (lo, hi) = b.bounds(Var(number_variable(m, term.1)));
-    product(term.0.unsigned_abs(), lo.unsigned_abs().max(hi.unsigned_abs()))
+    product(
+        term.0.unsigned_abs(),
+        lo.unsigned_abs().max(hi.unsigned_abs()),
+    )
 }
 
 fn product(x: u64, y: u64) -> u128

@@ -1,6 +1,6 @@
 use Rattle.std.proofs.Common.{◌≡◌, ◌∷◌, ◌∙◌, [], List, ap, map, subst, sym}
 use Rattle.cgm_atom.specs.declared.constraints.Atom.{Atom}
-use Rattle.cgm_atom.specs.Instance.{Instance, var_count}
+use Rattle.cgm_atom.specs.Instance.{var_count}
 use Rattle.cgm_enc_formula.specs.declared.literals.Literal.{Literal}
 use Rattle.cgm_enc_formula.specs.Definitions.{any_of, definition_clauses, one_of, pairs}
 use Rattle.cgm_enc_formula.specs.Literals.{opposite}

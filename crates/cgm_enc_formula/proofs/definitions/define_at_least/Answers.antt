@@ -1,4 +1,4 @@
-use Rattle.std.proofs.Common.{◌≡◌, ◌+◌, ◌∙◌, ap}
+use Rattle.std.proofs.Common.{◌∙◌, ap}
 use Rattle.cgm_atom.specs.Instance.{Instance, var_count}
 use Rattle.cgm_enc_formula.specs.Definitions.{negative}
 use Rattle.cgm_enc_formula.proofs.Defining.{named-count, negative_known, terms_after}

@@ -1,11 +1,7 @@
-use Rattle.std.proofs.Common.{◌≡◌, ◌∷◌, [], ◌+◌, ◌∙◌, ap}
-use Rattle.std.specs.Prelude.{pos, ◌+ℤ◌, neg_ℤ}
-use Rattle.cgm_atom.specs.declared.constraints.Row.{Row}
-use Rattle.cgm_atom.specs.Building.{with_row}
+use Rattle.std.proofs.Common.{◌∙◌, ap}
 use Rattle.cgm_atom.specs.Instance.{Instance, var_count}
-use Rattle.cgm_enc_formula.specs.Definitions.{negative, row_where}
-use Rattle.cgm_enc_formula.proofs.Defining.{defined_by_rows, named, named-count, negative_known, terms_after}
-use Rattle.cgm_enc_graph.specs.Literals.{literal, negated}
+use Rattle.cgm_enc_formula.specs.Definitions.{negative}
+use Rattle.cgm_enc_formula.proofs.Defining.{named-count, negative_known, terms_after}
 use Rattle.cgm_enc_formula.proofs.definitions.define_at_most.Goals as goal
 
 pub add_row-requires-clause-terms : goal.add_row-requires-clause-terms

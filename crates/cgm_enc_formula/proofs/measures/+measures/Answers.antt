@@ -1,7 +1,6 @@
 -- What is known of the whole formula's numbers is known of the parts', and the test of the parts is that of the whole.
-use Rattle.std.proofs.Common.{rules, ◌&&◌, Bool, List, ℤ, subst, sym, ap, ◌∙◌}
+use Rattle.std.proofs.Common.{rules, ℤ, subst, sym, ap, ◌∙◌}
 use Rattle.std.specs.List.{All, list_all}
-use Rattle.cgm_formula.specs.declared.formula.Formula.{Formula}
 use Rattle.cgm_formula.specs.declared.formula.Formula.TheViews.{the_lemmas}
 use Rattle.cgm_formula.specs.declared.formula.Linear.{Linear}
 use Rattle.cgm_formula.proofs.Comparisons.{of_at_least, of_at_most, of_conjunction, of_disjunction, of_equality, of_equivalence, of_implication, of_negation}
@@ -9,7 +8,7 @@ use Rattle.cgm_model.specs.declared.lists.Lists.{Lists}
 use Rattle.cgm_model.specs.Formulas.{IsKnownNumber}
 use Rattle.cgm_model.specs.Model.{lists_of}
 use Rattle.cgm_enc_formula.specs.Measures.{HasKnownNumbers, has_small_measures}
-use Rattle.cgm_enc_formula.proofs.MeasureTests.{small-And, small-Iff, small-Implies, small-Or}
+use Rattle.cgm_enc_formula.proofs.MeasureTests.{small-And, small-Or}
 use Rattle.cgm_enc_formula.proofs.measures.+measures.Goals as goal
 
 abbrev Known : Lists → Linear × ℤ → Type 0

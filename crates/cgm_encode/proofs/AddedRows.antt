@@ -59,6 +59,12 @@ rows_end old p variables expressions i past far =
     ∙ ap (λ (rows : List Row). with_rows p rows) (sym (none_left variables expressions i past))
     ∙ far.total
 
+-- the pair at place i
+pub zip_here : {X : Type 0} (variables : List ℕ) (xs : List X) (i v : ℕ) (x : X) → i < length variables → i < length xs → v ≡ get_or variables i v → x ≡ get_or xs i x → zip (drop i variables) (drop i xs) ≡ (v, x) ∷ zip (drop (i + 1) variables) (drop (i + 1) xs)
+zip_here {X} variables xs i v x in_variables in_xs v_is x_is =
+    ap (λ (vs : List ℕ). zip vs (drop i xs)) (drop_more variables i v in_variables ∙ ap (λ (y : ℕ). y ∷ drop (i + 1) variables) (sym v_is))
+    ∙ ap (λ (ys : List X). zip (v ∷ drop (i + 1) variables) ys) (drop_more xs i x in_xs ∙ ap (λ (y : X). y ∷ drop (i + 1) xs) (sym x_is))
+
 -- the variables are those from n on
 pub zipped : {X : Type 0} (n : ℕ) (xs : List X) → zip (range_with_len n (length xs)) xs ≡ enumerate_from n xs
 zipped n [] = refl

@@ -2,7 +2,7 @@
 use Rattle.std.proofs.Common.{◌≡◌, ℕ, zero, suc, ◌+◌, ◌<◌, ◌≤◌, List, [], ◌∷◌, ◌++◌, length, map, refl, sym, ap, ◌∙◌, subst, arith}
 use Rattle.std.specs.Prelude.{ℤ, pos, ◌≤ℤ◌, ◌-◌, ◌^◌}
 use Rattle.std.specs.List.{All, range_with_len}
-use Rattle.std.proofs.lemmas.List.{append-nil, append_assoc, length-append, length-replicate}
+use Rattle.std.proofs.lemmas.List.{append-nil, append_assoc, length-append, length-map, length-replicate}
 use Rattle.std.proofs.lemmas.List.Elements.{All-cons, All-head, All-nil, All-tail}
 use Rattle.cgm_atom.specs.Building.{with_var}
 use Rattle.cgm_atom.specs.Instance.{Instance, var_count}
@@ -31,6 +31,10 @@ with_none p = same_made p (p.bounds.lower ++ []) p.bounds.lower (p.bounds.upper 
 
 pub count_more : (p : Instance) (lo hi : ℤ) → var_count (with_var p lo hi) ≡ var_count p + 1
 count_more p lo hi = length-append p.bounds.lower (lo ∷ [])
+
+pub ranges_count : (p : Instance) (ranges : List Range) → var_count (with_ranges p ranges) ≡ var_count p + length ranges
+ranges_count p ranges =
+    length-append p.bounds.lower (map (λ (r : Range). r.0) ranges) ∙ ap (λ (k : ℕ). var_count p + k) (length-map ranges (λ (r : Range). r.0))
 
 -- ---- some ranges are added, and the rest is left
 

@@ -24,7 +24,7 @@ use Rattle.cgm_encode.specs.declared.expressions.Expression.{Expression}
 use Rattle.cgm_encode.specs.Building.{defining_rows, expression_of, expression_range, with_ranges}
 use Rattle.cgm_encode.specs.Problem.{all_ranges, bits, box_of, choice_ranges, model_rules_part, number_ranges, objective_range, objective_rows, own_range, own_ranges, preference_clauses, preferences_written, problem_of, rule_ranges, sum_range, sum_rows}
 use Rattle.cgm_encode.specs.Quantities.{objective_total, sum_total}
-use Rattle.cgm_encode.specs.Stages.{choices_instance, numbers_instance, rules_instance, with_defined, with_objectives}
+use Rattle.cgm_encode.specs.Stages.{choices_instance, graph_instance, numbers_instance, own_instance, rules_instance, with_defined, with_objectives}
 use Rattle.cgm_encode.specs.Totals.{Range, total_rows}
 use Rattle.cgm_encode.specs.Variables.{first_objective, first_preference, naming_count}
 use Rattle.cgm_encode.proofs.AddedRows.{zipped}
@@ -45,9 +45,6 @@ ranges_added ranges more clauses rows objectives =
 
 -- ---- elements, refinements and variables
 
-abbrev pub own_instance : Lists → Instance
-own_instance m = stage (own_ranges m) [] [] []
-
 pub own_grown : (m : Lists) → with_ranges (with_ranges empty_instance (bits (truth_variables m))) (map own_range m.vars) ≡ own_instance m
 own_grown m =
     ap (λ (p : Instance). with_ranges p (map own_range m.vars)) (ranges_added [] (bits (truth_variables m)) [] [] [])
@@ -55,9 +52,6 @@ own_grown m =
 
 pub own_count : (m : Lists) → var_count (own_instance m) ≡ truth_variables m + length m.vars
 own_count m = stage_count (own_ranges m) [] [] [] ∙ own_long m
-
-abbrev pub graph_instance : Lists → Instance
-graph_instance m = stage (own_ranges m) (graph_clauses m) [] []
 
 -- ---- totals
 

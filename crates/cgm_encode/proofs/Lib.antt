@@ -29,7 +29,9 @@ pub mod RuleLaws
 pub mod Shares
 pub mod SharesBySum
 pub mod SharesSoFar
+pub mod SignedShares
 pub mod ToldRules
+pub mod ToldSteps
 pub mod ToldValues
 pub mod TotalRows
 pub mod TotalSums

@@ -22,12 +22,13 @@ use Rattle.cgm_encode.specs.declared.expressions.Expression.{Expression}
 use Rattle.cgm_encode.specs.Building.{IsDefining, IsMeasured, defining_rows, expression_of, expression_range}
 use Rattle.cgm_encode.specs.Problem.{all_ranges, bits, box_of, choice_ranges, model_rules_part, number_ranges, objective_range, objective_rows, own_ranges, preferences_written, problem_of, rule_ranges, sum_range, sum_rows}
 use Rattle.cgm_encode.specs.Quantities.{objective_total, sum_total}
-use Rattle.cgm_encode.specs.Stages.{choices_instance}
+use Rattle.cgm_encode.specs.Stages.{choices_instance, graph_instance, with_defined}
 use Rattle.cgm_encode.specs.Totals.{Range, Total, combined_terms}
 use Rattle.cgm_encode.specs.Variables.{first_objective, naming_count, variable_total}
 use Rattle.cgm_encode.proofs.AddedRows.{zipped}
+use Rattle.cgm_encode.proofs.AddedVariables.{ranges_count}
 use Rattle.cgm_encode.proofs.GroupPlaces.{all_ranged}
-use Rattle.cgm_encode.proofs.Growing.{choices_count, graph_instance, objective_expressions, own_count, sum_expressions}
+use Rattle.cgm_encode.proofs.Growing.{choices_count, objective_expressions, own_count, sum_expressions}
 use Rattle.cgm_encode.proofs.KnownSizes.{known_sizes}
 use Rattle.cgm_encode.proofs.MeasuredTotals.{IsSmallTotal, objective_small, sum_small}
 use Rattle.cgm_encode.proofs.ProblemSizes.{IsOrdered, all_ordered, problem_small}
@@ -143,3 +144,13 @@ pub rows_numbered : (p : Instance) (es : List Expression) (variables : List ℕ)
 rows_numbered p es variables are =
     ap (λ (vs : List ℕ). flat_map defining_rows (zip vs es)) are
     ∙ ap (λ (xs : List (ℕ × Expression)). flat_map defining_rows xs) (zipped (var_count p) es)
+
+pub defined_count : (p : Instance) (es : List Expression) → var_count (with_defined p es) ≡ var_count p + length es
+defined_count p es =
+    ranges_count p (map (expression_range p.bounds) es) ∙ ap (λ (k : ℕ). var_count p + k) (length-map es (expression_range p.bounds))
+
+pub rows_few : (m : Lists) → ∥ IsWellFormed m ∥₁ → length (choices_instance m).rows < 2 ^ 31
+rows_few m well =
+    let few = (few_parts m well).rows in
+    let both = length-append (sum_rows m) (model_rules_part m).rows in
+    omega arith

@@ -1,4 +1,4 @@
--- The problem of a model as it grows: after the sums, after the rules, after the preferences.
+-- The problem of a model as it grows: after the variables, the goal graph, the sums, the rules and the preferences.
 use Rattle.std.specs.Prelude.{ℕ, List, [], ◌++◌, map, flat_map}
 use Rattle.std.specs.List.{enumerate_from}
 use Rattle.cgm_atom.specs.Building.{without_repeats}
@@ -7,9 +7,17 @@ use Rattle.cgm_model.specs.declared.lists.Lists.{Lists}
 use Rattle.cgm_enc_graph.specs.GraphClauses.{graph_clauses}
 use Rattle.cgm_encode.specs.declared.expressions.Expression.{Expression}
 use Rattle.cgm_encode.specs.Building.{defining_rows, expression_range, with_ranges, with_rows}
-use Rattle.cgm_encode.specs.Problem.{box_of, choice_ranges, model_rules_part, number_ranges, preferences_written, rule_ranges, sum_rows}
+use Rattle.cgm_encode.specs.Problem.{box_of, choice_ranges, model_rules_part, number_ranges, own_ranges, preferences_written, rule_ranges, sum_rows}
 
--- elements, refinements, variables and sums
+-- elements, refinements and variables
+abbrev pub own_instance : Lists → Instance
+own_instance m = record { bounds = box_of (own_ranges m); clauses = []; rows = []; objectives = [] }
+
+-- and the goal graph
+abbrev pub graph_instance : Lists → Instance
+graph_instance m = record { bounds = box_of (own_ranges m); clauses = graph_clauses m; rows = []; objectives = [] }
+
+-- and sums
 abbrev pub numbers_instance : Lists → Instance
 numbers_instance m = record { bounds = box_of (number_ranges m); clauses = graph_clauses m; rows = sum_rows m; objectives = [] }
 

@@ -8,7 +8,7 @@ ghost use Rattle.cgm_model.specs.Model.{lists_of};
 ghost use Rattle.cgm_encode.specs.Building.{IsMeasured};
 ghost use Rattle.cgm_encode.specs.Encoding.{IsEncodeAnswer};
 ghost use Rattle.cgm_encode.specs.Problem.{problem_of};
-ghost use Rattle.cgm_encode.specs.Stages.{choices_instance, numbers_instance, rules_instance, with_defined, with_objectives};
+ghost use Rattle.cgm_encode.specs.Stages.{choices_instance, graph_instance, numbers_instance, own_instance, rules_instance, with_defined, with_objectives};
 ghost use Rattle.cgm_encode.specs.Summands.{AreVariablesOfPreferences};
 
 use crate::answer::Encoded;
@@ -62,9 +62,30 @@ fn add_numbers(alloc: Global, b: &mut ProblemBuilder, m: &Model) -> Result<(), O
     requires { b.old ≡ empty_instance }
     ensures { OnOk result (b.new ≡ numbers_instance (lists_of m.now)) }
 {
+    add_own_variables(alloc, b, m)?;
+    add_graph(alloc, m, b)?;
+    add_sums(alloc, b, m)
+}
+
+/// The variables of elements, refinements and variables.
+fn add_own_variables(
+    alloc: Global,
+    b: &mut ProblemBuilder,
+    m: &Model,
+) -> Result<(), OutOfMemory>
+    requires { b.old ≡ empty_instance }
+    ensures { OnOk result (b.new ≡ own_instance (lists_of m.now)) }
+{
     add_bits(alloc, b, truth_count(m) as usize)?;
     add_own(b, m.vars.as_slice())?;
-    add_graph(alloc, m, b)?;
+    Ok(())
+}
+
+/// The variables and rows of the sums.
+fn add_sums(alloc: Global, b: &mut ProblemBuilder, m: &Model) -> Result<(), OutOfMemory>
+    requires { b.old ≡ graph_instance (lists_of m.now) }
+    ensures { OnOk result (b.new ≡ numbers_instance (lists_of m.now)) }
+{
     let sums = sum_expressions(alloc, m)?;
     define(alloc, b, sums.as_slice())?;
     Ok(())
@@ -81,9 +102,25 @@ fn add_choices(
     ensures { OnOk result (b.new ≡ problem_of (lists_of m.now) e.now.pairs) }
 {
     let preferences = add_preference_part(alloc, b, m)?;
-    let objectives = objective_expressions(alloc, m, e, preferences.as_slice())?;
+    add_objective_part(alloc, b, m, e, preferences.as_slice())
+}
+
+/// The variables, rows and objectives of objectives, by the variables of the preferences.
+fn add_objective_part(
+    alloc: Global,
+    b: &mut ProblemBuilder,
+    m: &Model,
+    e: &Earlier,
+    preferences: &[u32],
+) -> Result<(), OutOfMemory>
+    requires stage { b.old ≡ choices_instance (lists_of m.now) }
+    requires preferences { AreVariablesOfPreferences (lists_of m.now) preferences.now }
+    ensures { OnOk result (b.new ≡ problem_of (lists_of m.now) e.now.pairs) }
+{
+    let objectives = objective_expressions(alloc, m, e, preferences)?;
     let variables = define(alloc, b, objectives.as_slice())?;
-    add_objectives(b, variables.as_slice())
+    add_objectives(b, variables.as_slice())?;
+    Ok(())
 }
 
 /// The variables and clauses of preferences; answers the variables.

@@ -3,8 +3,8 @@ ghost use Rattle.std.specs.Prelude.{◌≡◌, ◌<◌, ◌≤◌, ◌^◌, ◌+
 ghost use Rattle.cgm_model.specs.Model.{lists_of};
 ghost use Rattle.cgm_model.specs.Statement.{IsKnownQuantity};
 ghost use Rattle.cgm_evolve.specs.Costs.{elements_of_interest as elements_of_interest_in};
-ghost use Rattle.cgm_encode.specs.Building.{expression_of, share_size};
-ghost use Rattle.cgm_encode.specs.Summands.{AreSummandsOf, AreVariablesOfPreferences};
+ghost use Rattle.cgm_encode.specs.Building.{expression_of};
+ghost use Rattle.cgm_encode.specs.Summands.{AreSummandsOf, AreVariablesOfPreferences, IsFitting};
 ghost use Rattle.cgm_encode.specs.Quantities as quantities;
 ghost use Rattle.cgm_encode.specs.Quantities.{objective_total, ones as ones_of, quantity_total};
 ghost use Rattle.cgm_encode.specs.Totals.{opposite_total};
@@ -37,12 +37,20 @@ pub(crate) fn objective_expressions(
     requires { AreVariablesOfPreferences (lists_of m.now) preferences.now }
     ensures { IfOk result (λ es. es.items ≡ map (λ o. expression_of (first_objective (lists_of m.now)) (objective_total (lists_of m.now) e.now.pairs o)) m.now.objectives) }
 {
-    let objectives = m.objectives.as_slice();
+    let objectives = objectives(m, e);
     let mut expressions = Vec::with_capacity(alloc, objectives.len())?;
     for o in objectives {
         expressions.push(objective_expression(alloc, m, e, preferences, *o)?)?;
     }
     Ok(expressions)
+}
+
+/// The objectives, whose numbers fit.
+fn objectives<'m>(m: &'m Model, e: &Earlier) -> &'m [Objective]
+    ensures items { result.now ≡ m.now.objectives }
+    ensures fitting { All (IsFitting (lists_of m.now) e.now.pairs) result.now }
+{
+    m.objectives.as_slice()
 }
 
 /// The quantity for `min`, and with its sign changed for `max`.
@@ -54,10 +62,7 @@ fn objective_expression(
     o: Objective,
 ) -> Result<Expression, OutOfMemory>
     requires preferences { AreVariablesOfPreferences (lists_of m.now) preferences.now }
-    requires known { IsKnownQuantity (lists_of m.now) o.of }
-    requires shares { All (λ s. s.1 < first_objective (lists_of m.now)) (objective_total (lists_of m.now) e.now.pairs o).shares }
-    requires numbers { share_size (objective_total (lists_of m.now) e.now.pairs o).shares < 2 ^ 63 }
-    requires constant { unsigned_abs (objective_total (lists_of m.now) e.now.pairs o).constant < 2 ^ 63 }
+    requires fitting { IsFitting (lists_of m.now) e.now.pairs o }
     ensures { IfOk result (λ x. x ≡ expression_of (first_objective (lists_of m.now)) (objective_total (lists_of m.now) e.now.pairs o)) }
 {
     let summands = objective_summands(alloc, m, e, preferences, o)?;
@@ -76,9 +81,7 @@ fn objective_summands(
     o: Objective,
 ) -> Result<Summands, OutOfMemory>
     requires preferences { AreVariablesOfPreferences (lists_of m.now) preferences.now }
-    requires known { IsKnownQuantity (lists_of m.now) o.of }
-    requires numbers { share_size (objective_total (lists_of m.now) e.now.pairs o).shares < 2 ^ 63 }
-    requires constant { unsigned_abs (objective_total (lists_of m.now) e.now.pairs o).constant < 2 ^ 63 }
+    requires fitting { IsFitting (lists_of m.now) e.now.pairs o }
     ensures { IfOk result (λ s. AreSummandsOf s (objective_total (lists_of m.now) e.now.pairs o)) }
 {
     let summands = summands_of(alloc, m, e, preferences, o.of)?;

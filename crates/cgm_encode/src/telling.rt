@@ -1,5 +1,5 @@
 //! The values of naming variables.
-ghost use Rattle.std.specs.Prelude.{◌≡◌, ◌&&◌, ◌++◌, ◌∷◌, [], map, pos, int_le, slice_index_or, false, All, IfOk, OnOk};
+ghost use Rattle.std.specs.Prelude.{◌≡◌, ◌&&◌, ◌||◌, not, ◌++◌, ◌∷◌, [], map, pos, int_le, slice_index_or, false, All, IfOk, OnOk};
 ghost use Rattle.std.specs.List.{list_all, list_any};
 ghost use Rattle.cgm_formula.specs.Reading.{name_in, number_in};
 ghost use Rattle.cgm_formula.specs.Sizes.{AreSmallIn, IsSmall};
@@ -62,28 +62,33 @@ fn push_formula(
         }
         Formula::And(parts) => {
             let truths = push_each(alloc, out, a, sums, parts.as_slice())?;
-            push_bit(out, are_all_true(truths.as_slice()))
+            let all = push_bit(out, are_all_true(truths.as_slice()))?;
+            Ok(all)
         }
         Formula::Or(parts) => {
             let truths = push_each(alloc, out, a, sums, parts.as_slice())?;
-            push_bit(out, is_one_true(truths.as_slice()))
+            let some = push_bit(out, is_one_true(truths.as_slice()))?;
+            Ok(some)
         }
         Formula::Implies(premise, conclusion) => {
             let premise = push_formula(alloc, out, a, sums, premise.get())?;
             let conclusion = push_formula(alloc, out, a, sums, conclusion.get())?;
-            push_bit(out, !premise || conclusion)
+            let holds = push_bit(out, follows(premise, conclusion))?;
+            Ok(holds)
         }
         Formula::Iff(one, other) => {
             let one = push_formula(alloc, out, a, sums, one.get())?;
             let other = push_formula(alloc, out, a, sums, other.get())?;
-            push_bit(out, one == other)
+            let same = push_bit(out, one == other)?;
+            Ok(same)
         }
         Formula::AtMost(linear, k) => push_bit(out, is_at_most(linear, a, sums, *k)),
         Formula::AtLeast(linear, k) => push_bit(out, is_at_least(linear, a, sums, *k)),
         Formula::Equal(linear, k) => {
             let most = push_bit(out, is_at_most(linear, a, sums, *k))?;
             let least = push_bit(out, is_at_least(linear, a, sums, *k))?;
-            push_bit(out, most && least)
+            let both = push_bit(out, are_both_true(most, least))?;
+            Ok(both)
         }
     }
 }
@@ -121,6 +126,18 @@ fn bit(truth: bool) -> i64
     ensures { result ≡ bit_of truth }
 {
     if truth { 1 } else { 0 }
+}
+
+fn follows(premise: bool, conclusion: bool) -> bool
+    ensures { result ≡ (not premise || conclusion) }
+{
+    !premise || conclusion
+}
+
+fn are_both_true(one: bool, other: bool) -> bool
+    ensures { result ≡ (one && other) }
+{
+    one && other
 }
 
 fn are_all_true(truths: &[bool]) -> bool

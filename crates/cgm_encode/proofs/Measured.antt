@@ -8,31 +8,34 @@ use Rattle.cgm_atom.specs.declared.constraints.Row.{Row}
 use Rattle.cgm_atom.specs.declared.constraints.Var.{Var}
 use Rattle.cgm_atom.specs.Building.{without_repeats}
 use Rattle.cgm_atom.specs.Instance.{Instance, var_count}
-use Rattle.cgm_atom.specs.Limits.{AreTermsOf, max_measure, measure}
+use Rattle.cgm_atom.specs.Limits.{AreTermsOf, IsClauseOf, max_measure, measure}
 use Rattle.cgm_model.specs.declared.lists.Lists.{Lists}
 use Rattle.cgm_model.specs.declared.lists.Objective.{Objective}
+use Rattle.cgm_model.specs.declared.lists.Preference.{Preference}
 use Rattle.cgm_model.specs.WellFormed.{IsWellFormed}
 use Rattle.cgm_evolve.specs.Pairs.{Pair}
 use Rattle.cgm_enc_formula.proofs.RuleSizes.{rules_part_small}
 use Rattle.cgm_enc_formula.proofs.TermOrders.{terms_wider}
 use Rattle.cgm_enc_graph.proofs.Additions.{All-back, All-front}
+use Rattle.cgm_enc_graph.specs.Adding.{CanTake}
 use Rattle.cgm_enc_graph.specs.GraphClauses.{graph_clauses}
 use Rattle.cgm_enc_graph.specs.Literals.{truth_variables}
 use Rattle.cgm_encode.specs.declared.expressions.Expression.{Expression}
-use Rattle.cgm_encode.specs.Building.{IsDefining, IsMeasured, defining_rows, expression_of, expression_range}
-use Rattle.cgm_encode.specs.Problem.{all_ranges, bits, box_of, choice_ranges, model_rules_part, number_ranges, objective_range, objective_rows, own_ranges, preferences_written, problem_of, rule_ranges, sum_range, sum_rows}
+use Rattle.cgm_encode.specs.Building.{IsDefining, IsMeasured, defining_rows, expression_of, expression_range, with_ranges}
+use Rattle.cgm_encode.specs.Problem.{all_ranges, bits, box_of, choice_ranges, model_rules_part, number_ranges, objective_range, objective_rows, own_ranges, preference_clauses, preferences_written, problem_of, rule_ranges, sum_range, sum_rows}
 use Rattle.cgm_encode.specs.Quantities.{objective_total, sum_total}
-use Rattle.cgm_encode.specs.Stages.{choices_instance, graph_instance, with_defined}
+use Rattle.cgm_encode.specs.Stages.{choices_instance, graph_instance, rules_instance, with_defined}
 use Rattle.cgm_encode.specs.Totals.{Range, Total, combined_terms}
-use Rattle.cgm_encode.specs.Variables.{first_objective, naming_count, variable_total}
+use Rattle.cgm_encode.specs.Variables.{first_objective, first_preference, naming_count, variable_total}
 use Rattle.cgm_encode.proofs.AddedRows.{zipped}
 use Rattle.cgm_encode.proofs.AddedVariables.{ranges_count}
 use Rattle.cgm_encode.proofs.GroupPlaces.{all_ranged}
-use Rattle.cgm_encode.proofs.Growing.{choices_count, objective_expressions, own_count, sum_expressions}
+use Rattle.cgm_encode.proofs.Growing.{choices_count, objective_expressions, own_count, rules_count, sum_expressions}
 use Rattle.cgm_encode.proofs.KnownSizes.{known_sizes}
 use Rattle.cgm_encode.proofs.MeasuredTotals.{IsSmallTotal, objective_small, sum_small}
+use Rattle.cgm_encode.proofs.ProblemRows.{preferences_known}
 use Rattle.cgm_encode.proofs.ProblemSizes.{IsOrdered, all_ordered, problem_small}
-use Rattle.cgm_encode.proofs.RangeCounts.{all_long}
+use Rattle.cgm_encode.proofs.RangeCounts.{all_long, bits_long}
 
 -- ---- counts
 
@@ -154,3 +157,25 @@ rows_few m well =
     let few = (few_parts m well).rows in
     let both = length-append (sum_rows m) (model_rules_part m).rows in
     omega arith
+
+-- ---- preferences
+
+pub preferences_fit : (m : Lists) → ∥ IsWellFormed m ∥₁ → CanTake (with_ranges (rules_instance m) (bits (length m.prefers))) (preferences_written m)
+preferences_fit m well =
+    let few = (few_parts m well).clauses in
+    let p = with_ranges (rules_instance m) (bits (length m.prefers)) in
+    let count : var_count p ≡ first_objective m =
+    ranges_count (rules_instance m) (bits (length m.prefers))
+    ∙ ap (λ (n : ℕ). n + length (bits (length m.prefers))) (rules_count m)
+    ∙ ap (λ (k : ℕ). first_preference m + k) (bits_long (length m.prefers)) in
+    let both = length-append (graph_clauses m) (map without_repeats (model_rules_part m).clauses) in
+    let own = length-map (model_rules_part m).clauses without_repeats in
+    record {
+      known = subst (λ (n : ℕ). All (IsClauseOf n) (preferences_written m)) (sym count) (preferences_known m well);
+      room = omega arith;
+    }
+
+pub preferences_zipped : (m : Lists) (variables : List ℕ) → variables ≡ range_with_len (first_preference m) (length m.prefers) → flat_map (preference_clauses m) (zip variables m.prefers) ≡ preferences_written m
+preferences_zipped m variables are =
+    ap (λ (vs : List ℕ). flat_map (preference_clauses m) (zip vs m.prefers)) are
+    ∙ ap (λ (ps : List (ℕ × Preference)). flat_map (preference_clauses m) ps) (zipped (first_preference m) m.prefers)

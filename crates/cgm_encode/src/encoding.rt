@@ -2,18 +2,18 @@
 ghost use Rattle.std.specs.Prelude.{◌≡◌, ◌+◌, ◌*◌, ◌-◌, ◌<◌, ◌≤◌, ◌^◌, length, All, IfOk, OnOk};
 ghost use Rattle.std.specs.List.{range_with_len};
 ghost use Rattle.cgm_atom.specs.Building.{empty_instance};
-ghost use Rattle.cgm_atom.specs.Instance.{var_count};
+ghost use Rattle.cgm_atom.specs.Instance.{var_count as count_of};
 ghost use Rattle.cgm_atom.specs.Limits.{max_objectives};
 ghost use Rattle.cgm_model.specs.Model.{lists_of};
 ghost use Rattle.cgm_encode.specs.Building.{IsMeasured};
 ghost use Rattle.cgm_encode.specs.Encoding.{IsEncodeAnswer};
 ghost use Rattle.cgm_encode.specs.Problem.{problem_of};
-ghost use Rattle.cgm_encode.specs.Stages.{choices_instance, graph_instance, numbers_instance, own_instance, rules_instance, with_defined, with_objectives};
+ghost use Rattle.cgm_encode.specs.Stages.{IsBuildAnswer, choices_instance, graph_instance, numbers_instance, own_instance, rules_instance, with_defined, with_objectives};
 ghost use Rattle.cgm_encode.specs.Summands.{AreVariablesOfPreferences};
 
 use crate::answer::Encoded;
 use crate::expressions::Expression;
-use crate::names::truth_count;
+use crate::names::{element_count, refinement_count, truth_count, var_count};
 use crate::preferences::add_preferences;
 use crate::quantities::objective_expressions;
 use crate::ranges::ranges_of;
@@ -45,15 +45,46 @@ pub fn encode(alloc: Global, m: &Model, e: &Earlier) -> Result<Encoded, EncodeSt
     ensures { IsEncodeAnswer (lists_of m.now) e.now.pairs result }
 {
     let mut b = ProblemBuilder::new(alloc);
-    add_numbers(alloc, &mut b, m).map_err(|_| EncodeStop::Memory)?;
-    add_rules(alloc, m, &mut b)?;
-    add_choices(alloc, &mut b, m, e).map_err(|_| EncodeStop::Memory)?;
+    build(alloc, &mut b, m, e)?;
     Ok(Encoded {
         problem: b.finish(),
-        elements: m.elements.as_slice().len() as u32,
-        refinements: m.refinements.as_slice().len() as u32,
-        vars: m.vars.as_slice().len() as u32,
+        elements: element_count(m),
+        refinements: refinement_count(m),
+        vars: var_count(m),
     })
+}
+
+/// Adds all of the problem.
+fn build(
+    alloc: Global,
+    b: &mut ProblemBuilder,
+    m: &Model,
+    e: &Earlier,
+) -> Result<(), EncodeStop>
+    requires { b.old ≡ empty_instance }
+    ensures { IsBuildAnswer (lists_of m.now) e.now.pairs b.new result }
+{
+    match add_numbers(alloc, b, m) {
+        Err(_) => Err(EncodeStop::Memory),
+        Ok(()) => add_rest(alloc, b, m, e),
+    }
+}
+
+/// Adds what stands behind the sums.
+fn add_rest(
+    alloc: Global,
+    b: &mut ProblemBuilder,
+    m: &Model,
+    e: &Earlier,
+) -> Result<(), EncodeStop>
+    requires { b.old ≡ numbers_instance (lists_of m.now) }
+    ensures { IsBuildAnswer (lists_of m.now) e.now.pairs b.new result }
+{
+    add_rules(alloc, m, b)?;
+    match add_choices(alloc, b, m, e) {
+        Err(_) => Err(EncodeStop::Memory),
+        Ok(()) => Ok(()),
+    }
 }
 
 /// The variables of elements, refinements, variables and sums, the clauses of the goal graph and the
@@ -147,10 +178,10 @@ fn define(
     expressions: &[Expression],
 ) -> Result<Vec<u32>, OutOfMemory>
     requires measured { All (IsMeasured b.old) expressions.now }
-    requires room { var_count b.old + length expressions.now ≤ 2 ^ 32 - 1 }
+    requires room { count_of b.old + length expressions.now ≤ 2 ^ 32 - 1 }
     requires row_room { length b.old.rows + 2 * length expressions.now ≤ 2 ^ 32 - 1 }
     ensures added { OnOk result (b.new ≡ with_defined b.old expressions.now) }
-    ensures variables { IfOk result (λ variables. variables.items ≡ range_with_len (var_count b.old) (length expressions.now)) }
+    ensures variables { IfOk result (λ variables. variables.items ≡ range_with_len (count_of b.old) (length expressions.now)) }
 {
     let ranges = ranges_of(alloc, b, expressions)?;
     let variables = add_variables(alloc, b, ranges.as_slice())?;
@@ -159,7 +190,7 @@ fn define(
 }
 
 fn add_objectives(b: &mut ProblemBuilder, variables: &[u32]) -> Result<(), OutOfMemory>
-    requires known { All (λ v. v < var_count b.old) variables.now }
+    requires known { All (λ v. v < count_of b.old) variables.now }
     requires room { length b.old.objectives + length variables.now ≤ max_objectives }
     ensures { OnOk result (b.new ≡ with_objectives b.old variables.now) }
 {

@@ -9,16 +9,11 @@ ghost use Rattle.cgm_obj.specs.Counts as counts;
 ghost use Rattle.cgm_encode.specs.Quantities as quantities;
 
 use crate::marks::{is_marked, source_marks, target_marks};
+use crate::names::element_count;
 use cgm_atom::OutOfMemory;
 use cgm_evolve::Earlier;
 use cgm_model::{ElementKind, Model};
 use std::alloc::Global;
-
-fn element_count(m: &Model) -> u32
-    ensures { result ≡ length m.now.elements }
-{
-    m.elements.as_slice().len() as u32
-}
 
 /// Whether an element is a leaf task, by the marks of targets.
 fn is_leaf_task(m: &Model, targets: &[bool], element: u32) -> bool
@@ -98,7 +93,7 @@ fn was_true(earlier: Option<bool>) -> bool
     }
 }
 
-/// The leaf tasks among these elements that weren't true.
+/// The leaf tasks of interest that weren't true.
 pub(crate) fn possible_work(
     alloc: Global,
     m: &Model,
@@ -108,9 +103,24 @@ pub(crate) fn possible_work(
 {
     let targets = target_marks(alloc, m)?;
     let interest = elements_of_interest(alloc, m)?;
+    let tasks = work_among(alloc, m, e, targets.as_slice(), interest.as_slice())?;
+    Ok(tasks)
+}
+
+/// The leaf tasks among these elements that weren't true.
+fn work_among(
+    alloc: Global,
+    m: &Model,
+    e: &Earlier,
+    targets: &[bool],
+    elements: &[u32],
+) -> Result<Vec<u32>, OutOfMemory>
+    requires { (k : ℕ) → slice_index_or targets.now k false ≡ list_any (λ r. r.target == k) m.now.refinements }
+    ensures { IfOk result (λ tasks. tasks.items ≡ filter (λ k. leaves.is_leaf_task (lists_of m.now) k && not (quantities.was_true_before (lists_of m.now) e.now.pairs k)) elements.now) }
+{
     let mut tasks = Vec::new(alloc);
-    for element in &interest {
-        push_possible_work(&mut tasks, m, e, targets.as_slice(), *element)?;
+    for element in elements {
+        push_possible_work(&mut tasks, m, e, targets, *element)?;
     }
     Ok(tasks)
 }

@@ -42,3 +42,21 @@ pub(crate) fn sum_variable(m: &Model, k: u32) -> u32
 {
     truth_count(m) + m.vars.as_slice().len() as u32 + k
 }
+
+pub(crate) fn element_count(m: &Model) -> u32
+    ensures { result ≡ length m.now.elements }
+{
+    m.elements.as_slice().len() as u32
+}
+
+pub(crate) fn refinement_count(m: &Model) -> u32
+    ensures { result ≡ length m.now.refinements }
+{
+    m.refinements.as_slice().len() as u32
+}
+
+pub(crate) fn var_count(m: &Model) -> u32
+    ensures { result ≡ length m.now.vars }
+{
+    m.vars.as_slice().len() as u32
+}

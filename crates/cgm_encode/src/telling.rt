@@ -3,7 +3,7 @@ ghost use Rattle.std.specs.Prelude.{◌≡◌, ◌&&◌, ◌||◌, not, ◌++◌
 ghost use Rattle.std.specs.List.{list_all, list_any};
 ghost use Rattle.cgm_formula.specs.Reading.{name_in, number_in};
 ghost use Rattle.cgm_formula.specs.Sizes.{AreSmallIn, IsSmall};
-ghost use Rattle.cgm_formula.specs.Truth.{linear_value};
+ghost use Rattle.cgm_formula.specs.Truth.{linear_value, same_truth};
 ghost use Rattle.cgm_model.specs.Formulas.{formula_of as formula_of_rule};
 ghost use Rattle.cgm_encode.specs.Assignments.{bit as bit_of};
 ghost use Rattle.cgm_encode.specs.Telling.{all_truths, rule_truths, told};
@@ -79,7 +79,7 @@ fn push_formula(
         Formula::Iff(one, other) => {
             let one = push_formula(alloc, out, a, sums, one.get())?;
             let other = push_formula(alloc, out, a, sums, other.get())?;
-            let same = push_bit(out, one == other)?;
+            let same = push_bit(out, agree(one, other))?;
             Ok(same)
         }
         Formula::AtMost(linear, k) => push_bit(out, is_at_most(linear, a, sums, *k)),
@@ -132,6 +132,12 @@ fn follows(premise: bool, conclusion: bool) -> bool
     ensures { result ≡ (not premise || conclusion) }
 {
     !premise || conclusion
+}
+
+fn agree(one: bool, other: bool) -> bool
+    ensures { result ≡ same_truth one other }
+{
+    one == other
 }
 
 fn are_both_true(one: bool, other: bool) -> bool

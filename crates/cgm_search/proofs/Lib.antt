@@ -1,0 +1,4 @@
+pub mod Keeping
+pub mod Points
+pub mod Reasons
+pub mod Rounds

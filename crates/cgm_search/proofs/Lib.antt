@@ -1,4 +1,10 @@
+pub mod FixedBoxes
 pub mod Keeping
-pub mod Points
+pub mod LandedBatches
+pub mod Offers
+pub mod Readiness
 pub mod Reasons
 pub mod Rounds
+pub mod TakenLemmas
+pub mod UsedBounds
+pub mod WholeWorkers

@@ -8,7 +8,6 @@ use Rattle.cgm_atom.specs.Instance.{Instance}
 use Rattle.cgm_clauses.specs.declared.named.Named.{Named}
 use Rattle.cgm_clauses.specs.Standing.{IsFalseIn}
 use Rattle.cgm_clauses.specs.StoreState.{all_clauses}
-use Rattle.cgm_clauses.specs.Sweeping.{AreQuiet}
 use Rattle.cgm_learn.specs.Learning.{IsConflictIn}
 use Rattle.cgm_search.specs.declared.plans.Stopped.{Stopped}
 use Rattle.cgm_search.specs.declared.plans.Stopped.TheVariants as stopped
@@ -42,8 +41,8 @@ HasFalseClause s =
 abbrev pub IsOffered : Search → Search → Type 0
 IsOffered old new = IsClosed (seen new.known) ⊎ (IsReady new × HasFalseClause new)
 
-abbrev pub IsCutOutcome : Search → Search → Swept → Type 0
-IsCutOutcome old new swept.Quiet = AreQuiet (box_of new.trail) (all_clauses new.known.store) × (new.trail ≡ old.trail)
-IsCutOutcome old new (swept.Conflict h) =
-    IsConflictIn new.known.problem (seen_state new.known) [] (box_of new.trail) h
-IsCutOutcome old new swept.Spent = new.trail.moves ≡ new.plan.budget
+-- some clause was false before, so it ends with a conflict or with the budget
+abbrev pub IsCutOutcome : Search → Swept → Type 0
+IsCutOutcome s swept.Quiet = ⊥
+IsCutOutcome s (swept.Conflict h) = IsConflictIn s.known.problem (seen_state s.known) [] (box_of s.trail) h
+IsCutOutcome s swept.Spent = s.trail.moves ≡ s.plan.budget

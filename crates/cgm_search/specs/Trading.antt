@@ -1,5 +1,5 @@
 -- What a trade brings a worker: news of the log, and what landed of its batch.
-use Rattle.std.specs.Prelude.{◌≡◌, ℕ, ℤ, List, [], ◌++◌, Option, Some, None}
+use Rattle.std.specs.Prelude.{◌≡◌, ℕ, ◌+◌, ◌≤◌, ℤ, List, [], ◌++◌, Option, Some, None}
 use Rattle.cgm_atom.specs.declared.entries.Entry.{Entry}
 use Rattle.cgm_atom.specs.Instance.{Instance}
 use Rattle.cgm_log.specs.declared.batches.Batch.{Batch}
@@ -19,3 +19,7 @@ HasLanded p old b new = (news : List Entry) × (new ≡ with_landed p (old ++ ne
 -- a longer log
 abbrev pub IsLonger : List Entry → List Entry → Type 0
 IsLonger old new = (more : List Entry) × (new ≡ old ++ more)
+
+-- of the trades that may still be made, at most n were made
+abbrev pub HasTradedAtMost : ℕ → ℕ → ℕ → Type 0
+HasTradedAtMost n before after = (after ≤ before) × (before ≤ after + n)

@@ -6,7 +6,7 @@ ghost use Rattle.cgm_atom.specs.Placing.{HintsCanBePlaced};
 ghost use Rattle.cgm_log.specs.Landing.{IsProper, with_landed};
 ghost use Rattle.cgm_log.specs.Trading.{IsAnswer, news_of};
 ghost use Rattle.cgm_search.specs.Knowing.{IsKnown, seen};
-ghost use Rattle.cgm_search.specs.Trading.{HasLanded};
+ghost use Rattle.cgm_search.specs.Trading.{HasLanded, HasTradedAtMost};
 
 use crate::batching::{copy_batch, landing_of};
 use crate::gates::{AFTER_TRADE, BEFORE_TRADE, Gate};
@@ -36,7 +36,7 @@ pub(crate) fn exchange<T: Trader, G: Gate>(
     ensures same_problem { known.new.problem ≡ known.old.problem }
     ensures problem { T.problem trader.new ≡ T.problem trader.old }
     ensures number { T.number trader.new ≡ T.number trader.old }
-    ensures trades { T.trades trader.old ≤ T.trades trader.new + 1 }
+    ensures trades { HasTradedAtMost 1 (T.trades trader.old) (T.trades trader.new) }
 {
     let by = batch.by;
     let copy = copy_batch(alloc, &batch)?;

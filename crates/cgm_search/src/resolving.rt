@@ -9,7 +9,7 @@ ghost use Rattle.cgm_learn.specs.Learning.{IsAcceptedLemma, IsConflictIn, IsKnow
 ghost use Rattle.cgm_search.specs.Knowing.{IsKnown, seen, seen_state};
 ghost use Rattle.cgm_search.specs.Resolving.{IsGivenByLast, IsTaken};
 ghost use Rattle.cgm_search.specs.Searching.{IsKept, IsReady, IsTraderOf, IsUnit, need};
-ghost use Rattle.cgm_search.specs.Trading.{IsLonger};
+ghost use Rattle.cgm_search.specs.Trading.{HasTradedAtMost, IsLonger};
 ghost use Rattle.cgm_trail.specs.TrailState.{IsOpenIn, box_of, cut_trail, level_of};
 
 use crate::batching::lemma_batch;
@@ -40,7 +40,7 @@ pub(crate) fn meet_conflict<T: Trader, G: Gate>(
     ensures kept { IsKept s.old s.new }
     ensures problem { T.problem trader.new ≡ T.problem trader.old }
     ensures number { T.number trader.new ≡ T.number trader.old }
-    ensures trades { T.trades trader.old ≤ T.trades trader.new + 1 }
+    ensures trades { HasTradedAtMost 1 (T.trades trader.old) (T.trades trader.new) }
     ensures unspent { s.old.trail.moves ≡ s.old.plan.budget → T.trades trader.new ≡ T.trades trader.old }
 {
     if moves_left(s) == 0 {
@@ -66,7 +66,7 @@ fn resolve<T: Trader, G: Gate>(
     ensures kept { IsKept s.old s.new }
     ensures problem { T.problem trader.new ≡ T.problem trader.old }
     ensures number { T.number trader.new ≡ T.number trader.old }
-    ensures trades { T.trades trader.old ≤ T.trades trader.new + 1 }
+    ensures trades { HasTradedAtMost 1 (T.trades trader.old) (T.trades trader.new) }
 {
     let learned = learn(s, conflict)?;
     let Learned {
@@ -161,7 +161,7 @@ fn trade_lemma<T: Trader, G: Gate>(
     ensures same_problem { known.new.problem ≡ known.old.problem }
     ensures problem { T.problem trader.new ≡ T.problem trader.old }
     ensures number { T.number trader.new ≡ T.number trader.old }
-    ensures trades { T.trades trader.old ≤ T.trades trader.new + 1 }
+    ensures trades { HasTradedAtMost 1 (T.trades trader.old) (T.trades trader.new) }
 {
     let lemma = lemma_entry(by, clause, hints, bound);
     let batch = lemma_batch(alloc, by, lemma)?;

@@ -1,7 +1,9 @@
 //! One unit of a search.
 ghost use Rattle.std.specs.Prelude.{◌≡◌, ◌+◌, ◌<◌, ◌≤◌, true, IfOk, OnOk};
+ghost use Rattle.cgm_search.specs.Knowing.{IsKnown};
 ghost use Rattle.cgm_search.specs.Searching.{IsKept, IsReady, IsTraderOf, IsUnit, need};
-ghost use Rattle.cgm_search.specs.Stepping.{IsCutOutcome, IsDecided, IsLooked, IsOffered};
+ghost use Rattle.cgm_search.specs.Stepping.{HasFalseClause, IsCutOutcome, IsDecided, IsLooked, IsOffered};
+ghost use Rattle.cgm_search.specs.Trading.{HasTradedAtMost};
 ghost use Rattle.cgm_split.specs.Halving.{IsPoint};
 ghost use Rattle.cgm_trail.specs.TrailState.{IsAtRest, IsOpenIn, box_of, level_of};
 
@@ -34,7 +36,7 @@ pub(crate) fn step<T: Trader, G: Gate>(
     ensures kept { IsKept s.old s.new }
     ensures problem { T.problem trader.new ≡ T.problem trader.old }
     ensures number { T.number trader.new ≡ T.number trader.old }
-    ensures trades { T.trades trader.old ≤ T.trades trader.new + need s.old }
+    ensures trades { HasTradedAtMost (need s.old) (T.trades trader.old) (T.trades trader.new) }
 {
     if is_restart_due(s) {
         restart(s);
@@ -101,7 +103,7 @@ fn advance<T: Trader, G: Gate>(
     ensures kept { IsKept s.old s.new }
     ensures problem { T.problem trader.new ≡ T.problem trader.old }
     ensures number { T.number trader.new ≡ T.number trader.old }
-    ensures trades { T.trades trader.old ≤ T.trades trader.new + need s.old }
+    ensures trades { HasTradedAtMost (need s.old) (T.trades trader.old) (T.trades trader.new) }
 {
     s.trail.recall_trail();
     match choose(&mut s.choice, &s.trail) {
@@ -143,7 +145,7 @@ fn complete<T: Trader, G: Gate>(
     ensures kept { IsKept s.old s.new }
     ensures problem { T.problem trader.new ≡ T.problem trader.old }
     ensures number { T.number trader.new ≡ T.number trader.old }
-    ensures trades { T.trades trader.old ≤ T.trades trader.new + need s.old }
+    ensures trades { HasTradedAtMost (need s.old) (T.trades trader.old) (T.trades trader.new) }
 {
     offer(s, trader, gate)?;
     if s.known.is_closed() {
@@ -156,11 +158,12 @@ fn complete<T: Trader, G: Gate>(
     }
 }
 
-/// Propagates by the store of clauses, which has the cut of the last best.
+/// Propagates by the store of clauses, one of which is false.
 fn propagate_cut(s: &mut Search) -> Result<Swept, OutOfMemory>
     requires ready { IsReady s.old }
+    requires behind { HasFalseClause s.old }
     ensures ready { IsReady s.new }
-    ensures answer { IfOk result (IsCutOutcome s.old s.new) }
+    ensures answer { IfOk result (IsCutOutcome s.new) }
     ensures known { s.new.known ≡ s.old.known }
     ensures kept { IsKept s.old s.new }
     ensures moves { s.old.trail.moves ≤ s.new.trail.moves }
@@ -181,6 +184,7 @@ fn offer<T: Trader, G: Gate>(
     requires rest { IsAtRest s.old.known.problem (box_of s.old.trail) }
     requires point { IsPoint (box_of s.old.trail) }
     requires left { 1 ≤ T.trades trader.old }
+    ensures known { OnOk result (IsKnown s.new.known) }
     ensures offered { OnOk result (IsOffered s.old s.new) }
     ensures trader { OnOk result (IsTraderOf s.new (T.problem trader.new) (T.told trader.new) (T.number trader.new)) }
     ensures once { OnOk result (T.trades trader.new + 1 ≡ T.trades trader.old) }
@@ -188,7 +192,7 @@ fn offer<T: Trader, G: Gate>(
     ensures kept { IsKept s.old s.new }
     ensures problem { T.problem trader.new ≡ T.problem trader.old }
     ensures number { T.number trader.new ≡ T.number trader.old }
-    ensures trades { T.trades trader.old ≤ T.trades trader.new + 1 }
+    ensures trades { HasTradedAtMost 1 (T.trades trader.old) (T.trades trader.new) }
 {
     s.trail.recall_trail();
     let values = least_values(s.alloc, &s.known.problem, s.trail.state())?;
@@ -211,7 +215,7 @@ pub(crate) fn look<T: Trader, G: Gate>(
     ensures kept { IsKept s.old s.new }
     ensures problem { T.problem trader.new ≡ T.problem trader.old }
     ensures number { T.number trader.new ≡ T.number trader.old }
-    ensures trades { T.trades trader.old ≤ T.trades trader.new + 1 }
+    ensures trades { HasTradedAtMost 1 (T.trades trader.old) (T.trades trader.new) }
 {
     let batch = empty_batch(s.alloc, s.by);
     exchange(s.alloc, &mut s.known, trader, gate, batch)?;

@@ -2,6 +2,7 @@
 ghost use Rattle.std.specs.Prelude.{◌≡◌, ◌≢◌, ◌+◌, ◌*◌, ◌^◌, ◌<◌, ◌≤◌, [], None, Some, IfOk, IfErr, IfSome};
 ghost use Rattle.cgm_atom.specs.Limits.{max_workers};
 ghost use Rattle.cgm_search.specs.Searching.{IsKept, IsPlan, IsReady, IsTraderOf, need};
+ghost use Rattle.cgm_search.specs.Trading.{HasTradedAtMost};
 ghost use Rattle.cgm_search.specs.WorkerParts.{IsFresh, IsWhole};
 ghost use Rattle.cgm_search.specs.Working.{IsWorker};
 ghost use Rattle.cgm_trail.specs.Rank.{slack};
@@ -175,7 +176,7 @@ fn search_log<T: Trader, G: Gate>(s: &mut Search, trader: &mut T, gate: &G) -> S
     requires fresh { IsFresh s.old (T.problem trader.old) (T.told trader.old) (T.number trader.old) (T.trades trader.old) }
     ensures whole { IsWhole (T.problem trader.new) (T.told trader.new) (T.number trader.new) (T.trades trader.new) s.new (Some result) }
     ensures first { result ≢ Stopped.Memory → T.trades trader.new + 1 ≤ T.trades trader.old }
-    ensures few { T.trades trader.old ≤ T.trades trader.new + s.old.plan.budget + 2 }
+    ensures few { HasTradedAtMost (s.old.plan.budget + 2) (T.trades trader.old) (T.trades trader.new) }
     ensures kept { IsKept s.old s.new }
     ensures problem { T.problem trader.new ≡ T.problem trader.old }
     ensures number { T.number trader.new ≡ T.number trader.old }
@@ -191,7 +192,7 @@ fn search_from_start<T: Trader, G: Gate>(s: &mut Search, trader: &mut T, gate: &
     requires fresh { IsFresh s.old (T.problem trader.old) (T.told trader.old) (T.number trader.old) (T.trades trader.old) }
     ensures whole { IsWhole (T.problem trader.new) (T.told trader.new) (T.number trader.new) (T.trades trader.new) s.new (Some result) }
     ensures first { result ≢ Stopped.Memory → T.trades trader.new + 1 ≤ T.trades trader.old }
-    ensures few { T.trades trader.old ≤ T.trades trader.new + s.old.plan.budget + 2 }
+    ensures few { HasTradedAtMost (s.old.plan.budget + 2) (T.trades trader.old) (T.trades trader.new) }
     ensures kept { IsKept s.old s.new }
     ensures problem { T.problem trader.new ≡ T.problem trader.old }
     ensures number { T.number trader.new ≡ T.number trader.old }
@@ -209,7 +210,7 @@ fn step_all<T: Trader, G: Gate>(s: &mut Search, trader: &mut T, gate: &G) -> Sto
     requires trader { IsTraderOf s.old (T.problem trader.old) (T.told trader.old) (T.number trader.old) }
     requires enough { need s.old ≤ T.trades trader.old }
     ensures whole { IsWhole (T.problem trader.new) (T.told trader.new) (T.number trader.new) (T.trades trader.new) s.new (Some result) }
-    ensures few { T.trades trader.old ≤ T.trades trader.new + need s.old }
+    ensures few { HasTradedAtMost (need s.old) (T.trades trader.old) (T.trades trader.new) }
     ensures kept { IsKept s.old s.new }
     ensures problem { T.problem trader.new ≡ T.problem trader.old }
     ensures number { T.number trader.new ≡ T.number trader.old }

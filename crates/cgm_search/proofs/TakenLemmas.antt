@@ -1,0 +1,135 @@
+-- A learned lemma as a batch of its own: it is proper, and what it gives once it was traded.
+use Rattle.std.proofs.Common.{◌≡◌, inl, inr, ℕ, zero, suc, ◌+◌, ◌<◌, ◌≤◌, Bool, true, false, not, ◌||◌, List, [], ◌∷◌, ◌++◌, length, map, refl, sym, ap, subst, ◌∙◌, arith}
+use Rattle.std.specs.Prelude.{◌⊎◌, IsTrue, ◌==◌}
+use Rattle.std.specs.declared.option.Option.TheVariants.{Some, None}
+use Rattle.std.specs.List.{All, filter}
+use Rattle.std.proofs.lemmas.List.{length_push}
+use Rattle.std.proofs.lemmas.List.Elements.{All-cons, All-head, All-nil, All-tail, All-weaker}
+use Rattle.cgm_atom.specs.declared.constraints.Atom.{Atom}
+use Rattle.cgm_atom.specs.declared.constraints.Clause.{Clause}
+use Rattle.cgm_atom.specs.declared.entries.Entry.{Entry}
+use Rattle.cgm_atom.specs.declared.entries.Entry.TheVariants.{Lemma}
+use Rattle.cgm_atom.specs.declared.entries.Hint.{Hint}
+use Rattle.cgm_atom.specs.declared.entries.Hint.TheVariants as hint
+use Rattle.cgm_atom.specs.Acceptance.{IsClosed, first_fault}
+use Rattle.cgm_atom.specs.Bounds.{Bounds}
+use Rattle.cgm_atom.specs.ClauseAtoms.{left_in}
+use Rattle.cgm_atom.specs.Constraints.{of_clause}
+use Rattle.cgm_atom.specs.Instance.{Instance}
+use Rattle.cgm_atom.specs.Limits.{max_workers}
+use Rattle.cgm_atom.specs.LogState.{is_closing, state_of}
+use Rattle.cgm_atom.specs.Narrowing.{is_false_in, made_true}
+use Rattle.cgm_atom.specs.Placing.{IsBefore, placed, placed_entry}
+use Rattle.cgm_atom.proofs.StateLemmas.{state_of-push}
+use Rattle.cgm_clauses.proofs.Standings.{left_as, made_is_true}
+use Rattle.cgm_learn.specs.declared.learned.Learned.{Learned}
+use Rattle.cgm_learn.specs.Learning.{IsAcceptedLemma, IsKnownHint, IsLemmaInRange, lemma_by}
+use Rattle.cgm_log.specs.declared.batches.Batch.{Batch}
+use Rattle.cgm_log.specs.Landing.{IsProper, with_landed}
+use Rattle.cgm_log.proofs.Adding.{closed_stays, open_grows}
+use Rattle.cgm_search.specs.declared.knowing.Known.{Known}
+use Rattle.cgm_search.specs.Knowing.{seen, seen_state}
+use Rattle.cgm_search.specs.Resolving.{IsTaken}
+use Rattle.cgm_search.specs.Storing.{IsSeenName}
+use Rattle.cgm_search.specs.Trading.{HasLanded}
+use Rattle.cgm_search.proofs.Keeping.{entry_count, last_named}
+use Rattle.cgm_trail.specs.Steps.{IsGiven}
+use Rattle.cgm_trail.specs.TrailState.{IsOpenIn}
+
+-- ---- a proper batch
+
+known_before : (n : ℕ) (h : Hint) → IsKnownHint n 0 h → IsBefore n h
+known_before n (hint.Clause number) known = tt
+known_before n (hint.Row number) known = tt
+known_before n (hint.Entry place) known = known
+known_before n (hint.Own i) known = let low = known.0 in let high = known.1 in absurd (omega arith)
+known_before n (hint.Cut ordinal part) known = tt
+
+abbrev pub lemma_batch : ℕ → Entry → Batch
+lemma_batch by e = record { by = by; lemmas = e ∷ []; candidate = None }
+
+pub proper_lemma : (p : Instance) (log : List Entry) (by : ℕ) (l : Learned) → by < max_workers → IsAcceptedLemma p (state_of log) [] l → All (IsKnownHint (length log) 0) l.hints → IsLemmaInRange l → IsProper p log (lemma_batch by (lemma_by by l))
+proper_lemma p log by l below accepted known range =
+    record {
+      worker = below;
+      count = omega arith;
+      lemmas =
+          All-cons _ (lemma_by by l) [] (refl, range by below, λ k d short. known_before (length log) _ (known k d short))
+          (All-nil _);
+      accepted = (
+        subst (λ (n : ℕ). first_fault p (state_of log) (placed_entry n (lemma_by by l)) ≡ None) (entry_count log) (accepted by),
+        tt,
+      );
+      closing = (λ _. (refl, refl), tt);
+      candidate = tt;
+    }
+
+pub proper_empty : (p : Instance) (log : List Entry) (by : ℕ) → by < max_workers → IsProper p log (record { by = by; lemmas = []; candidate = None })
+proper_empty p log by below =
+    record { worker = below; count = omega arith; lemmas = All-nil _; accepted = tt; closing = tt; candidate = tt }
+
+-- ---- once it was traded
+
+abbrev taken_lemma : ℕ → ℕ → ℕ → Clause → List Hint → Entry
+taken_lemma n by bound c hints = Lemma by c (map (placed n) hints) bound
+
+no_atoms : (c : Clause) → c.atoms ≡ [] → (length c.atoms == 0) ≡ true
+no_atoms c e = rw e refl
+
+when_closing : (t s : Bool) → s ≡ true → (t || s) ≡ true
+when_closing true s h = refl
+when_closing false s h = h
+
+closes : (log : List Entry) (n by bound : ℕ) (c : Clause) (hints : List Hint) → c.atoms ≡ [] → IsClosed (log ++ taken_lemma n by bound c hints ∷ [])
+closes log n by bound c hints e =
+    rw (state_of-push log (taken_lemma n by bound c hints))
+    (when_closing (state_of log).closed (is_closing (taken_lemma n by bound c hints)) (no_atoms c e))
+
+taken_by_test : (k : Known) (log : List Entry) (by bound : ℕ) (c : Clause) (hints : List Hint) (t : Bool) → (state_of log).closed ≡ t → seen k ≡ with_landed k.problem log (lemma_batch by (Lemma by c hints bound)) → IsTaken k c
+taken_by_test k log by bound c hints true closed h =
+    let same : log ≡ seen k = closed_stays k.problem log (lemma_batch by (Lemma by c hints bound)) closed ∙ sym h in
+    let now : IsClosed (seen k) = subst (λ (xs : List Entry). IsClosed xs) same closed in
+    record { closing = λ _. now; placed = inl now }
+taken_by_test k log by bound c hints false still_open h =
+    let e : Entry = taken_lemma (length log) by bound c hints in
+    let now : log ++ e ∷ [] ≡ seen k = open_grows k.problem log (lemma_batch by (Lemma by c hints bound)) still_open ∙ sym h in
+    let place : length log + 1 ≡ length (seen k) = sym (length_push log e) ∙ ap length now in
+    record {
+      closing = λ none. subst (λ (xs : List Entry). IsClosed xs) now (closes log (length log) by bound c hints none);
+      placed =
+          inr (subst (λ (xs : List Entry). IsSeenName k.problem (state_of xs) (hint.Entry (length xs)) (of_clause c)) now
+          (subst (λ (n : ℕ). IsSeenName k.problem (state_of (log ++ e ∷ [])) (hint.Entry n) (of_clause c)) (sym (length_push log e))
+          (last_named k.problem log by bound c (map (placed (length log)) hints))));
+    }
+
+pub taken : (k : Known) (old : List Entry) (by bound : ℕ) (c : Clause) (hints : List Hint) → HasLanded k.problem old (lemma_batch by (Lemma by c hints bound)) (seen k) → IsTaken k c
+taken k old by bound c hints h =
+    taken_by_test k (old ++ h.0) by bound c hints (state_of (old ++ h.0)).closed refl h.1
+
+-- ---- what it gives
+
+last_left : (b : Bounds) (others : List Atom) (a : Atom) → All (λ x. is_false_in b x ≡ true) others → is_false_in b a ≡ false → left_in b (others ++ a ∷ []) ≡ a ∷ []
+last_left b [] a h k = rw k refl
+last_left b (x ∷ others) a h k =
+    rw (All-head (λ y. is_false_in b y ≡ true) x others h)
+    (last_left b others a (All-tail (λ y. is_false_in b y ≡ true) x others h) k)
+
+-- the last atom, where it is open and the others are false
+pub given_by_last : (b : Bounds) (c : Clause) (others : List Atom) (a : Atom) → c.atoms ≡ others ++ a ∷ [] → length b.upper ≡ length b.lower → All (λ x. is_false_in b x ≡ true) others → IsOpenIn b a → IsGiven b (of_clause c) a
+given_by_last b c others a parts even falses undecided =
+    let left = left_as b c (a ∷ []) (ap (left_in b) parts ∙ last_left b others a falses undecided.not_false) in
+    record {
+      cause = rw left (made_is_true b a undecided.known even);
+      exact = rw left refl;
+    }
+
+pub same_last : (others others' : List Atom) (a a' : Atom) → others ++ a ∷ [] ≡ others' ++ a' ∷ [] → (others ≡ others') × (a ≡ a')
+same_last [] [] a a' e = (refl, cc)
+same_last [] (x ∷ []) a a' e = absurd (cc)
+same_last [] (x ∷ y ∷ others') a a' e = absurd (cc)
+same_last (x ∷ []) [] a a' e = absurd (cc)
+same_last (x ∷ y ∷ others) [] a a' e = absurd (cc)
+same_last (x ∷ others) (x' ∷ others') a a' e =
+    let rest = same_last others others' a a' (cc) in
+    let first : x ≡ x' = cc in
+    (let more = rest.0 in cc, rest.1)

@@ -1,4 +1,4 @@
+pub mod FixedBoxes
 pub mod Keeping
-pub mod Points
 pub mod Reasons
 pub mod Rounds

@@ -1,4 +1,6 @@
+pub mod CutNames
 pub mod FixedBoxes
+pub mod Forgetting
 pub mod Keeping
 pub mod Reasons
 pub mod Rounds

@@ -111,7 +111,7 @@ cut_kept added place c =
 
 -- ---- the last best
 
-best_pushed : (log : List Entry) (by : ℕ) (values : List ℤ) → last_best (state_of (log ++ Best by values ∷ [])) ≡ Some values
+pub best_pushed : (log : List Entry) (by : ℕ) (values : List ℤ) → last_best (state_of (log ++ Best by values ∷ [])) ≡ Some values
 best_pushed log by values =
     last_best_of_log (log ++ Best by values ∷ [])
     ∙ ap (last_or None) (best_values-append log (Best by values ∷ []))

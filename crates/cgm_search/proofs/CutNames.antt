@@ -5,6 +5,7 @@ use Rattle.std.specs.declared.option.Option.{Option}
 use Rattle.std.specs.declared.option.Option.TheVariants.{Some, None}
 use Rattle.std.specs.List.{filter, last_or}
 use Rattle.std.specs.Option.{option_map_or}
+use Rattle.std.proofs.lemmas.Bool.Decides.{nat_tests}
 use Rattle.std.proofs.lemmas.List.{length-map}
 use Rattle.cgm_atom.specs.declared.constraints.Atom.{Atom}
 use Rattle.cgm_atom.specs.declared.constraints.Clause.{Clause}
@@ -137,16 +138,24 @@ last_there : {X : Type 0} (x : X) (xs : List X) → (y : X) × (last_or (Some x)
 last_there x [] = (x, refl)
 last_there x (y ∷ xs) = last_there y xs
 
+no_parts : (q : ℕ) → 0 ≡ (if 0 == 0 then 0 else q)
+no_parts q = grind (arith, nat_tests)
+
+all_parts : (n q : ℕ) → q ≡ (if suc n == 0 then 0 else q)
+all_parts n q = grind (arith, nat_tests)
+
 names_by_bests : (p : Instance) (s : LogState) (added : List Named) (bests : List (List ℤ)) (n : ℕ) → length s.bests ≡ n → n ≡ length bests → last_best s ≡ last_or None bests → filter is_of_cut added ≡ last_cut p s → IsOfParts n (if n == 0 then 0 else parts_of p) added
-names_by_bests p s added [] zero count same last h = ap (map (λ m. m.name)) (h ∙ rw last refl)
+names_by_bests p s added [] zero count same last h =
+    let none : last_cut p s ≡ [] = rw last refl in
+    ap (map (λ (m : Named). m.name)) (h ∙ none) ∙ ap (cut_names zero 0) (no_parts (parts_of p))
 names_by_bests p s added [] (suc n) count same last h = absurd (cc)
 names_by_bests p s added (v ∷ bests) zero count same last h = absurd (cc)
 names_by_bests p s added (v ∷ bests) (suc n) count same last h =
     let there = last_there v bests in
     let cut_is : last_cut p s ≡ cut_named (suc n) 0 (cut p.objectives (vector p there.0)) = rw (last ∙ there.1, count) refl in
-    ap (map (λ m. m.name)) (h ∙ cut_is)
+    ap (map (λ (m : Named). m.name)) (h ∙ cut_is)
     ∙ names_of_parts (suc n) 0 (cut p.objectives (vector p there.0))
-    ∙ ap (cut_names (suc n) 0) (length-parts there.0 p.objectives)
+    ∙ ap (cut_names (suc n) 0) (length-parts there.0 p.objectives ∙ all_parts n (parts_of p))
 
 -- the store's parts are those of the last best, if there is one
 pub names_of_last : (p : Instance) (log : List Entry) (added : List Named) → filter is_of_cut added ≡ last_cut p (state_of log) → IsOfParts (length (state_of log).bests) (if length (state_of log).bests == 0 then 0 else parts_of p) added

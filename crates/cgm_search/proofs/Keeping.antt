@@ -12,7 +12,8 @@ use Rattle.cgm_atom.specs.declared.entries.Entry.{Entry}
 use Rattle.cgm_atom.specs.declared.entries.Entry.TheVariants.{Best, Lemma}
 use Rattle.cgm_atom.specs.declared.entries.Hint.{Hint}
 use Rattle.cgm_atom.specs.declared.entries.Hint.TheVariants as hint
-use Rattle.cgm_atom.specs.Constraints.{Constraint, of_clause, of_row}
+use Rattle.cgm_atom.specs.Bounds.{Bounds}
+use Rattle.cgm_atom.specs.Constraints.{Constraint, left_by, of_clause, of_row}
 use Rattle.cgm_atom.specs.Cut.{cut}
 use Rattle.cgm_atom.specs.Entailment.{best_values}
 use Rattle.cgm_atom.specs.Instance.{Instance, vector}
@@ -20,9 +21,12 @@ use Rattle.cgm_atom.specs.LogState.{LogState, best_at, item_at, last_best, lemma
 use Rattle.cgm_atom.proofs.LongerLogs.{named_stays}
 use Rattle.cgm_atom.proofs.StateLemmas.{best_values-append, count_of_bests, last_best_of_log, last_of_pushed, live_at-log, state_of-entries}
 use Rattle.cgm_clauses.specs.declared.named.Named.{Named}
-use Rattle.cgm_clauses.specs.StoreState.{IsNamedIn, StoreState, all_clauses, numbered}
-use Rattle.cgm_search.specs.Settling.{IsRoundName}
+use Rattle.cgm_clauses.specs.StoreState.{IsNamedIn, IsStoreOf, StoreState, all_clauses, numbered}
+use Rattle.cgm_clauses.proofs.Naming.{quiet_store}
+use Rattle.cgm_learn.specs.Learning.{IsConflictIn}
+use Rattle.cgm_search.specs.Settling.{IsQuietRound, IsRoundName}
 use Rattle.cgm_search.specs.Storing.{HasShortLemmas, IsSeenName, IsStoreFor, added_after, cut_named, is_of_cut, last_cut, lemma_named, short_length, store_after, without_cut}
+use Rattle.cgm_trail.specs.TrailState.{IsAtRest}
 
 -- ---- items of a longer list
 
@@ -111,7 +115,7 @@ cut_kept added place c =
 
 -- ---- the last best
 
-best_pushed : (log : List Entry) (by : ℕ) (values : List ℤ) → last_best (state_of (log ++ Best by values ∷ [])) ≡ Some values
+pub best_pushed : (log : List Entry) (by : ℕ) (values : List ℤ) → last_best (state_of (log ++ Best by values ∷ [])) ≡ Some values
 best_pushed log by values =
     last_best_of_log (log ++ Best by values ∷ [])
     ∙ ap (last_or None) (best_values-append log (Best by values ∷ []))
@@ -270,3 +274,14 @@ unfolding named
 round_seen p log store there h k (inl pair) =
     rw (pair.2, pair.3) (All-contains (λ n. IsSeenName p (state_of log) n.name (of_clause n.clause)) (all_clauses store) pair.0 (all_named p log store there) pair.1)
 round_seen p log store there h k (inr (n, r, found, by, is)) = rw (by, is) (tt, ap (option_map of_row) found)
+
+-- ---- the end of a propagation
+
+pub settled_rest : (p : Instance) (store : StoreState) (b : Bounds) → IsStoreOf p store → IsQuietRound p (all_clauses store) b → IsAtRest p b
+settled_rest p store b h quiet = record {
+    clauses = quiet_store p store b h quiet.0;
+    rows = quiet.1;
+  }
+
+pub settled_conflict : (p : Instance) (log : List Entry) (store : StoreState) (b : Bounds) (h : Hint) → IsStoreFor p log store → (k : Constraint) × IsRoundName p (all_clauses store) h k × (left_by b k ≡ None) → IsConflictIn p (state_of log) [] b h
+settled_conflict p log store b h there found = (found.0, round_seen p log store there h found.0 found.1, found.2)

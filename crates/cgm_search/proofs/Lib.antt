@@ -1,4 +1,8 @@
+pub mod Absorbing
+pub mod CutNames
 pub mod FixedBoxes
+pub mod Forgetting
+pub mod Halves
 pub mod Keeping
 pub mod LandedBatches
 pub mod Offers

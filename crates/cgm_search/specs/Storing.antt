@@ -1,5 +1,5 @@
 -- What a worker's store has after the log that it has seen: the clauses of the problem, the cut of the last best, and lemmas, each under a name of it.
-use Rattle.std.specs.Prelude.{◌≡◌, Bool, true, false, not, ℕ, ◌+◌, ◌≤◌, List, [], ◌∷◌, ◌++◌, length, Some}
+use Rattle.std.specs.Prelude.{◌≡◌, Bool, true, false, not, ℕ, ◌+◌, ◌<◌, ◌≤◌, List, [], ◌∷◌, ◌++◌, length, Some}
 use Rattle.std.specs.List.{All, Contains, filter}
 use Rattle.std.specs.Option.{option_and_then, option_map_or}
 use Rattle.cgm_atom.specs.declared.constraints.Clause.{Clause}
@@ -50,6 +50,11 @@ IsSeenName p s h k = IsNameAfter p s [] h k
 
 abbrev pub lemma_named : ℕ → Clause → Named
 lemma_named place c = record { clause = c; name = hint.Entry place }
+
+-- the entry is a lemma of more atoms
+abbrev pub IsLongLemma : Entry → Type 0
+IsLongLemma (Best by values) = ⊥
+IsLongLemma (Lemma by clause hints bound) = short_length < length clause.atoms
 
 -- each lemma of few atoms is in the store, under its place
 abbrev pub HasShortLemmas : List Entry → List Named → Type 0

@@ -1,9 +1,9 @@
 //! What a worker knows of the log.
-ghost use Rattle.std.specs.Prelude.{◌≡◌, ◌+◌, ◌++◌, ◌∷◌, [], ◌^◌, ◌<◌, ◌≤◌, None, length, IfOk, OnOk};
+ghost use Rattle.std.specs.Prelude.{◌≡◌, ◌+◌, ◌++◌, ◌∷◌, [], ◌^◌, ◌<◌, ◌≤◌, ◌↔◌, None, length, IfOk, IsTrue, OnOk};
 ghost use Rattle.cgm_atom.specs.Acceptance.{IsAcceptedAfter, IsAcceptedState, first_fault};
 ghost use Rattle.cgm_search.specs.Knowing.{IsKnown, seen, seen_state};
 ghost use Rattle.cgm_clauses.specs.StoreState.{IsStoreOf};
-ghost use Rattle.cgm_search.specs.Storing.{is_of_cut, last_cut, store_after};
+ghost use Rattle.cgm_search.specs.Storing.{IsLongLemma, is_of_cut, last_cut, store_after};
 ghost use Rattle.std.specs.List.{filter};
 
 use crate::cutting::renew_cut;
@@ -11,6 +11,12 @@ use cgm_atom::{Entry, Hint, OutOfMemory, Problem};
 use cgm_clauses::ClauseStore;
 use cgm_step::{IndexedLog, LogIndex};
 use std::alloc::Global;
+
+/// A lemma of at most so many atoms stays in the store.
+const SHORT_LENGTH: usize = 8;
+
+/// A longer one is forgotten once so many entries have come after it.
+const KEPT_ENTRIES: usize = 4_000;
 
 /// A copy of the problem, the entries of the log that were seen, and the store of clauses.
 #[derive(Debug, Drop)]
@@ -91,11 +97,52 @@ fn absorb(alloc: Global, known: &mut Known, e: &Entry) -> Result<(), OutOfMemory
     ensures entries { OnOk result (seen known.new ≡ seen known.old ++ e.now ∷ []) }
     ensures problem { known.new.problem ≡ known.old.problem }
 {
+    take_in(alloc, known, e)?;
+    forget_old(known);
+    Ok(())
+}
+
+/// Adds the next entry of the log, and what it gives the store.
+fn take_in(alloc: Global, known: &mut Known, e: &Entry) -> Result<(), OutOfMemory>
+    requires known { IsKnown known.old }
+    requires accepted { first_fault known.old.problem (seen_state known.old) e.now ≡ None }
+    requires room { length (seen known.old) + 1 < 2 ^ 63 }
+    ensures known { OnOk result (IsKnown known.new) }
+    ensures entries { OnOk result (seen known.new ≡ seen known.old ++ e.now ∷ []) }
+    ensures problem { known.new.problem ≡ known.old.problem }
+{
     let log = IndexedLog::of(known.entries.as_slice(), &known.index);
     keep(alloc, &known.problem, &log, &mut known.store, e)?;
     known.index.add(e)?;
     known.entries.push(e.copy(alloc)?)?;
     Ok(())
+}
+
+/// Forgets the lemma after which `KEPT_ENTRIES` entries have come, if it is a long one.
+fn forget_old(known: &mut Known)
+    requires known { IsKnown known.old }
+    ensures known { IsKnown known.new }
+    ensures entries { seen known.new ≡ seen known.old }
+    ensures problem { known.new.problem ≡ known.old.problem }
+{
+    let count = known.entries.len();
+    if count <= KEPT_ENTRIES {
+        return;
+    }
+    let before = count - KEPT_ENTRIES - 1;
+    if is_long_lemma(&known.entries[before]) {
+        known.store.forget(&Hint::Entry(before as u64 + 1));
+    }
+}
+
+/// Whether an entry is a lemma of more than `SHORT_LENGTH` atoms.
+fn is_long_lemma(e: &Entry) -> bool
+    ensures { IsTrue result ↔ IsLongLemma e.now }
+{
+    match e {
+        Entry::Best { .. } => false,
+        Entry::Lemma { clause, .. } => clause.atoms.as_slice().len() > SHORT_LENGTH,
+    }
 }
 
 /// Adds to the store what the next entry of the log gives.

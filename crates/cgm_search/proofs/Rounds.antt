@@ -1,7 +1,7 @@
 -- Rows one after another, and a round over the store and all rows.
 use Rattle.std.proofs.Common.{◌≡◌, inl, inr, ℕ, zero, suc, ◌+◌, ◌<◌, ◌≤◌, List, [], ◌∷◌, length, get_or, refl, ap, sym, ◌∙◌, arith}
 use Rattle.std.specs.Prelude.{IsSomeAnd, Result, Ok, Err, slice_get, Option, Some, None}
-use Rattle.std.specs.List.{All, AllWithin, HoldsAt}
+use Rattle.std.specs.List.{All, AllWithin, Contains, HoldsAt}
 use Rattle.std.proofs.lemmas.List.Elements.{All-from_all_within, AllWithin-more, AllWithin-none}
 use Rattle.cgm_atom.specs.declared.constraints.Row.{Row}
 use Rattle.cgm_atom.specs.declared.entries.Hint.{Hint}
@@ -12,9 +12,10 @@ use Rattle.cgm_atom.specs.Instance.{Instance}
 use Rattle.cgm_atom.specs.Narrowing.{left_by_row}
 use Rattle.cgm_clauses.specs.declared.named.Named.{Named}
 use Rattle.cgm_clauses.specs.StoreState.{IsNamedIn}
-use Rattle.cgm_clauses.specs.Sweeping.{AreQuiet, IsSwept}
+use Rattle.cgm_clauses.specs.Standing.{IsFalseIn}
+use Rattle.cgm_clauses.specs.Sweeping.{AreQuiet}
 use Rattle.cgm_clauses.proofs.Steps.{left_is_less, trail_stays}
-use Rattle.cgm_linear.specs.Sweeping.{IsRowNumbered, IsRowSwept}
+use Rattle.cgm_linear.specs.Sweeping.{IsRowNumbered}
 use Rattle.cgm_search.specs.Settling.{AreRowsQuiet, IsOneRound, IsRoundEnd, IsRoundName, IsRowName, IsRowRound, IsQuietRound, IsSettled}
 use Rattle.cgm_trail.specs.declared.changes.Swept.{Swept}
 use Rattle.cgm_trail.specs.declared.changes.Swept.TheVariants as swept
@@ -34,13 +35,17 @@ row_at b [] n h = elim h [ ]
 row_at b (r ∷ rows) zero h = λ d. h
 row_at b (r ∷ rows) (suc n) h = λ d. row_at b rows n h d
 
-swept_quiet : {E : Type 0} (by : Hint) (old new : TrailState) (left : ℕ) (o : Option Row) → IsSomeAnd o (λ r. IsRowSwept {E} by r old new left (Ok swept.Quiet)) → IsSomeAnd o (λ r. left_by_row (box_of new) r ≡ Some (box_of new))
-swept_quiet by old new left None h = elim h [ ]
-swept_quiet by old new left (Some r) h = h.1
+-- the row leaves the old box as the new one, and the new one as it is
+abbrev pub IsRowQuiet : TrailState → TrailState → Row → Type 0
+IsRowQuiet old new r = (left_by_row (box_of old) r ≡ Some (box_of new)) × (left_by_row (box_of new) r ≡ Some (box_of new))
+
+swept_quiet : (old new : TrailState) (o : Option Row) → IsSomeAnd o (IsRowQuiet old new) → IsSomeAnd o (λ r. left_by_row (box_of new) r ≡ Some (box_of new))
+swept_quiet old new None h = elim h [ ]
+swept_quiet old new (Some r) h = h.1
 
 -- the rows before the next one stay quiet where no step was taken, and so is the next one
-pub rows_quiet_next : {E : Type 0} (NamesA NamesB : Hint → Constraint → Type 0) (by : Hint) (rows : List Row) (n : ℕ) (old mid new : TrailState) (left left' left'' : ℕ) → IsPropagated NamesA old mid left left' → IsPropagated NamesB mid new left' left'' → (left' ≡ left → AllWithin (λ r. left_by_row (box_of mid) r ≡ Some (box_of mid)) rows 0 n) → IsSomeAnd (slice_get rows n) (λ r. IsRowSwept {E} by r mid new left'' (Ok swept.Quiet)) → left'' ≡ left → AllWithin (λ r. left_by_row (box_of new) r ≡ Some (box_of new)) rows 0 (n + 1)
-rows_quiet_next NamesA NamesB by rows n old mid new left left' left'' h k quiet last e =
+pub rows_quiet_next : (NamesA NamesB : Hint → Constraint → Type 0) (rows : List Row) (n : ℕ) (old mid new : TrailState) (left left' left'' : ℕ) → IsPropagated NamesA old mid left left' → IsPropagated NamesB mid new left' left'' → (left' ≡ left → AllWithin (λ r. left_by_row (box_of mid) r ≡ Some (box_of mid)) rows 0 n) → IsSomeAnd (slice_get rows n) (IsRowQuiet mid new) → left'' ≡ left → AllWithin (λ r. left_by_row (box_of new) r ≡ Some (box_of new)) rows 0 (n + 1)
+rows_quiet_next NamesA NamesB rows n old mid new left left' left'' h k quiet last e =
     let less = left_is_less NamesA old mid left left' h in
     let less' = left_is_less NamesB mid new left' left'' k in
     let first : left' ≡ left = omega arith in
@@ -48,20 +53,15 @@ rows_quiet_next NamesA NamesB by rows n old mid new left left' left'' h k quiet 
     let same : new ≡ mid = trail_stays NamesB mid new left' left'' k second in
     let before : AllWithin (λ r. left_by_row (box_of new) r ≡ Some (box_of new)) rows 0 n = rw same (quiet first) in
     AllWithin-more (λ r. left_by_row (box_of new) r ≡ Some (box_of new)) rows 0 n before
-    (row_at (box_of new) rows n (swept_quiet by mid new left'' (slice_get rows n) last))
+    (row_at (box_of new) rows n (swept_quiet mid new (slice_get rows n) last))
 
 pub rows_quiet_at_end : (b : Bounds) (rows : List Row) (n : ℕ) → length rows ≤ n → AllWithin (λ r. left_by_row b r ≡ Some b) rows 0 n → AreRowsQuiet b rows
 rows_quiet_at_end b rows n long quiet = λ k d short. quiet k d (omega arith) (omega arith)
 
 -- where a row is in conflict, nothing is left of the box
-pub row_conflict : {E : Type 0} (p : Instance) (n : ℕ) (old new : TrailState) (left : ℕ) (h : Hint) (o : Option Row) → slice_get p.rows n ≡ o → IsSomeAnd o (λ r. IsRowSwept {E} (hint.Row n) r old new left (Ok (swept.Conflict h))) → (k : Constraint) × IsRowName p h k × (left_by (box_of new) k ≡ None)
-row_conflict p n old new left h None e c = elim c [ ]
-row_conflict p n old new left h (Some r) e c =
-    (of_row r, (n, r, e, c.0, refl), rw c.2 c.1)
-
-pub row_spent : {E : Type 0} (by : Hint) (old new : TrailState) (left : ℕ) (o : Option Row) → IsSomeAnd o (λ r. IsRowSwept {E} by r old new left (Ok swept.Spent)) → left ≡ 0
-row_spent by old new left None h = elim h [ ]
-row_spent by old new left (Some r) h = h.0
+pub row_conflict : (p : Instance) (n : ℕ) (old new : TrailState) (h : Hint) (o : Option Row) → slice_get p.rows n ≡ o → IsSomeAnd o (λ r. (h ≡ hint.Row n) × (left_by_row (box_of old) r ≡ None) × (new ≡ old)) → (k : Constraint) × IsRowName p h k × (left_by (box_of new) k ≡ None)
+row_conflict p n old new h None e c = elim c [ ]
+row_conflict p n old new h (Some r) e c = (of_row r, (n, (r, e, (c.0, refl))), rw c.2 c.1)
 
 -- ---- a round
 
@@ -94,5 +94,5 @@ round_end p clauses old mid new left left' left'' (Ok swept.Spent) h k quiet row
 round_end p clauses old mid new left left' left'' (Err e) h k quiet rows = tt
 
 -- a conflict of the store
-pub store_conflict : {E : Type 0} (p : Instance) (clauses : List Named) (b : Bounds) (left : ℕ) (h : Hint) → IsSwept {E} b clauses left (Ok (swept.Conflict h)) → (k : Constraint) × IsRoundName p clauses h k × (left_by b k ≡ None)
-store_conflict p clauses b left h c = (of_clause c.0.clause, inl (c.0, c.1, c.2, refl), c.3)
+pub store_conflict : (p : Instance) (clauses : List Named) (b : Bounds) (h : Hint) → (n : Named) × Contains clauses n × (h ≡ n.name) × IsFalseIn b n.clause → (k : Constraint) × IsRoundName p clauses h k × (left_by b k ≡ None)
+store_conflict p clauses b h c = (of_clause c.0.clause, inl (c.0, c.1, c.2, refl), c.3)

@@ -1,4 +1,5 @@
 use Rattle.cgm_clauses.specs.StoreState.{all_clauses}
+use Rattle.cgm_trail.specs.TrailState.{box_of}
 use Rattle.cgm_search.proofs.Rounds.{made_by_round, made_by_store, store_conflict}
 use Rattle.cgm_search.proofs.settling.settle_once.Goals as goal
 
@@ -16,7 +17,7 @@ returns-in-Conflict-clause-made c =
 
 pub returns-in-Conflict-clause-answer : goal.returns-in-Conflict-clause-answer
 returns-in-Conflict-clause-answer c =
-    store_conflict c.args.p.now (all_clauses c.args.store.now) _ _ c.in-Conflict.h (rw c.in-Conflict.is at c.in_ok-propagate.ensures.answer)
+    store_conflict c.args.p.now (all_clauses c.args.store.now) (box_of c.propagate.new.t) c.in-Conflict.h (rw c.in-Conflict.is at c.in_ok-propagate.ensures.answer)
 
 pub returns-in-Spent-clause-made : goal.returns-in-Spent-clause-made
 returns-in-Spent-clause-made c =

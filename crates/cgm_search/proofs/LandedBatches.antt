@@ -1,5 +1,5 @@
 -- What a trade adds to what a worker has seen: the news, and then what landed of its batch.
-use Rattle.std.proofs.Common.{◌≡◌, ℕ, zero, suc, ◌+◌, ◌-◌, ◌^◌, ◌<◌, ◌≤◌, Bool, true, false, List, [], ◌∷◌, ◌++◌, length, refl, sym, ap, subst, ◌∙◌, append_assoc, arith, length-append}
+use Rattle.std.proofs.Common.{◌≡◌, ℕ, zero, suc, ◌+◌, ◌-◌, ◌^◌, ◌<◌, ◌≤◌, Bool, true, false, List, [], ◌∷◌, ◌++◌, length, get_or, refl, sym, ap, subst, ◌∙◌, append_assoc, arith, length-append}
 use Rattle.std.specs.Prelude.{ℤ, IsTrue, if◌then◌else◌}
 use Rattle.std.specs.declared.option.Option.{Option}
 use Rattle.std.specs.declared.option.Option.TheVariants.{Some, None}
@@ -97,10 +97,10 @@ hint_placed n seen (hint.Cut ordinal part) small before range = tt
 lemma_placed : (n seen by : ℕ) (e : Entry) → n < 2 ^ 63 → IsLemmaOf by seen e → HintsCanBePlaced n e
 lemma_placed n seen by (Best maker values) small h = absurd h
 lemma_placed n seen by (Lemma maker clause hints bound) small h =
-    λ k d short. hint_placed n seen _ small (h.2 k d short) (h.1.2 k d short)
+    λ k d short. hint_placed n seen (get_or hints k d) small (h.2 k d short) (h.1.2 k d short)
 
 pub batch_placed : (n seen by : ℕ) (lemmas : List Entry) → n < 2 ^ 63 → All (IsLemmaOf by seen) lemmas → All (HintsCanBePlaced n) lemmas
-batch_placed n seen by lemmas small h = λ k d short. lemma_placed n seen by _ small (h k d short)
+batch_placed n seen by lemmas small h = λ k d short. lemma_placed n seen by (get_or lemmas k d) small (h k d short)
 
 -- ---- a longer log
 

@@ -12,8 +12,9 @@ use Rattle.cgm_atom.specs.declared.entries.Hint.{Hint}
 use Rattle.cgm_atom.specs.declared.entries.Hint.TheVariants as hint
 use Rattle.cgm_atom.specs.Bounds.{Bounds}
 use Rattle.cgm_atom.specs.Constraints.{Constraint, of_clause}
-use Rattle.cgm_atom.specs.Instance.{Instance}
+use Rattle.cgm_atom.specs.Instance.{Instance, var_count}
 use Rattle.cgm_atom.specs.Laws.{IsLeftSmaller, IsSmaller}
+use Rattle.cgm_atom.specs.Limits.{max_workers}
 use Rattle.cgm_atom.specs.LogState.{state_of}
 use Rattle.cgm_atom.specs.Narrowing.{left_by_clause, made_true}
 use Rattle.cgm_atom.proofs.Shrinking.{IsSmaller-same, IsSmaller-trans, clause_narrows_smaller, made_true_shrinks}
@@ -27,8 +28,9 @@ use Rattle.cgm_search.specs.declared.plans.Plan.{Plan}
 use Rattle.cgm_search.specs.declared.plans.Stopped.{Stopped}
 use Rattle.cgm_search.specs.declared.plans.Stopped.TheVariants as stopped
 use Rattle.cgm_search.specs.declared.searching.Search.{Search}
+use Rattle.cgm_search.specs.Choosing.{IsChoiceOf}
 use Rattle.cgm_search.specs.Knowing.{IsKnown, seen, seen_state}
-use Rattle.cgm_search.specs.Searching.{AreSeenReasons, IsKept, IsOutcome, IsReady, IsTraderOf, IsTrailOf, IsUnit, need}
+use Rattle.cgm_search.specs.Searching.{AreSeenReasons, IsKept, IsOutcome, IsPlan, IsReady, IsTraderOf, IsTrailOf, IsUnit, need}
 use Rattle.cgm_search.specs.Settling.{IsRoundName, IsSettled}
 use Rattle.cgm_search.specs.Stepping.{HasFalseClause, IsCutOutcome}
 use Rattle.cgm_search.specs.Storing.{IsSeenName}
@@ -40,7 +42,7 @@ use Rattle.cgm_trail.specs.declared.changes.Swept.{Swept}
 use Rattle.cgm_trail.specs.declared.changes.Swept.TheVariants as swept
 use Rattle.cgm_trail.specs.declared.changes.Reason.TheVariants.{Decision, By}
 use Rattle.cgm_trail.specs.Steps.{AreReasoned, IsGiven, IsPropagated}
-use Rattle.cgm_trail.specs.TrailState.{TrailState, box_after, box_of, change_of, cut_to, cut_trail, decided, decision_places, is_decision, jumped, level_of, restarted}
+use Rattle.cgm_trail.specs.TrailState.{TrailState, box_after, box_of, change_of, cut_to, cut_trail, decided, decision_places, is_decision, jumped, level_of, restarted, started}
 use Rattle.cgm_trail.proofs.Cuts.{cut_places, length-places}
 use Rattle.cgm_trail.proofs.Propagating.{box_grown, more_names, reasoned_after, reasoned_cut, reasoned_decided, reasoned_jumped}
 
@@ -375,3 +377,21 @@ unit_before old mid new problem told number before before' after None more less 
 unit_before old mid new problem told number before before' after (Some stopped.Final) more less fewer h = h
 unit_before old mid new problem told number before before' after (Some stopped.Spent) more less fewer h = h
 unit_before old mid new problem told number before before' after (Some stopped.Memory) more less fewer h = h
+
+-- ---- a new search
+
+nothing_open : (log : List Entry) → log ≡ [] → (state_of log).closed ≡ false
+unfolding state_of
+nothing_open log e = rw e refl
+
+pub ready_new : (p : Instance) (s : Search) → IsKnown s.known → s.known.problem ≡ p → seen s.known ≡ [] → s.trail ≡ started p → IsChoiceOf (var_count p) s.choice → IsPlan s.plan → s.by < max_workers → IsReady s
+ready_new p s known problem nothing trail choice plan worker =
+    record {
+      known = known;
+      still_open = nothing_open (seen s.known) nothing;
+      trail = rw (problem, trail) (record { problem = refl; moves = omega arith; restarts = omega arith });
+      reasons = rw trail tt;
+      choice = rw problem choice;
+      plan = plan;
+      worker = worker;
+    }

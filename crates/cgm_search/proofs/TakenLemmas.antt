@@ -1,9 +1,9 @@
 -- A learned lemma as a batch of its own: it is proper, and what it gives once it was traded.
-use Rattle.std.proofs.Common.{◌≡◌, inl, inr, ℕ, zero, suc, ◌+◌, ◌<◌, ◌≤◌, Bool, true, false, not, ◌||◌, List, [], ◌∷◌, ◌++◌, length, map, refl, sym, ap, subst, ◌∙◌, arith}
+use Rattle.std.proofs.Common.{◌≡◌, inl, inr, ℕ, zero, suc, ◌+◌, ◌<◌, ◌≤◌, Bool, true, false, not, ◌||◌, List, [], ◌∷◌, ◌++◌, length, map, get_or, refl, sym, ap, subst, ◌∙◌, arith}
 use Rattle.std.specs.Prelude.{◌⊎◌, IsTrue, ◌==◌}
 use Rattle.std.specs.declared.option.Option.TheVariants.{Some, None}
 use Rattle.std.specs.List.{All, filter}
-use Rattle.std.proofs.lemmas.List.{length_push}
+use Rattle.std.proofs.lemmas.List.{length-map, length_push}
 use Rattle.std.proofs.lemmas.List.Elements.{All-cons, All-head, All-nil, All-tail, All-weaker}
 use Rattle.cgm_atom.specs.declared.constraints.Atom.{Atom}
 use Rattle.cgm_atom.specs.declared.constraints.Clause.{Clause}
@@ -20,23 +20,26 @@ use Rattle.cgm_atom.specs.Limits.{max_workers}
 use Rattle.cgm_atom.specs.LogState.{is_closing, state_of}
 use Rattle.cgm_atom.specs.Narrowing.{is_false_in, made_true}
 use Rattle.cgm_atom.specs.Placing.{IsBefore, placed, placed_entry}
-use Rattle.cgm_atom.proofs.StateLemmas.{state_of-push}
+use Rattle.cgm_atom.proofs.StateLemmas.{state_of-entries, state_of-push}
 use Rattle.cgm_clauses.proofs.Standings.{left_as, made_is_true}
 use Rattle.cgm_learn.specs.declared.learned.Learned.{Learned}
 use Rattle.cgm_learn.specs.Learning.{IsAcceptedLemma, IsKnownHint, IsLemmaInRange, lemma_by}
 use Rattle.cgm_log.specs.declared.batches.Batch.{Batch}
-use Rattle.cgm_log.specs.Landing.{IsProper, with_landed}
+use Rattle.cgm_log.specs.Landing.{IsLemmaOf, IsProper, with_landed}
 use Rattle.cgm_log.proofs.Adding.{closed_stays, open_grows}
 use Rattle.cgm_search.specs.declared.knowing.Known.{Known}
 use Rattle.cgm_search.specs.Knowing.{seen, seen_state}
 use Rattle.cgm_search.specs.Resolving.{IsTaken}
 use Rattle.cgm_search.specs.Storing.{IsSeenName}
 use Rattle.cgm_search.specs.Trading.{HasLanded}
-use Rattle.cgm_search.proofs.Keeping.{entry_count, last_named}
+use Rattle.cgm_search.proofs.Keeping.{last_named}
 use Rattle.cgm_trail.specs.Steps.{IsGiven}
 use Rattle.cgm_trail.specs.TrailState.{IsOpenIn}
 
 -- ---- a proper batch
+
+entry_count : (log : List Entry) → length (state_of log).entries ≡ length log
+entry_count log = ap length (state_of-entries log) ∙ length-map log Some
 
 known_before : (n : ℕ) (h : Hint) → IsKnownHint n 0 h → IsBefore n h
 known_before n (hint.Clause number) known = tt
@@ -54,8 +57,8 @@ proper_lemma p log by l below accepted known range =
       worker = below;
       count = omega arith;
       lemmas =
-          All-cons _ (lemma_by by l) [] (refl, range by below, λ k d short. known_before (length log) _ (known k d short))
-          (All-nil _);
+          All-cons (IsLemmaOf by (length log)) (lemma_by by l) [] (refl, range by below, λ k d short. known_before (length log) (get_or l.hints k d) (known k d short))
+          (All-nil (IsLemmaOf by (length log)));
       accepted = (
         subst (λ (n : ℕ). first_fault p (state_of log) (placed_entry n (lemma_by by l)) ≡ None) (entry_count log) (accepted by),
         tt,
@@ -66,7 +69,7 @@ proper_lemma p log by l below accepted known range =
 
 pub proper_empty : (p : Instance) (log : List Entry) (by : ℕ) → by < max_workers → IsProper p log (record { by = by; lemmas = []; candidate = None })
 proper_empty p log by below =
-    record { worker = below; count = omega arith; lemmas = All-nil _; accepted = tt; closing = tt; candidate = tt }
+    record { worker = below; count = omega arith; lemmas = All-nil (IsLemmaOf by (length log)); accepted = tt; closing = tt; candidate = tt }
 
 -- ---- once it was traded
 

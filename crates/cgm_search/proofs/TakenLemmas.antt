@@ -1,6 +1,6 @@
 -- A learned lemma as a batch of its own: it is proper, and what it gives once it was traded.
 use Rattle.std.proofs.Common.{◌≡◌, inl, inr, ℕ, zero, suc, ◌+◌, ◌<◌, ◌≤◌, Bool, true, false, not, ◌||◌, List, [], ◌∷◌, ◌++◌, length, map, get_or, refl, sym, ap, subst, ◌∙◌, arith}
-use Rattle.std.specs.Prelude.{◌⊎◌, IsTrue, ◌==◌}
+use Rattle.std.specs.Prelude.{◌⊎◌, IsTrue, ◌==◌, Result, Ok, Err, IfOk}
 use Rattle.std.specs.declared.option.Option.TheVariants.{Some, None}
 use Rattle.std.specs.List.{All, filter}
 use Rattle.std.proofs.lemmas.List.{length-map, length_push}
@@ -13,17 +13,17 @@ use Rattle.cgm_atom.specs.declared.entries.Hint.{Hint}
 use Rattle.cgm_atom.specs.declared.entries.Hint.TheVariants as hint
 use Rattle.cgm_atom.specs.Acceptance.{IsClosed, first_fault}
 use Rattle.cgm_atom.specs.Bounds.{Bounds}
-use Rattle.cgm_atom.specs.ClauseAtoms.{left_in}
+use Rattle.cgm_atom.specs.ClauseAtoms.{AreKnown, left_in}
 use Rattle.cgm_atom.specs.Constraints.{of_clause}
-use Rattle.cgm_atom.specs.Instance.{Instance}
+use Rattle.cgm_atom.specs.Instance.{Instance, var_count}
 use Rattle.cgm_atom.specs.Limits.{max_workers}
-use Rattle.cgm_atom.specs.LogState.{is_closing, state_of}
+use Rattle.cgm_atom.specs.LogState.{LogState, is_closing, state_of}
 use Rattle.cgm_atom.specs.Narrowing.{is_false_in, made_true}
 use Rattle.cgm_atom.specs.Placing.{IsBefore, placed, placed_entry}
 use Rattle.cgm_atom.proofs.StateLemmas.{state_of-entries, state_of-push}
 use Rattle.cgm_clauses.proofs.Standings.{left_as, made_is_true}
 use Rattle.cgm_learn.specs.declared.learned.Learned.{Learned}
-use Rattle.cgm_learn.specs.Learning.{IsAcceptedLemma, IsKnownHint, IsLemmaInRange, lemma_by}
+use Rattle.cgm_learn.specs.Learning.{IsAcceptedLemma, IsKnownHint, IsLemmaInRange, lemma_by, state_with_pending}
 use Rattle.cgm_log.specs.declared.batches.Batch.{Batch}
 use Rattle.cgm_log.specs.Landing.{IsLemmaOf, IsProper, with_landed}
 use Rattle.cgm_log.proofs.Adding.{closed_stays, open_grows}
@@ -32,6 +32,7 @@ use Rattle.cgm_search.specs.Knowing.{seen, seen_state}
 use Rattle.cgm_search.specs.Resolving.{IsTaken}
 use Rattle.cgm_search.specs.Storing.{IsSeenName}
 use Rattle.cgm_search.specs.Trading.{HasLanded}
+use Rattle.cgm_search.proofs.Absorbing.{next_atoms_known}
 use Rattle.cgm_search.proofs.Keeping.{last_named}
 use Rattle.cgm_trail.specs.Steps.{IsGiven}
 use Rattle.cgm_trail.specs.TrailState.{IsOpenIn}
@@ -136,3 +137,16 @@ same_last (x ∷ others) (x' ∷ others') a a' e =
     let rest = same_last others others' a a' (cc) in
     let first : x ≡ x' = cc in
     (let more = rest.0 in cc, rest.1)
+
+-- ---- what is learned without pending lemmas
+
+pub learned_known : {E : Type 0} (log : List Entry) (s : LogState) (pending : List Entry) (r : Result Learned E) → s ≡ state_of log → pending ≡ [] → IfOk r (λ l. All (IsKnownHint (length s.entries) (length pending)) l.hints) → IfOk r (λ l. All (IsKnownHint (length log) 0) l.hints)
+learned_known log s pending (Ok l) e f h =
+    subst (λ (n : ℕ). All (IsKnownHint n 0) l.hints) (ap (λ (t : LogState). length t.entries) e ∙ entry_count log)
+    (subst (λ (xs : List Entry). All (IsKnownHint (length s.entries) (length xs)) l.hints) f h)
+learned_known log s pending (Err x) e f h = tt
+
+pub learned_atoms : {E : Type 0} (p : Instance) (s : LogState) (pending : List Entry) (r : Result Learned E) → IfOk r (IsAcceptedLemma p s pending) → IfOk r (λ l. AreKnown (var_count p) l.clause.atoms)
+learned_atoms p s pending (Ok l) h =
+    next_atoms_known p (state_with_pending s pending) 0 l.bound l.clause (map (placed (length s.entries)) l.hints) (h 0)
+learned_atoms p s pending (Err x) h = tt

@@ -51,7 +51,7 @@ first_store p = record {
     lemmas = λ place c named short. absurd (nothing_at place c named);
   }
 
-known_at_first : (k : Known) (p : Instance) (entries : List Entry) → k.problem ≡ p → IsWellFormed p → k.entries.items ≡ entries → entries ≡ [] → IsIndexOf k.index [] → k.store ≡ started p → IsKnown k
+pub known_at_first : (k : Known) (p : Instance) (entries : List Entry) → k.problem ≡ p → IsWellFormed p → k.entries.items ≡ entries → entries ≡ [] → IsIndexOf k.index [] → k.store ≡ started p → IsKnown k
 known_at_first k p entries same wf items none own store = record {
     problem = rw same wf;
     own = rw (items ∙ none) own;
@@ -98,12 +98,15 @@ known_next old new e h accepted room problem entries own store = record {
   }
 
 accepted_by_first : (p : Instance) (s : LogState) (e : Entry) (rest all : List Entry) → all ≡ e ∷ rest → IsAcceptedAfter p s all → (first_fault p s e ≡ None) × IsAcceptedAfter p (state_with s e) rest
-accepted_by_first p s e rest all same h = rw (sym same) at h
+accepted_by_first p s e rest all same h = rw same at h
 
 pub next_of_more : (p : Instance) (s : LogState) (more : List Entry) (i : ℕ) (e : Entry) → i < length more → e ≡ get_or more i e → IsAcceptedAfter p s (drop i more) → (first_fault p s e ≡ None) × IsAcceptedAfter p (state_with s e) (drop (i + 1) more)
 next_of_more p s more i e short here h =
     let next : drop i more ≡ e ∷ drop (i + 1) more = drop_more more i e short ∙ ap (λ (x : Entry). x ∷ drop (i + 1) more) (sym here) in
     accepted_by_first p s e (drop (i + 1) more) (drop i more) next h
+
+pub accepted_on : (p p' : Instance) (old new : List Entry) (e : Entry) (rest : List Entry) → p' ≡ p → new ≡ old ++ e ∷ [] → IsAcceptedAfter p (state_with (state_of old) e) rest → IsAcceptedAfter p' (state_of new) rest
+accepted_on p p' old new e rest same added h = rw (same, added, state_of-push old e) h
 
 pub entries_next : (first more : List Entry) (old new : List Entry) (i : ℕ) (e : Entry) → i < length more → e ≡ get_or more i e → new ≡ old ++ e ∷ [] → old ++ drop i more ≡ first ++ more → new ++ drop (i + 1) more ≡ first ++ more
 entries_next first more old new i e short here added h =

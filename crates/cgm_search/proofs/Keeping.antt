@@ -1,11 +1,11 @@
 -- What a store has for a log, it has for the log with one more entry, once what that entry gives is added.
-use Rattle.std.proofs.Common.{◌≡◌, inl, inr, ⊎_elim, ℕ, zero, suc, ◌+◌, ◌<◌, ◌≤◌, Bool, true, false, not, cond, List, [], ◌∷◌, ◌++◌, length, map, refl, ap, sym, subst, ◌∙◌, append-nil, add-one, length-append, length-map, arith}
+use Rattle.std.proofs.Common.{◌≡◌, inl, inr, ⊎_elim, ℕ, zero, suc, ◌+◌, ◌<◌, ◌≤◌, Bool, true, false, not, cond, List, [], ◌∷◌, ◌++◌, length, map, refl, ap, sym, subst, ◌∙◌, append-nil, add-one, length-append, arith}
 use Rattle.std.specs.Prelude.{◌⊎◌, ℤ, slice_get}
 use Rattle.std.specs.declared.option.Option.{Option}
 use Rattle.std.specs.declared.option.Option.TheVariants.{Some, None}
 use Rattle.std.specs.List.{All, Contains, filter, last_or}
 use Rattle.std.specs.Option.{option_and_then, option_map, option_map_or}
-use Rattle.std.proofs.lemmas.List.{length_push}
+use Rattle.std.proofs.lemmas.List.{length-map, length_push}
 use Rattle.std.proofs.lemmas.List.Elements.{All-append, All-cons, All-contains, All-contains_itself, All-filter, All-nil, All-push, All-weaker, Contains-append_left, Contains-append_right, Contains-push, filter-append}
 use Rattle.cgm_atom.specs.declared.constraints.Clause.{Clause}
 use Rattle.cgm_atom.specs.declared.entries.Entry.{Entry}
@@ -273,7 +273,7 @@ pub round_seen : (p : Instance) (log : List Entry) (store : StoreState) → IsSt
 unfolding named
 round_seen p log store there h k (inl pair) =
     rw (pair.2, pair.3) (All-contains (λ n. IsSeenName p (state_of log) n.name (of_clause n.clause)) (all_clauses store) pair.0 (all_named p log store there) pair.1)
-round_seen p log store there h k (inr (n, r, found, by, is)) = rw (by, is) (tt, ap (option_map of_row) found)
+round_seen p log store there h k (inr row) = rw (row.1.2, row.1.3) (tt, ap (option_map of_row) row.1.1)
 
 -- ---- the end of a propagation
 

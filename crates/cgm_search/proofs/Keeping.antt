@@ -47,7 +47,7 @@ pushed_item (z ∷ xs) x (suc (suc i)) y h =
     ⊎_elim (λ old. inl old) (λ last. inr (let e = last.0 in omega arith, last.1)) (pushed_item xs x (suc i) y h)
 
 entry_count : (log : List Entry) → length (state_of log).entries ≡ length log
-entry_count log = ap length (state_of-entries log) ∙ length-map Some log
+entry_count log = ap length (state_of-entries log) ∙ length-map log Some
 
 more_entries : (log more : List Entry) → length (state_of log).entries ≤ length (state_of (log ++ more)).entries
 more_entries log more =
@@ -220,7 +220,8 @@ store_with_best p log store by values h =
           All-append (λ n. IsSeenName p (state_of (log ++ Best by values ∷ [])) n.name (of_clause n.clause)) (without_cut store.added) (cut_named (length (state_of log).bests + 1) 0 (cut p.objectives (vector p values)))
           (All-filter (λ n. not (is_of_cut n)) (λ n. IsSeenName p (state_of (log ++ Best by values ∷ [])) n.name (of_clause n.clause)) store.added
           (names_longer p log (Best by values ∷ []) store.added h.names))
-          (parts_named p (state_of (log ++ Best by values ∷ [])) (length (state_of log).bests + 1) values last 0 (cut p.objectives (vector p values)) (λ i. refl));
+          (parts_named p (state_of (log ++ Best by values ∷ [])) (length (state_of log).bests + 1) values last 0 (cut p.objectives (vector p values))
+          (λ i. let same : i ≡ 0 + i = omega arith in ap (slice_get (cut p.objectives (vector p values))) same));
       last_cut =
           cut_renewed (length (state_of log).bests + 1) store.added (cut p.objectives (vector p values)) ∙ sym (cut_of_pushed p log by values);
       lemmas = λ place c named short.
@@ -273,7 +274,7 @@ pub round_seen : (p : Instance) (log : List Entry) (store : StoreState) → IsSt
 unfolding named
 round_seen p log store there h k (inl pair) =
     rw (pair.2, pair.3) (All-contains (λ n. IsSeenName p (state_of log) n.name (of_clause n.clause)) (all_clauses store) pair.0 (all_named p log store there) pair.1)
-round_seen p log store there h k (inr row) = rw (row.1.2, row.1.3) (tt, ap (option_map of_row) row.1.1)
+round_seen p log store there h k (inr row) = rw (row.1.2.0, row.1.2.1) (tt, ap (option_map of_row) row.1.1)
 
 -- ---- the end of a propagation
 

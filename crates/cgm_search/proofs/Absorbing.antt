@@ -45,20 +45,20 @@ no_cut_at_first p = let none : last_best (state_of []) ≡ None = last_best_of_l
 
 first_store : (p : Instance) → IsStoreFor p [] (started p)
 first_store p = record {
-    of_problem = record { vars = refl; clauses = refl };
-    names = All-nil (λ n. IsSeenName p (state_of []) n.name (of_clause n.clause));
-    last_cut = sym (no_cut_at_first p);
-    lemmas = λ place c named short. absurd (nothing_at place c named);
-  }
+  of_problem = record { vars = refl; clauses = refl };
+  names = All-nil (λ n. IsSeenName p (state_of []) n.name (of_clause n.clause));
+  last_cut = sym (no_cut_at_first p);
+  lemmas = λ place c named short. absurd (nothing_at place c named);
+}
 
 pub known_at_first : (k : Known) (p : Instance) (entries : List Entry) → k.problem ≡ p → IsWellFormed p → k.entries.items ≡ entries → entries ≡ [] → IsIndexOf k.index [] → k.store ≡ started p → IsKnown k
 known_at_first k p entries same wf items none own store = record {
-    problem = rw same wf;
-    own = rw (items ∙ none) own;
-    accepted = rw (items ∙ none) (IsAccepted-nil k.problem);
-    count = rw (items ∙ none) (omega arith);
-    store = rw (items ∙ none, store, same) (first_store p);
-  }
+  problem = rw same wf;
+  own = rw (items ∙ none) own;
+  accepted = rw (items ∙ none) (IsAccepted-nil k.problem);
+  count = rw (items ∙ none) (omega arith);
+  store = rw (items ∙ none, store, same) (first_store p);
+}
 
 -- ---- what acceptance says of the next entry
 
@@ -90,12 +90,12 @@ names_before p s added before there e h =
 
 pub known_next : (old new : Known) (e : Entry) → IsKnown old → first_fault old.problem (seen_state old) e ≡ None → length (seen old) + 1 < 2 ^ 63 → new.problem ≡ old.problem → seen new ≡ seen old ++ e ∷ [] → IsIndexOf new.index (seen old ++ e ∷ []) → new.store ≡ store_after old.problem (seen_state old) old.store e → IsKnown new
 known_next old new e h accepted room problem entries own store = record {
-    problem = rw problem h.problem;
-    own = rw entries own;
-    accepted = rw (problem, entries) (IsAccepted-push old.problem (seen old) e h.accepted accepted);
-    count = let long = length_push (seen old) e in rw entries (omega arith);
-    store = rw (problem, entries, store) (store_with old.problem (seen old) old.store e h.store);
-  }
+  problem = rw problem h.problem;
+  own = rw entries own;
+  accepted = rw (problem, entries) (IsAccepted-push old.problem (seen old) e h.accepted accepted);
+  count = let long = length_push (seen old) e in rw entries (omega arith);
+  store = rw (problem, entries, store) (store_with old.problem (seen old) old.store e h.store);
+}
 
 accepted_by_first : (p : Instance) (s : LogState) (e : Entry) (rest all : List Entry) → all ≡ e ∷ rest → IsAcceptedAfter p s all → (first_fault p s e ≡ None) × IsAcceptedAfter p (state_with s e) rest
 accepted_by_first p s e rest all same h = rw same at h
@@ -133,11 +133,11 @@ place_of log i e short here =
 
 pub known_forgets : (old new : Known) (i : ℕ) (e : Entry) → IsKnown old → i < length (seen old) → e ≡ get_or (seen old) i e → IsLongLemma e → new.problem ≡ old.problem → new.entries ≡ old.entries → new.index ≡ old.index → IsForgotten (hint.Entry (i + 1)) old.store.added new.store.added → new.store.clauses ≡ old.store.clauses → new.store.vars ≡ old.store.vars → IsKnown new
 known_forgets old new i e h short here long problem entries index gone clauses vars = record {
-    problem = rw problem h.problem;
-    own = rw (index, entries) h.own;
-    accepted = rw (problem, entries) h.accepted;
-    count = rw entries h.count;
-    store =
-        rw (problem, entries)
-        (forgotten_store old.problem (seen old) (i + 1) e old.store new.store (place_of (seen old) i e short here) long gone clauses vars h.store);
-  }
+  problem = rw problem h.problem;
+  own = rw (index, entries) h.own;
+  accepted = rw (problem, entries) h.accepted;
+  count = rw entries h.count;
+  store =
+      rw (problem, entries)
+      (forgotten_store old.problem (seen old) (i + 1) e old.store new.store (place_of (seen old) i e short here) long gone clauses vars h.store);
+}

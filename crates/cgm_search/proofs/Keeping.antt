@@ -73,7 +73,7 @@ last_named p log by bound clause hints =
     let count = entry_count (log ++ Lemma by clause hints bound ∷ []) in
     let long = length_push log (Lemma by clause hints bound) in
     let there : live_at (state_of (log ++ Lemma by clause hints bound ∷ [])) (length log + 1) ≡ Some (Lemma by clause hints bound) =
-            live_at-log (log ++ Lemma by clause hints bound ∷ []) (length log + 1) ∙ item_last log (Lemma by clause hints bound) in
+    live_at-log (log ++ Lemma by clause hints bound ∷ []) (length log + 1) ∙ item_last log (Lemma by clause hints bound) in
     (omega arith, ap (λ o. option_map of_clause (option_and_then lemma_clause o)) there)
 
 -- the parts of the cut of a best
@@ -213,7 +213,7 @@ pub store_with_best : (p : Instance) (log : List Entry) (store : StoreState) (by
 store_with_best p log store by values h =
     let count = bests_pushed log by values in
     let last : best_at (state_of (log ++ Best by values ∷ [])) (length (state_of log).bests + 1) ≡ Some values =
-            ap (best_at (state_of (log ++ Best by values ∷ []))) (sym count) ∙ best_pushed log by values in
+    ap (best_at (state_of (log ++ Best by values ∷ []))) (sym count) ∙ best_pushed log by values in
     record {
       of_problem = record { vars = h.of_problem.vars; clauses = h.of_problem.clauses };
       names =
@@ -280,9 +280,9 @@ round_seen p log store there h k (inr row) = rw (row.1.2.0, row.1.2.1) (tt, ap (
 
 pub settled_rest : (p : Instance) (store : StoreState) (b : Bounds) → IsStoreOf p store → IsQuietRound p (all_clauses store) b → IsAtRest p b
 settled_rest p store b h quiet = record {
-    clauses = quiet_store p store b h quiet.0;
-    rows = quiet.1;
-  }
+  clauses = quiet_store p store b h quiet.0;
+  rows = quiet.1;
+}
 
 pub settled_conflict : (p : Instance) (log : List Entry) (store : StoreState) (b : Bounds) (h : Hint) → IsStoreFor p log store → (k : Constraint) × IsRoundName p (all_clauses store) h k × (left_by b k ≡ None) → IsConflictIn p (state_of log) [] b h
 settled_conflict p log store b h there found = (found.0, round_seen p log store there h found.0 found.1, found.2)

@@ -1,9 +1,9 @@
 -- What a worker knows stays true with each next entry of the log, and when it forgets a long lemma.
-use Rattle.std.proofs.Common.{◌≡◌, ℕ, zero, suc, ◌+◌, ◌^◌, ◌<◌, ◌≤◌, ◌==◌, Bool, true, false, not, if◌then◌else◌, List, [], ◌∷◌, ◌++◌, length, drop, get_or, refl, ap, sym, subst, ◌∙◌, append_assoc, append-nil, length-append, arith}
-use Rattle.std.specs.Prelude.{ℤ, nat_lt, slice_get}
+use Rattle.std.proofs.Common.{◌≡◌, ℕ, zero, suc, ◌+◌, ◌^◌, ◌<◌, ◌==◌, not, if◌then◌else◌, List, [], ◌∷◌, ◌++◌, length, drop, get_or, refl, ap, sym, ◌∙◌, append_assoc, arith}
+use Rattle.std.specs.Prelude.{ℤ, nat_lt}
 use Rattle.std.specs.declared.option.Option.{Option}
 use Rattle.std.specs.declared.option.Option.TheVariants.{Some, None}
-use Rattle.std.specs.List.{All, filter, last_or, position_from}
+use Rattle.std.specs.List.{filter, position_from}
 use Rattle.std.specs.Option.{option_and_then, option_map}
 use Rattle.std.proofs.lemmas.List.{drop_more, length_push}
 use Rattle.std.proofs.lemmas.List.Elements.{All-nil}
@@ -15,7 +15,7 @@ use Rattle.cgm_atom.specs.declared.entries.Entry.{Entry}
 use Rattle.cgm_atom.specs.declared.entries.Entry.TheVariants.{Best, Lemma}
 use Rattle.cgm_atom.specs.declared.entries.Hint.{Hint}
 use Rattle.cgm_atom.specs.declared.entries.Hint.TheVariants as hint
-use Rattle.cgm_atom.specs.Acceptance.{IsAccepted, IsAcceptedAfter, IsAcceptedState, fault_of, faults, first_fault}
+use Rattle.cgm_atom.specs.Acceptance.{IsAcceptedAfter, IsAcceptedState, fault_of, faults, first_fault}
 use Rattle.cgm_atom.specs.ClauseAtoms.{AreKnown}
 use Rattle.cgm_atom.specs.Constraints.{of_clause}
 use Rattle.cgm_atom.specs.Instance.{Instance, first_violation, var_count}
@@ -23,13 +23,13 @@ use Rattle.cgm_atom.specs.Limits.{AreValuesOf, IsWellFormed}
 use Rattle.cgm_atom.specs.LogState.{LogState, item_at, last_best, lemma_clause, state_of, state_with}
 use Rattle.cgm_atom.proofs.StateLemmas.{IsAccepted-nil, IsAccepted-push, last_best_of_log, state_of-push}
 use Rattle.cgm_clauses.specs.declared.named.Named.{Named}
-use Rattle.cgm_clauses.specs.StoreState.{IsForgotten, StoreState, started}
+use Rattle.cgm_clauses.specs.StoreState.{IsForgotten, started}
 use Rattle.cgm_step.specs.Indexing.{IsIndexOf}
 use Rattle.cgm_step.proofs.Accepted.{AreKnown-from_none, AreNone-from_first, AreValuesOf-from_none}
 use Rattle.cgm_search.specs.declared.knowing.Known.{Known}
 use Rattle.cgm_search.specs.Cutting.{IsOfParts, parts_of}
 use Rattle.cgm_search.specs.Knowing.{IsKnown, seen, seen_state}
-use Rattle.cgm_search.specs.Storing.{HasShortLemmas, IsLongLemma, IsSeenName, IsStoreFor, is_of_cut, last_cut, store_after}
+use Rattle.cgm_search.specs.Storing.{IsLongLemma, IsSeenName, IsStoreFor, is_of_cut, last_cut, store_after}
 use Rattle.cgm_search.proofs.CutNames.{names_of_last}
 use Rattle.cgm_search.proofs.Forgetting.{forgotten_store}
 use Rattle.cgm_search.proofs.Keeping.{store_with}

@@ -1,12 +1,12 @@
 -- What a store has for a log, it has for the log with one more entry, once what that entry gives is added.
-use Rattle.std.proofs.Common.{◌≡◌, inl, inr, ⊎_elim, ℕ, zero, suc, ◌+◌, ◌<◌, ◌≤◌, Bool, true, false, not, cond, List, [], ◌∷◌, ◌++◌, length, map, refl, ap, sym, subst, ◌∙◌, append-nil, add-one, length-append, arith}
+use Rattle.std.proofs.Common.{◌≡◌, inl, inr, ⊎_elim, ℕ, zero, suc, ◌+◌, ◌≤◌, Bool, true, false, not, cond, List, [], ◌∷◌, ◌++◌, length, refl, ap, sym, subst, ◌∙◌, append-nil, add-one, length-append, arith}
 use Rattle.std.specs.Prelude.{◌⊎◌, ℤ, slice_get}
 use Rattle.std.specs.declared.option.Option.{Option}
 use Rattle.std.specs.declared.option.Option.TheVariants.{Some, None}
 use Rattle.std.specs.List.{All, Contains, filter, last_or}
-use Rattle.std.specs.Option.{option_and_then, option_map, option_map_or}
+use Rattle.std.specs.Option.{option_and_then, option_map}
 use Rattle.std.proofs.lemmas.List.{length-map, length_push}
-use Rattle.std.proofs.lemmas.List.Elements.{All-append, All-cons, All-contains, All-contains_itself, All-filter, All-nil, All-push, All-weaker, Contains-append_left, Contains-append_right, Contains-push, filter-append}
+use Rattle.std.proofs.lemmas.List.Elements.{All-append, All-cons, All-contains, All-filter, All-nil, All-push, All-weaker, Contains-append_left, Contains-append_right, Contains-push, filter-append}
 use Rattle.cgm_atom.specs.declared.constraints.Clause.{Clause}
 use Rattle.cgm_atom.specs.declared.entries.Entry.{Entry}
 use Rattle.cgm_atom.specs.declared.entries.Entry.TheVariants.{Best, Lemma}
@@ -21,11 +21,11 @@ use Rattle.cgm_atom.specs.LogState.{LogState, best_at, item_at, last_best, lemma
 use Rattle.cgm_atom.proofs.LongerLogs.{named_stays}
 use Rattle.cgm_atom.proofs.StateLemmas.{best_values-append, count_of_bests, last_best_of_log, last_of_pushed, live_at-log, state_of-entries}
 use Rattle.cgm_clauses.specs.declared.named.Named.{Named}
-use Rattle.cgm_clauses.specs.StoreState.{IsNamedIn, IsStoreOf, StoreState, all_clauses, numbered}
+use Rattle.cgm_clauses.specs.StoreState.{IsStoreOf, StoreState, all_clauses, numbered}
 use Rattle.cgm_clauses.proofs.Naming.{quiet_store}
 use Rattle.cgm_learn.specs.Learning.{IsConflictIn}
 use Rattle.cgm_search.specs.Settling.{IsQuietRound, IsRoundName}
-use Rattle.cgm_search.specs.Storing.{HasShortLemmas, IsSeenName, IsStoreFor, added_after, cut_named, is_of_cut, last_cut, lemma_named, short_length, store_after, without_cut}
+use Rattle.cgm_search.specs.Storing.{HasShortLemmas, IsSeenName, IsStoreFor, cut_named, is_of_cut, last_cut, lemma_named, short_length, store_after, without_cut}
 use Rattle.cgm_trail.specs.TrailState.{IsAtRest}
 
 -- ---- items of a longer list

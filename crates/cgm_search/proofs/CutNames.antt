@@ -1,7 +1,6 @@
 -- The parts of a cut by their names: dropping them all drops the cut, and adding them all adds it.
-use Rattle.std.proofs.Common.{◌≡◌, ◌≢◌, inl, inr, ℕ, zero, suc, ◌+◌, ◌-◌, ◌<◌, ◌≤◌, ◌==◌, max, Bool, true, false, not, cond, if◌then◌else◌, List, [], ◌∷◌, ◌++◌, length, map, drop, refl, ap, sym, subst, ◌∙◌, append_assoc, append-nil, arith}
+use Rattle.std.proofs.Common.{◌≡◌, ◌≢◌, inl, inr, ℕ, zero, suc, ◌+◌, ◌-◌, ◌<◌, ◌≤◌, ◌==◌, max, Bool, true, false, not, cond, if◌then◌else◌, List, [], ◌∷◌, ◌++◌, length, map, drop, refl, ap, sym, ◌∙◌, append_assoc, append-nil, arith}
 use Rattle.std.specs.Prelude.{ℤ, slice_get}
-use Rattle.std.specs.declared.option.Option.{Option}
 use Rattle.std.specs.declared.option.Option.TheVariants.{Some, None}
 use Rattle.std.specs.List.{filter, last_or}
 use Rattle.std.specs.Option.{option_map_or}
@@ -161,3 +160,14 @@ names_by_bests p s added (v ∷ bests) (suc n) count same last h =
 pub names_of_last : (p : Instance) (log : List Entry) (added : List Named) → filter is_of_cut added ≡ last_cut p (state_of log) → IsOfParts (length (state_of log).bests) (if length (state_of log).bests == 0 then 0 else parts_of p) added
 names_of_last p log added h =
     names_by_bests p (state_of log) added (best_values log) (length (state_of log).bests) refl (count_of_bests log) (last_best_of_log log) h
+
+-- ---- lists and stores
+
+-- one item more of a list
+pub one_more : {X : Type 0} (all items new : List X) (i : ℕ) (x : X) → slice_get all i ≡ Some x → items ++ drop i all ≡ all → new ≡ items ++ x ∷ [] → new ++ drop (i + 1) all ≡ all
+one_more {X = X} all items new i x there before e =
+    rw e (append_assoc items (x ∷ []) (drop (i + 1) all) ∙ ap (λ (xs : List X). items ++ xs) (sym (drop_found all i x there)) ∙ before)
+
+-- a store that differs in what was added alone
+pub store_with_added : (old new : StoreState) (added : List Named) → new.vars ≡ old.vars → new.clauses ≡ old.clauses → new.added ≡ added → new ≡ record old { added = added }
+store_with_added old new added e f g = rw (← e, ← f, ← g) refl

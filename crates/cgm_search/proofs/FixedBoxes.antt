@@ -195,12 +195,12 @@ some_part_false p log store b best stored box point last behind =
     let one = box_one p.bounds b box point in
     let cut_is : last_cut p (state_of log) ≡ cut_named (length (state_of log).bests) 0 (cut p.objectives (vector p best)) = rw last refl in
     let found = some_false b (filter is_of_cut store.added)
-            (λ (all : All (λ m. IsTrue (clause_true b.lower m.clause)) (filter is_of_cut store.added)).
-            not_less (vector p b.lower) (vector p best)
-            ((cut_is_less p.objectives b.lower (vector p best)).1
-            (clauses_of_parts b.lower (length (state_of log).bests) 0 (cut p.objectives (vector p best))
-            (subst (λ (ns : List Named). All (λ m. IsTrue (clause_true b.lower m.clause)) ns) (stored.last_cut ∙ cut_is) all)))
-            behind) in (
+    (λ (all : All (λ m. IsTrue (clause_true b.lower m.clause)) (filter is_of_cut store.added)).
+    not_less (vector p b.lower) (vector p best)
+    ((cut_is_less p.objectives b.lower (vector p best)).1
+    (clauses_of_parts b.lower (length (state_of log).bests) 0 (cut p.objectives (vector p best))
+    (subst (λ (ns : List Named). All (λ m. IsTrue (clause_true b.lower m.clause)) ns) (stored.last_cut ∙ cut_is) all)))
+    behind) in (
       found.0,
       Contains-append_right store.clauses store.added found.0 (contains_from_filter is_of_cut store.added found.0 found.1),
       clause_false b found.0.clause one found.2,
@@ -220,15 +220,15 @@ pub record IsLastBest (p : Instance) (values : List ℤ) (log : List Entry) : Ty
 
 kept_last : (p : Instance) (log : List Entry) (by : ℕ) (values : List ℤ) → IsLastBest p values (log ++ Best by values ∷ [])
 kept_last p log by values = record {
-    best = values;
-    last = best_pushed log by values;
-    behind = less_self (vector p values);
-  }
+  best = values;
+  last = best_pushed log by values;
+  behind = less_self (vector p values);
+}
 
 last_by_test : (p : Instance) (log : List Entry) (by bests : ℕ) (values best : List ℤ) (t : Bool) → is_less (vector p values) (vector p best) ≡ t → last_best (state_of log) ≡ Some best → IsLastBest p values (log ++ kept_entry by values (if t then Kept (bests + 1) else Behind bests best))
 last_by_test p log by bests values best true e last = kept_last p log by values
 last_by_test p log by bests values best false e last =
-    subst (λ (xs : List Entry). IsLastBest p values xs) (sym (append-nil log)) (record { best = best; last = last; behind = e; })
+    subst (λ (xs : List Entry). IsLastBest p values xs) (sym (append-nil log)) (record { best = best; last = last; behind = e })
 
 last_by_best : (p : Instance) (log : List Entry) (by bests : ℕ) (values : List ℤ) (o : Option (List ℤ)) → last_best (state_of log) ≡ o → IsLastBest p values (log ++ kept_entry by values (fate_after p bests o values))
 last_by_best p log by bests values None last = kept_last p log by values

@@ -1,5 +1,5 @@
 -- A store that forgets a lemma of many atoms is still one for its log.
-use Rattle.std.proofs.Common.{◌≡◌, ◌≢◌, inl, inr, ⊎_elim, ℕ, ◌+◌, ◌<◌, ◌≤◌, Bool, true, false, not, cond, List, [], ◌∷◌, ◌++◌, length, refl, ap, sym, subst, ◌∙◌, arith}
+use Rattle.std.proofs.Common.{◌≡◌, ◌≢◌, inl, inr, ⊎_elim, ℕ, ◌≤◌, Bool, true, false, cond, List, [], ◌∷◌, length, refl, ap, sym, ◌∙◌, arith}
 use Rattle.std.specs.declared.option.Option.{Option}
 use Rattle.std.specs.declared.option.Option.TheVariants.{Some, None}
 use Rattle.std.specs.List.{All, Contains, filter}
@@ -43,11 +43,11 @@ cond_no false n xs e = refl
 
 -- what a test finds stays, where it finds nothing of the name
 tested_kept : (test : Named → Bool) (name : Hint) (old new : List Named) → ((m : Named) → m.name ≡ name → test m ≡ false) → IsForgotten name old new → filter test new ≡ filter test old
-tested_kept test name [] new no h = ap (filter test) h
-tested_kept test name (n ∷ old) new no (inl h) =
-    ap (filter test) h.1 ∙ sym (cond_no (test n) n (filter test old) (no n h.0))
-tested_kept test name (n ∷ old) new no (inr h) =
-    ap (filter test) h.2 ∙ ap (λ (ns : List Named). cond (test n) (n ∷ ns) ns) (tested_kept test name old h.1 no h.3)
+tested_kept test name [] new missed h = ap (filter test) h
+tested_kept test name (n ∷ old) new missed (inl h) =
+    ap (filter test) h.1 ∙ sym (cond_no (test n) n (filter test old) (missed n h.0))
+tested_kept test name (n ∷ old) new missed (inr h) =
+    ap (filter test) h.2 ∙ ap (λ (ns : List Named). cond (test n) (n ∷ ns) ns) (tested_kept test name old h.1 missed h.3)
 
 not_of_cut : (place : ℕ) (m : Named) → m.name ≡ hint.Entry place → is_of_cut m ≡ false
 not_of_cut place m e = rw e refl

@@ -1,12 +1,12 @@
 -- What a store has for a log, it has for the log with one more entry, once what that entry gives is added.
-use Rattle.std.proofs.Common.{◌≡◌, inl, inr, ⊎_elim, ℕ, zero, suc, ◌+◌, ◌<◌, ◌≤◌, Bool, true, false, not, cond, List, [], ◌∷◌, ◌++◌, length, map, refl, ap, sym, subst, ◌∙◌, append-nil, add-one, length-append, arith}
+use Rattle.std.proofs.Common.{◌≡◌, inl, inr, ⊎_elim, ℕ, zero, suc, ◌+◌, ◌≤◌, Bool, true, false, not, cond, List, [], ◌∷◌, ◌++◌, length, refl, ap, sym, subst, ◌∙◌, append-nil, add-one, length-append, arith}
 use Rattle.std.specs.Prelude.{◌⊎◌, ℤ, slice_get}
 use Rattle.std.specs.declared.option.Option.{Option}
 use Rattle.std.specs.declared.option.Option.TheVariants.{Some, None}
 use Rattle.std.specs.List.{All, Contains, filter, last_or}
-use Rattle.std.specs.Option.{option_and_then, option_map, option_map_or}
+use Rattle.std.specs.Option.{option_and_then, option_map}
 use Rattle.std.proofs.lemmas.List.{length-map, length_push}
-use Rattle.std.proofs.lemmas.List.Elements.{All-append, All-cons, All-contains, All-contains_itself, All-filter, All-nil, All-push, All-weaker, Contains-append_left, Contains-append_right, Contains-push, filter-append}
+use Rattle.std.proofs.lemmas.List.Elements.{All-append, All-cons, All-contains, All-filter, All-nil, All-push, All-weaker, Contains-append_left, Contains-append_right, Contains-push, filter-append}
 use Rattle.cgm_atom.specs.declared.constraints.Clause.{Clause}
 use Rattle.cgm_atom.specs.declared.entries.Entry.{Entry}
 use Rattle.cgm_atom.specs.declared.entries.Entry.TheVariants.{Best, Lemma}
@@ -21,11 +21,11 @@ use Rattle.cgm_atom.specs.LogState.{LogState, best_at, item_at, last_best, lemma
 use Rattle.cgm_atom.proofs.LongerLogs.{named_stays}
 use Rattle.cgm_atom.proofs.StateLemmas.{best_values-append, count_of_bests, last_best_of_log, last_of_pushed, live_at-log, state_of-entries}
 use Rattle.cgm_clauses.specs.declared.named.Named.{Named}
-use Rattle.cgm_clauses.specs.StoreState.{IsNamedIn, IsStoreOf, StoreState, all_clauses, numbered}
+use Rattle.cgm_clauses.specs.StoreState.{IsStoreOf, StoreState, all_clauses, numbered}
 use Rattle.cgm_clauses.proofs.Naming.{quiet_store}
 use Rattle.cgm_learn.specs.Learning.{IsConflictIn}
 use Rattle.cgm_search.specs.Settling.{IsQuietRound, IsRoundName}
-use Rattle.cgm_search.specs.Storing.{HasShortLemmas, IsSeenName, IsStoreFor, added_after, cut_named, is_of_cut, last_cut, lemma_named, short_length, store_after, without_cut}
+use Rattle.cgm_search.specs.Storing.{HasShortLemmas, IsSeenName, IsStoreFor, cut_named, is_of_cut, last_cut, lemma_named, short_length, store_after, without_cut}
 use Rattle.cgm_trail.specs.TrailState.{IsAtRest}
 
 -- ---- items of a longer list
@@ -73,7 +73,7 @@ last_named p log by bound clause hints =
     let count = entry_count (log ++ Lemma by clause hints bound ∷ []) in
     let long = length_push log (Lemma by clause hints bound) in
     let there : live_at (state_of (log ++ Lemma by clause hints bound ∷ [])) (length log + 1) ≡ Some (Lemma by clause hints bound) =
-            live_at-log (log ++ Lemma by clause hints bound ∷ []) (length log + 1) ∙ item_last log (Lemma by clause hints bound) in
+    live_at-log (log ++ Lemma by clause hints bound ∷ []) (length log + 1) ∙ item_last log (Lemma by clause hints bound) in
     (omega arith, ap (λ o. option_map of_clause (option_and_then lemma_clause o)) there)
 
 -- the parts of the cut of a best
@@ -213,14 +213,15 @@ pub store_with_best : (p : Instance) (log : List Entry) (store : StoreState) (by
 store_with_best p log store by values h =
     let count = bests_pushed log by values in
     let last : best_at (state_of (log ++ Best by values ∷ [])) (length (state_of log).bests + 1) ≡ Some values =
-            ap (best_at (state_of (log ++ Best by values ∷ []))) (sym count) ∙ best_pushed log by values in
+    ap (best_at (state_of (log ++ Best by values ∷ []))) (sym count) ∙ best_pushed log by values in
     record {
       of_problem = record { vars = h.of_problem.vars; clauses = h.of_problem.clauses };
       names =
           All-append (λ n. IsSeenName p (state_of (log ++ Best by values ∷ [])) n.name (of_clause n.clause)) (without_cut store.added) (cut_named (length (state_of log).bests + 1) 0 (cut p.objectives (vector p values)))
           (All-filter (λ n. not (is_of_cut n)) (λ n. IsSeenName p (state_of (log ++ Best by values ∷ [])) n.name (of_clause n.clause)) store.added
           (names_longer p log (Best by values ∷ []) store.added h.names))
-          (parts_named p (state_of (log ++ Best by values ∷ [])) (length (state_of log).bests + 1) values last 0 (cut p.objectives (vector p values)) (λ i. refl));
+          (parts_named p (state_of (log ++ Best by values ∷ [])) (length (state_of log).bests + 1) values last 0 (cut p.objectives (vector p values))
+          (λ i. let same : i ≡ 0 + i = omega arith in ap (slice_get (cut p.objectives (vector p values))) same));
       last_cut =
           cut_renewed (length (state_of log).bests + 1) store.added (cut p.objectives (vector p values)) ∙ sym (cut_of_pushed p log by values);
       lemmas = λ place c named short.
@@ -279,9 +280,9 @@ round_seen p log store there h k (inr row) = rw (row.1.2.0, row.1.2.1) (tt, ap (
 
 pub settled_rest : (p : Instance) (store : StoreState) (b : Bounds) → IsStoreOf p store → IsQuietRound p (all_clauses store) b → IsAtRest p b
 settled_rest p store b h quiet = record {
-    clauses = quiet_store p store b h quiet.0;
-    rows = quiet.1;
-  }
+  clauses = quiet_store p store b h quiet.0;
+  rows = quiet.1;
+}
 
 pub settled_conflict : (p : Instance) (log : List Entry) (store : StoreState) (b : Bounds) (h : Hint) → IsStoreFor p log store → (k : Constraint) × IsRoundName p (all_clauses store) h k × (left_by b k ≡ None) → IsConflictIn p (state_of log) [] b h
 settled_conflict p log store b h there found = (found.0, round_seen p log store there h found.0 found.1, found.2)

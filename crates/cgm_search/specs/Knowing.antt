@@ -1,5 +1,5 @@
 -- What a worker knows of the log: the entries that it has seen, their index, and its store.
-use Rattle.std.specs.Prelude.{ℕ, ◌^◌, ◌<◌, List, length}
+use Rattle.std.specs.Prelude.{◌^◌, ◌<◌, List, length}
 use Rattle.cgm_atom.specs.declared.entries.Entry.{Entry}
 use Rattle.cgm_atom.specs.Acceptance.{IsAccepted}
 use Rattle.cgm_atom.specs.Limits.{IsWellFormed}

@@ -34,8 +34,10 @@ pub(crate) fn renew_cut(
     requires values { AreValuesOf p.now values.now }
     requires before { IsOfParts before (if before == 0 then 0 else parts_of p.now) store.old.added }
     requires room { before < 2 ^ 63 }
-    ensures { OnOk result (store.new ≡ record store.old { added =
-        without_cut store.old.added ++ cut_named (before + 1) 0 (cut p.now.objectives (vector p.now values.now)) }) }
+    ensures { OnOk result (store.new ≡ record store.old {
+      added =
+          without_cut store.old.added ++ cut_named (before + 1) 0 (cut p.now.objectives (vector p.now values.now));
+    }) }
 {
     let parts = count_of_parts(p);
     drop_cut(store, before, if before == 0 { 0 } else { parts });
@@ -67,8 +69,10 @@ fn add_cut(
     requires of_problem { IsStoreOf p.now store.old }
     requires values { AreValuesOf p.now values.now }
     requires parts { parts ≡ parts_of p.now }
-    ensures { OnOk result (store.new ≡ record store.old { added =
-        store.old.added ++ cut_named ordinal 0 (cut p.now.objectives (vector p.now values.now)) }) }
+    ensures { OnOk result (store.new ≡ record store.old {
+      added =
+          store.old.added ++ cut_named ordinal 0 (cut p.now.objectives (vector p.now values.now));
+    }) }
 {
     for part in 0..parts {
         let clause = part_clause(alloc, p, values, part as usize)?;

@@ -161,6 +161,7 @@ fn keep(
     requires bests_room { length log.now.bests < 2 ^ 63 }
     ensures { OnOk result (store.new ≡ store_after p.now log.now store.old e.now) }
 {
+    p.recall_well_formed();
     match e {
         Entry::Best { values, .. } => {
             renew_cut(alloc, p, store, log.bests(), values.as_slice())?;

@@ -1,6 +1,6 @@
 -- What a trade adds to what a worker has seen: the news, and then what landed of its batch.
 use Rattle.std.proofs.Common.{◌≡◌, ℕ, zero, suc, ◌+◌, ◌-◌, ◌^◌, ◌<◌, ◌≤◌, Bool, true, false, List, [], ◌∷◌, ◌++◌, length, get_or, refl, sym, ap, subst, ◌∙◌, append_assoc, arith, length-append}
-use Rattle.std.specs.Prelude.{ℤ, IsTrue, if◌then◌else◌}
+use Rattle.std.specs.Prelude.{ℤ, IsTrue, if◌then◌else◌, Result, Ok, Err, OnOk}
 use Rattle.std.specs.declared.option.Option.{Option}
 use Rattle.std.specs.declared.option.Option.TheVariants.{Some, None}
 use Rattle.std.specs.List.{All}
@@ -109,3 +109,7 @@ longer p old new b h = (
   h.0 ++ landed p (old ++ h.0) b,
   h.1 ∙ append_assoc old h.0 (landed p (old ++ h.0) b),
 )
+
+pub landed_on_ok : {T E : Type 0} (r : Result T E) (p : Instance) (old news now : List Entry) (b copy : Batch) → copy ≡ b → OnOk r (now ≡ with_landed p (old ++ news) copy) → OnOk r (HasLanded p old b now)
+landed_on_ok (Ok x) p old news now b copy e h = (news, h ∙ ap (λ (a : Batch). with_landed p (old ++ news) a) e)
+landed_on_ok (Err x) p old news now b copy e h = tt

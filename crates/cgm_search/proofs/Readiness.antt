@@ -187,6 +187,12 @@ box_shrinks b (c ∷ added) =
     IsSmaller-trans (box_after (made_true b c.atom) added) (made_true b c.atom) b
     (box_shrinks (made_true b c.atom) added) (made_true_shrinks b c.atom)
 
+-- a box after changes has as many least as greatest values
+pub even_after : (b : Bounds) (added : List Change) → length b.upper ≡ length b.lower → length (box_after b added).upper ≡ length (box_after b added).lower
+even_after b added even =
+    let smaller = box_shrinks b added in
+    smaller.upper_count ∙ even ∙ sym smaller.lower_count
+
 none_stays : (inner outer : Option Bounds) → IsLeftSmaller inner outer → outer ≡ None → inner ≡ None
 none_stays None outer h e = refl
 none_stays (Some b) None h e = absurd h
@@ -395,3 +401,9 @@ ready_new p s known problem nothing trail choice plan worker =
       plan = plan;
       worker = worker;
     }
+
+-- after a cut
+pub even_cut : (s : Search) (level : ℕ) → IsReady s → length (box_of (cut_trail level s.trail)).upper ≡ length (box_of (cut_trail level s.trail)).lower
+even_cut s level h =
+    even_after s.trail.problem.bounds (cut_to level s.trail.changes)
+    (subst (λ (p : Instance). length p.bounds.upper ≡ length p.bounds.lower) (sym h.trail.problem) h.known.problem.proper.same_count)

@@ -1,9 +1,9 @@
 -- A learned lemma as a batch of its own: it is proper, and what it gives once it was traded.
-use Rattle.std.proofs.Common.{◌≡◌, inl, inr, ℕ, zero, suc, ◌+◌, ◌<◌, ◌≤◌, Bool, true, false, not, ◌||◌, List, [], ◌∷◌, ◌++◌, length, map, get_or, refl, sym, ap, subst, ◌∙◌, arith}
-use Rattle.std.specs.Prelude.{◌⊎◌, IsTrue, ◌==◌, Result, Ok, Err, IfOk}
+use Rattle.std.proofs.Common.{◌≡◌, inl, inr, ⊎_elim, ℕ, zero, suc, ◌+◌, ◌-◌, ◌<◌, ◌≤◌, Bool, true, false, not, ◌||◌, List, [], ◌∷◌, ◌++◌, length, map, get_or, take, refl, sym, ap, subst, ◌∙◌, arith}
+use Rattle.std.specs.Prelude.{◌⊎◌, IsTrue, ◌==◌, ◌≢◌, Result, Ok, Err, IfOk, OnOk}
 use Rattle.std.specs.declared.option.Option.TheVariants.{Some, None}
 use Rattle.std.specs.List.{All, filter}
-use Rattle.std.proofs.lemmas.List.{length-map, length_push}
+use Rattle.std.proofs.lemmas.List.{length-map, length_push, take_all, take_more}
 use Rattle.std.proofs.lemmas.List.Elements.{All-cons, All-head, All-nil, All-tail, All-weaker}
 use Rattle.cgm_atom.specs.declared.constraints.Atom.{Atom}
 use Rattle.cgm_atom.specs.declared.constraints.Clause.{Clause}
@@ -23,7 +23,7 @@ use Rattle.cgm_atom.specs.Placing.{IsBefore, placed, placed_entry}
 use Rattle.cgm_atom.proofs.StateLemmas.{state_of-entries, state_of-push}
 use Rattle.cgm_clauses.proofs.Standings.{left_as, made_is_true}
 use Rattle.cgm_learn.specs.declared.learned.Learned.{Learned}
-use Rattle.cgm_learn.specs.Learning.{IsAcceptedLemma, IsKnownHint, IsLemmaInRange, lemma_by, state_with_pending}
+use Rattle.cgm_learn.specs.Learning.{IsAcceptedLemma, IsKnownHint, IsLemmaInRange, IsUnitAfterCut, IsUnitAtLast, lemma_by, state_with_pending}
 use Rattle.cgm_log.specs.declared.batches.Batch.{Batch}
 use Rattle.cgm_log.specs.Landing.{IsLemmaOf, IsProper, with_landed}
 use Rattle.cgm_log.proofs.Adding.{closed_stays, open_grows}
@@ -35,7 +35,7 @@ use Rattle.cgm_search.specs.Trading.{HasLanded}
 use Rattle.cgm_search.proofs.Absorbing.{next_atoms_known}
 use Rattle.cgm_search.proofs.Keeping.{last_named}
 use Rattle.cgm_trail.specs.Steps.{IsGiven}
-use Rattle.cgm_trail.specs.TrailState.{IsOpenIn}
+use Rattle.cgm_trail.specs.TrailState.{IsOpenIn, TrailState, box_of, cut_trail}
 
 -- ---- a proper batch
 
@@ -110,6 +110,17 @@ pub taken : (k : Known) (old : List Entry) (by bound : ℕ) (c : Clause) (hints 
 taken k old by bound c hints h =
     taken_by_test k (old ++ h.0) by bound c hints (state_of (old ++ h.0)).closed refl h.1
 
+pub taken_on_ok : {T E : Type 0} (r : Result T E) (k : Known) (p : Instance) (old : List Entry) (b : Batch) (by bound : ℕ) (c : Clause) (hints : List Hint) → p ≡ k.problem → b ≡ lemma_batch by (Lemma by c hints bound) → OnOk r (HasLanded p old b (seen k)) → OnOk r (IsTaken k c)
+taken_on_ok (Ok x) k p old b by bound c hints e f h =
+    taken k old by bound c hints
+    (subst (λ (a : Batch). HasLanded k.problem old a (seen k)) f (subst (λ (q : Instance). HasLanded q old b (seen k)) e h))
+taken_on_ok (Err x) k p old b by bound c hints e f h = tt
+
+pub open_placed : (k : Known) (c : Clause) → IsTaken k c → (seen_state k).closed ≡ false → IsSeenName k.problem (seen_state k) (hint.Entry (length (seen k))) (of_clause c)
+open_placed k c h still_open =
+    ⊎_elim (λ (closed : IsClosed (seen k)). absurd (let wrong = sym still_open ∙ closed in cc))
+    (λ (name : IsSeenName k.problem (seen_state k) (hint.Entry (length (seen k))) (of_clause c)). name) h.placed
+
 -- ---- what it gives
 
 last_left : (b : Bounds) (others : List Atom) (a : Atom) → All (λ x. is_false_in b x ≡ true) others → is_false_in b a ≡ false → left_in b (others ++ a ∷ []) ≡ a ∷ []
@@ -150,3 +161,28 @@ pub learned_atoms : {E : Type 0} (p : Instance) (s : LogState) (pending : List E
 learned_atoms p s pending (Ok l) h =
     next_atoms_known p (state_with_pending s pending) 0 l.bound l.clause (map (placed (length s.entries)) l.hints) (h 0)
 learned_atoms p s pending (Err x) h = tt
+
+-- ---- the last atom
+
+pub front_and_last : (atoms : List Atom) (d : Atom) → 1 ≤ length atoms → (others : List Atom) × (atoms ≡ others ++ get_or atoms (length atoms - 1) d ∷ [])
+front_and_last atoms d h = (
+  take (length atoms - 1) atoms,
+  sym (take_all (length atoms - 1 + 1) atoms (omega arith)) ∙ take_more atoms (length atoms - 1) d (omega arith),
+)
+
+-- a clause that is unit gives its last atom
+pub given_by_unit : (b : Bounds) (c : Clause) (a : Atom) → length b.upper ≡ length b.lower → IsUnitAtLast b c.atoms → (others : List Atom) × (c.atoms ≡ others ++ a ∷ []) → IsGiven b (of_clause c) a
+given_by_unit b c a even unit last =
+    let same = same_last last.0 unit.others a unit.last (sym last.1 ∙ unit.parts) in
+    given_by_last b c unit.others a (unit.parts ∙ ap (λ (x : Atom). unit.others ++ x ∷ []) (sym same.1)) even unit.false_others
+    (subst (λ (x : Atom). IsOpenIn b x) (sym same.1) unit.open_last)
+
+not_empty : (others : List Atom) (a : Atom) → others ++ a ∷ [] ≢ []
+not_empty [] a = λ e. absurd (cc)
+not_empty (x ∷ others) a = λ e. absurd (cc)
+
+-- what was learned gives its last atom after the cut
+pub given_after_cut : (t : TrailState) (l : Learned) (a : Atom) → length (box_of (cut_trail l.level t)).upper ≡ length (box_of (cut_trail l.level t)).lower → IsUnitAfterCut t l → (others : List Atom) × (l.clause.atoms ≡ others ++ a ∷ []) → IsGiven (box_of (cut_trail l.level t)) (of_clause l.clause) a
+given_after_cut t l a even unit last =
+    let there : l.clause.atoms ≢ [] = λ none. not_empty last.0 a (sym last.1 ∙ none) in
+    given_by_unit (box_of (cut_trail l.level t)) l.clause a even (unit there).1 last

@@ -40,7 +40,7 @@ at_end problem told number trades s None h =
       searching = searching problem told number trades s None h.ready h.trader;
       nothing = h.nothing;
       trail = h.trail;
-      trades = h.trades;
+      trades = h.enough;
     }
 at_end problem told number trades s (Some stopped.Final) h = h
 at_end problem told number trades s (Some stopped.Spent) h =
@@ -67,6 +67,9 @@ pub never_spent : (w : WorkerState) (answer : Stopped) → IsWorker w → w.ende
 never_spent w answer h e valid large = λ spent. spent_few w h (e ∙ ap Some spent) valid large
 
 -- ---- what stays
+
+pub kept_itself : (s : Search) → IsReady s → IsKept s s
+kept_itself s h = record { problem = refl; plan = refl; worker = refl; trail = h.trail }
 
 pub kept_twice : (old mid new : Search) → IsKept old mid → IsKept mid new → IsKept old new
 kept_twice old mid new h k =

@@ -1,5 +1,5 @@
 -- The worker that the fields of a `Worker` and the ghosts of its trader give.
-use Rattle.std.specs.Prelude.{◌≡◌, ◌×◌, ℕ, ◌+◌, ◌<◌, ◌≤◌, List, [], Option, Some, None}
+use Rattle.std.specs.Prelude.{◌≡◌, ℕ, ◌+◌, ◌<◌, ◌≤◌, List, [], Option, Some, None}
 use Rattle.cgm_atom.specs.declared.entries.Entry.{Entry}
 use Rattle.cgm_atom.specs.Acceptance.{IsClosed}
 use Rattle.cgm_atom.specs.Instance.{Instance}
@@ -29,7 +29,7 @@ pub record IsFresh (s : Search) (problem : Instance) (told : List Entry) (number
   pub trader : IsTraderOf s problem told number
   pub nothing : told ≡ []
   pub trail : s.trail ≡ started problem
-  pub trades : s.plan.budget + 2 ≤ trades
+  pub enough : s.plan.budget + 2 ≤ trades
 
 abbrev pub IsEndedAs : Search → Instance → List Entry → Option ℕ → ℕ → Option Stopped → Type 0
 IsEndedAs s problem told number trades None = IsFresh s problem told number trades

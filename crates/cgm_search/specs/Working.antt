@@ -1,5 +1,5 @@
 -- A worker as contracts see it, and what holds of it by how its run ended.
-use Rattle.std.specs.Prelude.{◌≡◌, ◌×◌, false, ℕ, ◌+◌, ◌≤◌, List, [], length, Option, Some, None}
+use Rattle.std.specs.Prelude.{◌≡◌, false, ℕ, ◌+◌, ◌≤◌, List, [], length, Option, Some, None}
 use Rattle.std.specs.List.{All}
 use Rattle.cgm_atom.specs.declared.entries.Entry.{Entry}
 use Rattle.cgm_atom.specs.Acceptance.{IsAccepted, IsClosed}

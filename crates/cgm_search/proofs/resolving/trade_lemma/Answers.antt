@@ -7,7 +7,7 @@ use Rattle.cgm_search.proofs.TakenLemmas.{lemma_batch, proper_lemma, taken_on_ok
 use Rattle.cgm_search.proofs.resolving.trade_lemma.Goals as goal
 
 pub exchange-requires-clause-proper : goal.exchange-requires-clause-proper
-exchange-requires-clause-proper g c =
+exchange-requires-clause-proper g c = λ _ _.
     subst (λ (b : Batch). IsProper c.args.known.now.problem (seen c.args.known.now) b)
     (sym (c.in_ok-batch.ensures ∙ ap (λ (e : Entry). lemma_batch c.args.by e) c.lemma_entry-lemma.ensures))
     (proper_lemma c.args.known.now.problem (seen c.args.known.now) c.args.by (record { clause = c.args.clause; hints = c.args.hints; bound = c.args.bound; level = 0 })

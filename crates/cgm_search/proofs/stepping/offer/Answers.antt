@@ -9,7 +9,7 @@ use Rattle.cgm_search.proofs.stepping.offer.Goals as goal
 use Rattle.cgm_trail.specs.TrailState.{box_of}
 
 pub exchange-requires-clause-proper : goal.exchange-requires-clause-proper
-exchange-requires-clause-proper g c =
+exchange-requires-clause-proper g c = λ _ _.
     let box = trail_box c.args.s.now c.requires.ready c.recall_trail.ensures in
     subst (λ (b : Batch). IsProper c.args.s.now.known.problem (seen c.args.s.now.known) b)
     (sym (c.candidate_batch-batch.ensures ∙ ap (λ (values : List ℤ). candidate_batch c.args.s.now.by values) (c.in_ok-values.ensures ∙ ap (λ b. b.lower) c.state.ensures.state)))

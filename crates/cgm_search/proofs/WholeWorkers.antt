@@ -1,10 +1,10 @@
 -- What the fields of a worker keep, and what holds of the worker that they are.
 use Rattle.std.proofs.Common.{◌≡◌, ℕ, ◌+◌, ◌-◌, ◌*◌, ◌^◌, ◌<◌, ◌≤◌, false, List, [], refl, sym, ap, subst, ◌∙◌, arith}
-use Rattle.std.specs.Prelude.{◌≢◌, IfSome}
+use Rattle.std.specs.Prelude.{◌≢◌, ◌↔◌}
 use Rattle.std.specs.declared.option.Option.{Option}
 use Rattle.std.specs.declared.option.Option.TheVariants.{Some, None}
 use Rattle.cgm_atom.specs.declared.entries.Entry.{Entry}
-use Rattle.cgm_atom.specs.Acceptance.{IsAccepted}
+use Rattle.cgm_atom.specs.Acceptance.{IsClosed}
 use Rattle.cgm_atom.specs.Instance.{Instance}
 use Rattle.cgm_atom.specs.LogState.{state_of}
 use Rattle.cgm_search.specs.declared.plans.Plan.{Plan}
@@ -63,8 +63,29 @@ spent_few w h e valid large =
         (moves_are_few w.trail w.plan.restarts valid h.trail.restarts) in
     omega arith
 
-pub never_spent : (w : WorkerState) (answer : Stopped) → IsWorker w → w.ended ≡ Some answer → IsTrail w.trail → (w.plan.restarts + 1) * 2 ^ (slack w.problem.bounds + 1) ≤ w.plan.budget → answer ≢ stopped.Spent
-never_spent w answer h e valid large = λ spent. spent_few w h (e ∙ ap Some spent) valid large
+pub never_spent : (w : WorkerState) (answer : Stopped) (plan : Plan) (problem : Instance) → IsWorker w → w.ended ≡ Some answer → IsTrail w.trail → w.plan ≡ plan → w.problem ≡ problem → (plan.restarts + 1) * 2 ^ (slack problem.bounds + 1) ≤ plan.budget → answer ≢ stopped.Spent
+never_spent w answer plan problem h e valid f g large = λ spent.
+    let own : (w.plan.restarts + 1) * 2 ^ (slack w.problem.bounds + 1) ≤ w.plan.budget = rw (f, g) large in
+    spent_few w h (e ∙ ap Some spent) valid own
+
+at_answer : (w : WorkerState) (answer : Stopped) → IsWorker w → w.ended ≡ Some answer → IsAt w (Some answer)
+at_answer w answer h e = subst (λ (o : Option Stopped). IsAt w o) e h.at
+
+pub moves_when_spent : (w : WorkerState) (answer : Stopped) (plan : Plan) → IsWorker w → w.ended ≡ Some answer → w.plan ≡ plan → answer ≡ stopped.Spent → w.trail.moves ≡ plan.budget
+moves_when_spent w answer plan h e f spent =
+    let at : IsAt w (Some stopped.Spent) = at_answer w stopped.Spent h (e ∙ ap Some spent) in
+    at.1 ∙ ap (λ (p : Plan). p.budget) f
+
+final_by : (w : WorkerState) (answer : Stopped) → IsAt w (Some answer) → answer ≢ stopped.Memory → answer ≡ stopped.Final ↔ IsClosed w.told
+final_by w stopped.Final at h = (λ _. at, λ _. refl)
+final_by w stopped.Spent at h = (
+  λ e. absurd (cc),
+  λ closed. let still_open = at.0.still_open in absurd (let wrong = sym still_open ∙ closed in cc),
+)
+final_by w stopped.Memory at h = absurd (h refl)
+
+pub final_exactly : (w : WorkerState) (answer : Stopped) → IsWorker w → w.ended ≡ Some answer → answer ≢ stopped.Memory → answer ≡ stopped.Final ↔ IsClosed w.told
+final_exactly w answer h e = final_by w answer (at_answer w answer h e)
 
 -- ---- what stays
 

@@ -1,5 +1,6 @@
 //! Workers.
-ghost use Rattle.std.specs.Prelude.{◌≡◌, ◌≢◌, ◌+◌, ◌*◌, ◌^◌, ◌<◌, ◌≤◌, [], None, Some, IfOk, IfErr, IfSome};
+ghost use Rattle.std.specs.Prelude.{◌≡◌, ◌≢◌, ◌+◌, ◌*◌, ◌^◌, ◌<◌, ◌≤◌, ◌↔◌, [], None, Some, IfOk, IfErr, IfSome};
+ghost use Rattle.cgm_atom.specs.Acceptance.{IsClosed};
 ghost use Rattle.cgm_atom.specs.Limits.{max_workers};
 ghost use Rattle.cgm_search.specs.Searching.{IsKept, IsPlan, IsReady, IsTraderOf, need};
 ghost use Rattle.cgm_search.specs.Trading.{HasTradedAtMost};
@@ -100,6 +101,8 @@ impl<T: Trader> Worker<T> {
     pub fn run<G: Gate>(&mut self, gate: &G) -> Stopped
         ensures ended { self.new.ended ≡ Some result }
         ensures valid { IsWorker self.new }
+        ensures exact { result ≢ Stopped.Memory → result ≡ Stopped.Final ↔ IsClosed self.new.told }
+        ensures spent { result ≡ Stopped.Spent → self.new.trail.moves ≡ self.old.plan.budget }
         ensures never_spent { (self.old.plan.restarts + 1) * 2 ^ (slack self.old.problem.bounds + 1) ≤ self.old.plan.budget
             → result ≢ Stopped.Spent }
         ensures again { self.old.ended ≢ None → self.new ≡ self.old }

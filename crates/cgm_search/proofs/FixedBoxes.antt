@@ -1,6 +1,6 @@
 -- Boxes that hold one value of each variable: where the problem is at rest they are a solution, and a cut that they don't meet has a part that is false in them.
-use Rattle.std.proofs.Common.{◌≡◌, ℕ, zero, suc, ◌+◌, ◌<◌, ◌≤◌, Bool, true, false, not, cond, ◌||◌, ◌&&◌, if◌then◌else◌, inl, inr, List, [], ◌∷◌, ◌++◌, length, refl, ap, sym, subst, ◌∙◌, append-nil, arith}
-use Rattle.std.specs.Prelude.{◌⊎◌, ℤ, pos, ◌+ℤ◌, ◌*ℤ◌, ◌≤ℤ◌, ◌<ℤ◌, int_le, int_lt, IsTrue}
+use Rattle.std.proofs.Common.{◌≡◌, ℕ, ◌+◌, ◌<◌, ◌≤◌, Bool, true, false, not, cond, ◌||◌, ◌&&◌, if◌then◌else◌, inl, inr, List, [], ◌∷◌, ◌++◌, length, refl, ap, sym, subst, ◌∙◌, append-nil, arith}
+use Rattle.std.specs.Prelude.{◌⊎◌, ℤ, pos, ◌*ℤ◌, int_le, int_lt, IsTrue}
 use Rattle.std.specs.declared.option.Option.{Option}
 use Rattle.std.specs.declared.option.Option.TheVariants.{Some, None}
 use Rattle.std.specs.List.{All, Contains, filter, list_any}
@@ -16,11 +16,11 @@ use Rattle.cgm_atom.specs.declared.entries.Entry.{Entry}
 use Rattle.cgm_atom.specs.declared.entries.Entry.TheVariants.{Best}
 use Rattle.cgm_atom.specs.declared.entries.Hint.TheVariants as hint
 use Rattle.cgm_atom.specs.Atoms.{activity, atom_true, clause_true, guard_true, row_true}
-use Rattle.cgm_atom.specs.Bounds.{Bounds, IsBoxOf, lower_of, upper_of, value_of}
+use Rattle.cgm_atom.specs.Bounds.{Bounds, IsBoxOf, lower_of, upper_of}
 use Rattle.cgm_atom.specs.Cut.{cut}
 use Rattle.cgm_atom.specs.Instance.{Instance, IsSolution, vector}
 use Rattle.cgm_atom.specs.LogState.{last_best, state_of}
-use Rattle.cgm_atom.specs.Narrowing.{greatest_activity, greatest_term, is_false_in, is_true_in, left_by_clause, left_by_row, left_by_unmet}
+use Rattle.cgm_atom.specs.Narrowing.{greatest_activity, is_false_in, is_true_in, left_by_clause, left_by_row, left_by_unmet}
 use Rattle.cgm_atom.specs.Order.{IsLess, is_less}
 use Rattle.cgm_atom.proofs.Cutting.{cut_is_less}
 use Rattle.cgm_clauses.specs.declared.named.Named.{Named}

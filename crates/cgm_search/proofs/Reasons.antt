@@ -1,5 +1,5 @@
 -- What a search keeps of its trail when the log grows and when moves are made.
-use Rattle.std.proofs.Common.{◌≡◌, ℕ, zero, suc, ◌+◌, ◌<◌, ◌≤◌, Bool, true, false, cond, List, [], ◌∷◌, ◌++◌, refl, ap, sym, subst, ◌∙◌, arith}
+use Rattle.std.proofs.Common.{◌≡◌, ◌+◌, false, cond, List, [], ◌∷◌, ◌++◌, refl, ap}
 use Rattle.cgm_atom.specs.declared.entries.Entry.{Entry}
 use Rattle.cgm_atom.specs.declared.entries.Hint.{Hint}
 use Rattle.cgm_atom.specs.Bounds.{Bounds}
@@ -10,8 +10,8 @@ use Rattle.cgm_atom.specs.Narrowing.{made_true}
 use Rattle.cgm_search.specs.Storing.{IsSeenName}
 use Rattle.cgm_search.proofs.Keeping.{seen_longer}
 use Rattle.cgm_trail.specs.declared.changes.Change.{Change}
-use Rattle.cgm_trail.specs.Steps.{AreReasoned, AreSteps, IsStep}
-use Rattle.cgm_trail.specs.TrailState.{cut_to, is_decision, level_of}
+use Rattle.cgm_trail.specs.Steps.{AreReasoned, AreSteps}
+use Rattle.cgm_trail.specs.TrailState.{is_decision, level_of}
 use Rattle.cgm_trail.proofs.Propagating.{reasoned_by_more}
 
 -- reasons stay in a longer log

@@ -1,8 +1,8 @@
 -- Rows one after another, and a round over the store and all rows.
-use Rattle.std.proofs.Common.{◌≡◌, inl, inr, ℕ, zero, suc, ◌+◌, ◌<◌, ◌≤◌, List, [], ◌∷◌, length, get_or, refl, ap, sym, ◌∙◌, arith}
+use Rattle.std.proofs.Common.{◌≡◌, inl, inr, ℕ, zero, suc, ◌+◌, ◌≤◌, List, [], ◌∷◌, length, refl, arith}
 use Rattle.std.specs.Prelude.{IsSomeAnd, Result, Ok, Err, slice_get, Option, Some, None}
-use Rattle.std.specs.List.{All, AllWithin, Contains, HoldsAt}
-use Rattle.std.proofs.lemmas.List.Elements.{All-from_all_within, AllWithin-more, AllWithin-none}
+use Rattle.std.specs.List.{AllWithin, Contains, HoldsAt}
+use Rattle.std.proofs.lemmas.List.Elements.{AllWithin-more}
 use Rattle.cgm_atom.specs.declared.constraints.Row.{Row}
 use Rattle.cgm_atom.specs.declared.entries.Hint.{Hint}
 use Rattle.cgm_atom.specs.declared.entries.Hint.TheVariants as hint
@@ -16,7 +16,7 @@ use Rattle.cgm_clauses.specs.Standing.{IsFalseIn}
 use Rattle.cgm_clauses.specs.Sweeping.{AreQuiet}
 use Rattle.cgm_clauses.proofs.Steps.{left_is_less, trail_stays}
 use Rattle.cgm_linear.specs.Sweeping.{IsRowNumbered}
-use Rattle.cgm_search.specs.Settling.{AreRowsQuiet, IsOneRound, IsRoundEnd, IsRoundName, IsRowName, IsRowRound, IsQuietRound, IsSettled}
+use Rattle.cgm_search.specs.Settling.{AreRowsQuiet, IsOneRound, IsRoundName, IsRowName, IsRowRound}
 use Rattle.cgm_trail.specs.declared.changes.Swept.{Swept}
 use Rattle.cgm_trail.specs.declared.changes.Swept.TheVariants as swept
 use Rattle.cgm_trail.specs.Steps.{IsPropagated}

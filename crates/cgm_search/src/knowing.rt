@@ -16,7 +16,7 @@ use std::alloc::Global;
 const SHORT_LENGTH: usize = 8;
 
 /// A longer one is forgotten once so many entries have come after it.
-const KEPT_ENTRIES: usize = 4_000;
+const KEPT_ENTRIES: usize = 1_000;
 
 /// A copy of the problem, the entries of the log that were seen, and the store of clauses.
 #[derive(Debug, Drop)]

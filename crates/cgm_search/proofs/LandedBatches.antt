@@ -35,7 +35,7 @@ accepted_rest p log [] h = tt
 accepted_rest p log (e ∷ more) h = (
   IsAccepted-next p log e more h,
   subst (λ (s : LogState). IsAcceptedAfter p s more) (state_of-push log e)
-  (accepted_rest p (log ++ e ∷ []) more (subst (λ (xs : List Entry). IsAccepted p xs) (sym (append_assoc log (e ∷ []) more)) h)),
+      (accepted_rest p (log ++ e ∷ []) more (subst (λ (xs : List Entry). IsAccepted p xs) (sym (append_assoc log (e ∷ []) more)) h)),
 )
 
 -- ---- the list that lands

@@ -82,7 +82,7 @@ offered_on_ok (Ok x) old new b h same box point e known landed =
     inr (
       ready_traded old new h same known behind.still_open (longer p (seen old.known) (seen new.known) b landed),
       subst (λ (t : TrailState). (n : Named) × Contains (all_clauses new.known.store) n × IsFalseIn (box_of t) n.clause) (sym same.trail)
-      (some_part_false p (seen new.known) new.known.store (box_of old.trail) behind.last.best stored box point behind.last.last behind.last.behind),
+          (some_part_false p (seen new.known) new.known.store (box_of old.trail) behind.last.best stored box point behind.last.last behind.last.behind),
     ))
     (offered p (seen old.known) (seen new.known) old.by values (subst (λ (a : Batch). HasLanded p (seen old.known) a (seen new.known)) e landed))
 

@@ -214,10 +214,11 @@ not_quiet old new left left' (n, there, is_false) round quiet =
 pub outcome_of_cut : {E : Type 0} (old new : Search) (left left' : ℕ) (answer : Result Swept E) → IsReady old → HasFalseClause old → IsRoundOf old new left left' → IsSwept (box_of new.trail) (all_clauses old.known.store) left' answer → IfOk answer (IsCutOutcome new)
 outcome_of_cut old new left left' (Ok swept.Quiet) h behind round quiet = not_quiet old new left left' behind round quiet
 outcome_of_cut old new left left' (Ok (swept.Conflict by)) h behind round conflict =
-    rw round.same.known
-    (of_clause conflict.0.clause,
-    round_seen old.known.problem (seen old.known) old.known.store h.known.store by (of_clause conflict.0.clause) (inl (conflict.0, conflict.1, conflict.2, refl)),
-    conflict.3)
+    rw round.same.known (
+      of_clause conflict.0.clause,
+      round_seen old.known.problem (seen old.known) old.known.store h.known.store by (of_clause conflict.0.clause) (inl (conflict.0, conflict.1, conflict.2, refl)),
+      conflict.3,
+    )
 outcome_of_cut old new left left' (Ok swept.Spent) h behind round none = all_spent old new left left' h round none.0
 outcome_of_cut old new left left' (Err e) h behind round any = tt
 
@@ -263,7 +264,7 @@ pub need_decided : (old new : Search) (a : Atom) → new.plan ≡ old.plan → o
 need_decided old new a same room made =
     let moves : new.trail.moves ≡ old.trail.moves + 1 = ap (λ t. t.moves) made in
     let level : level_of new.trail.changes ≡ level_of old.trail.changes + 1 =
-        ap (λ t. level_of t.changes) made ∙ level_of-more old.trail.changes (change_of (box_of old.trail) a Decision) in
+    ap (λ t. level_of t.changes) made ∙ level_of-more old.trail.changes (change_of (box_of old.trail) a Decision) in
     let budget : new.plan.budget ≡ old.plan.budget = ap (λ p. p.budget) same in
     omega arith
 
@@ -312,7 +313,7 @@ need_jumped old new level a by same room earlier made =
     let moves : new.trail.moves ≡ old.trail.moves + 1 = ap (λ t. t.moves) made in
     let at : level_of (cut_to level old.trail.changes) ≡ level = level_cut level old.trail.changes (omega arith) in
     let now : level_of new.trail.changes ≡ level =
-        ap (λ t. level_of t.changes) made ∙ level_of-more (cut_to level old.trail.changes) (change_of (box_of (cut_trail level old.trail)) a (By by)) ∙ at in
+    ap (λ t. level_of t.changes) made ∙ level_of-more (cut_to level old.trail.changes) (change_of (box_of (cut_trail level old.trail)) a (By by)) ∙ at in
     let budget : new.plan.budget ≡ old.plan.budget = ap (λ p. p.budget) same in
     omega arith
 

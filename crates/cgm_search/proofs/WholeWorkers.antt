@@ -59,8 +59,8 @@ spent_few w h e valid large =
     let at : IsAt w (Some stopped.Spent) = subst (λ (o : Option Stopped). IsAt w o) e h.at in
     let all : w.trail.moves ≡ w.plan.budget = at.1 in
     let few : w.trail.moves < (w.plan.restarts + 1) * 2 ^ (slack w.problem.bounds + 1) =
-        subst (λ (p : Instance). w.trail.moves < (w.plan.restarts + 1) * 2 ^ (slack p.bounds + 1)) h.trail.problem
-        (moves_are_few w.trail w.plan.restarts valid h.trail.restarts) in
+    subst (λ (p : Instance). w.trail.moves < (w.plan.restarts + 1) * 2 ^ (slack p.bounds + 1)) h.trail.problem
+    (moves_are_few w.trail w.plan.restarts valid h.trail.restarts) in
     omega arith
 
 pub never_spent : (w : WorkerState) (answer : Stopped) (plan : Plan) (problem : Instance) → IsWorker w → w.ended ≡ Some answer → IsTrail w.trail → w.plan ≡ plan → w.problem ≡ problem → (plan.restarts + 1) * 2 ^ (slack problem.bounds + 1) ≤ plan.budget → answer ≢ stopped.Spent

@@ -15,7 +15,7 @@ use Rattle.cgm_search.specs.Storing.{IsSeenName}
 pub record IsTaken (k : Known) (c : Clause) : Type 0 where
   pub closing : c.atoms ≡ [] → IsClosed (seen k)
   pub placed :
-    IsClosed (seen k) ⊎ IsSeenName k.problem (seen_state k) (hint.Entry (length (seen k))) (of_clause c)
+      IsClosed (seen k) ⊎ IsSeenName k.problem (seen_state k) (hint.Entry (length (seen k))) (of_clause c)
 
 -- the last entry that was seen is a lemma that gives the atom
 abbrev pub IsGivenByLast : Known → Bounds → Atom → Type 0

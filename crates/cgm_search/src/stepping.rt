@@ -174,11 +174,7 @@ fn propagate_cut(s: &mut Search) -> Result<Swept, OutOfMemory>
 }
 
 /// Trades the values of the trail's box, which are a solution.
-fn offer<T: Trader, G: Gate>(
-    s: &mut Search,
-    trader: &mut T,
-    gate: &G,
-) -> Result<(), OutOfMemory>
+fn offer<T: Trader, G: Gate>(s: &mut Search, trader: &mut T, gate: &G) -> Result<(), OutOfMemory>
     requires ready { IsReady s.old }
     requires trader { IsTraderOf s.old (T.problem trader.old) (T.told trader.old) (T.number trader.old) }
     requires rest { IsAtRest s.old.known.problem (box_of s.old.trail) }

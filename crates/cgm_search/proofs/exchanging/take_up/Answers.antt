@@ -21,9 +21,9 @@ absorb_all-requires-in-Landed-2-clause-accepted c =
     let log : List Entry = seen c.args.known.now ++ c.in-Landed.news in
     let answer = rw c.in-Landed.is at c.requires.answer in
     let mid : seen c.absorb_all-in-Landed.new.known ≡ log =
-        c.in_ok-absorb_all-in-Landed.ensures.entries ∙ ap (λ (xs : List Entry). seen c.args.known.now ++ xs) c.as_slice-in-Landed.ensures in
+    c.in_ok-absorb_all-in-Landed.ensures.entries ∙ ap (λ (xs : List Entry). seen c.args.known.now ++ xs) c.as_slice-in-Landed.ensures in
     let landing : c.as_slice-in-Landed-2.result.now ≡ landed p log c.args.batch.now =
-        c.as_slice-in-Landed-2.ensures.value
-        ∙ landing_is p log c.args.batch.now c.in-Landed.first c.in-Landed.fate c.in_ok-landing-in-Landed.landing.items answer.0 answer.1 answer.2 c.in_ok-landing-in-Landed.ensures in
+    c.as_slice-in-Landed-2.ensures.value
+    ∙ landing_is p log c.args.batch.now c.in-Landed.first c.in-Landed.fate c.in_ok-landing-in-Landed.landing.items answer.0 answer.1 answer.2 c.in_ok-landing-in-Landed.ensures in
     rw c.absorb_all-in-Landed.ensures.problem
     (landing_accepted p log (seen c.absorb_all-in-Landed.new.known) c.as_slice-in-Landed-2.result.now c.args.batch.now mid landing (rw c.in-Landed.is at c.requires.accepted))

@@ -15,5 +15,5 @@ jump-requires-clause-given g c = (
   c.in_ok-learned.learned.clause,
   open_placed c.trade_lemma.new.known c.in_ok-learned.learned.clause c.in_ok-trade_lemma.ensures.taken (sym c.is_closed.ensures ∙ c.if-is_closed.false),
   given_after_cut c.args.s.now.trail c.in_ok-learned.learned c.in-Some.a (even_cut c.args.s.now c.in_ok-learned.learned.level c.requires.ready) c.in_ok-learned.ensures.unit
-  (c.in-Some.ensures.last.0, sym c.as_slice.ensures ∙ c.in-Some.ensures.last.1),
+      (c.in-Some.ensures.last.0, sym c.as_slice.ensures ∙ c.in-Some.ensures.last.1),
 )

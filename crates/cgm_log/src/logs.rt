@@ -78,21 +78,6 @@ impl Log {
         self.entries.as_slice()
     }
 
-    /// Gives the entries. Takes no memory.
-    pub fn into_entries(self) -> Vec<Entry>
-        ensures entries { result.items ≡ self.entries }
-        ensures valid { IsLog self }
-    {
-        self.recall_log();
-        let Log {
-            alloc: _,
-            problem: _,
-            entries,
-            index: _,
-        } = self;
-        entries
-    }
-
     /// The entries with their index.
     pub fn indexed(&self) -> IndexedLog<'_>
         ensures state { result ≡ state_of self.now.entries }

@@ -1,5 +1,5 @@
 -- Laws over the definitions: what the lines of a found realization show.
-use Rattle.std.specs.Prelude.{◌≡◌, ◌×◌, List}
+use Rattle.std.specs.Prelude.{◌≡◌, List}
 use Rattle.cgm_model.specs.declared.lists.Lists.{Lists}
 use Rattle.cgm_evolve.specs.Pairs.{Pair}
 use Rattle.cgm_obj.specs.Vector.{vector_of}

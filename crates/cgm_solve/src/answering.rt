@@ -3,6 +3,7 @@ ghost use Rattle.std.specs.Prelude.{◌≡◌, IfOk};
 ghost use Rattle.cgm_solve.specs.Readings.{ReadsLastBest};
 ghost use Rattle.cgm_solve.specs.Runs.{IsExhausted, IsTold, closed_answer};
 
+use crate::copies::copy_entries;
 use crate::reading::read;
 use crate::running::Ended;
 use cgm_atom::{Entry, OutOfMemory, Seq};
@@ -29,13 +30,13 @@ pub(crate) fn tell(
         stopped,
     } = ended;
     let best = read_last_best(alloc, encoded, &log)?;
-    let closed = log.closed();
-    let entries = Seq::of(log.into_entries());
-    if closed {
+    let entries = copy_entries(alloc, log.entries())?;
+    if log.closed() {
         return Ok(closed_answer(best, entries));
     }
     match stopped {
         Stopped::Spent => exhausted(alloc, best, entries, trail, work),
+        // A worker ends so only where the log is closed.
         Stopped::Final => Err(OutOfMemory),
         Stopped::Memory => Err(OutOfMemory),
     }

@@ -2,6 +2,7 @@
 #![tactic(auto)]
 
 mod answering;
+mod copies;
 mod encoding;
 mod reading;
 mod running;

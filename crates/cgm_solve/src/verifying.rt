@@ -5,6 +5,7 @@ ghost use Rattle.cgm_atom.specs.Instance.{IsSolution};
 ghost use Rattle.cgm_solve.specs.Answers.{IsVerifyAnswer, IsVerified};
 ghost use Rattle.cgm_solve.specs.Readings.{ForEncoded, ReadsBest};
 
+use crate::copies::copy_entries;
 use crate::encoding::encode_model;
 use crate::reading::read;
 use cgm_atom::{BadStep, Entry, OutOfMemory, Seq};
@@ -88,14 +89,4 @@ fn read_best(
             Ok(Some(found))
         }
     }
-}
-
-fn copy_entries(alloc: Global, entries: &[Entry]) -> Result<Seq<Entry>, OutOfMemory>
-    ensures { IfOk result (λ copies. copies ≡ entries.now) }
-{
-    let mut copies = Vec::new(alloc);
-    for entry in entries {
-        copies.push(entry.copy(alloc)?)?;
-    }
-    Ok(Seq::of(copies))
 }

@@ -278,7 +278,7 @@ abbrev pub HasInputOutcome : (Lists → List ℕ → List Pair → Printing → 
 HasInputOutcome HasModelOutcome name file shelf sink status =
     HasNoInput name file shelf sink status
     ⊎ ((m : Lists) × (rule_lines : List ℕ) × (earlier : List Pair) × (
-      IsInputOf shelf name file m rule_lines earlier × HasModelOutcome m rule_lines earlier sink status
+    IsInputOf shelf name file m rule_lines earlier × HasModelOutcome m rule_lines earlier sink status
     ))
 
 -- ---- the outcome for the words

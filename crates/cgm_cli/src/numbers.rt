@@ -48,12 +48,7 @@ fn number_in(least: u64, greatest: u64, text: &str) -> Option<u64>
 }
 
 /// The same of a text that may be left out, which then stands for the default.
-pub(crate) fn number_or(
-    least: u64,
-    greatest: u64,
-    default: u64,
-    text: Option<&str>,
-) -> Option<u64>
+pub(crate) fn number_or(least: u64, greatest: u64, default: u64, text: Option<&str>) -> Option<u64>
     requires { default ≤ greatest }
     ensures number { result ≡ number_or least greatest default (option_map (λ t. t.now) text.entry) }
     ensures within { IfSome result (λ number. number ≤ greatest) }

@@ -1,4 +1,4 @@
-use Rattle.std.proofs.Common.{◌≡◌, ◌<◌, ◌^◌, true, false, Ok, Err, rules}
+use Rattle.std.proofs.Common.{◌≡◌, ℕ, ◌<◌, ◌^◌, true, false, Ok, Err, rules}
 use Rattle.cgm_cli.specs.Numbers.{is_between, is_numeral}
 use Rattle.cgm_cli.proofs.Numerals.{no_numeral, not_within, parsed, too_great, within}
 use Rattle.cgm_cli.proofs.numbers.number_in.Goals as goal
@@ -14,7 +14,7 @@ returns-then-is_between-clause-number c =
     let number = c.in-Ok.number in
     let numeral : is_numeral text ≡ true = search rules in
     let between : is_between c.args.least c.args.greatest number ≡ true = search rules in
-    within c.args.least c.args.greatest number text numeral (parsed text (Ok number) numeral c.in-Ok.ensures.value.0).1 between
+    within c.args.least c.args.greatest number text numeral (parsed {E = ℕ} text (Ok number) numeral c.in-Ok.ensures.value.0).1 between
 
 pub returns-else-is_between-clause-number : goal.returns-else-is_between-clause-number
 returns-else-is_between-clause-number c =
@@ -22,7 +22,7 @@ returns-else-is_between-clause-number c =
     let number = c.in-Ok.number in
     let numeral : is_numeral text ≡ true = search rules in
     let fails : is_between c.args.least c.args.greatest number ≡ false = search rules in
-    not_within c.args.least c.args.greatest number text (parsed text (Ok number) numeral c.in-Ok.ensures.value.0).1 fails
+    not_within c.args.least c.args.greatest number text (parsed {E = ℕ} text (Ok number) numeral c.in-Ok.ensures.value.0).1 fails
 
 pub returns-in-Err-clause-number : goal.returns-in-Err-clause-number
 returns-in-Err-clause-number c =

@@ -19,7 +19,10 @@ fn numbers_in_range(rt: HostRuntime) -> Result<(), Fail> {
     ];
     for option in options {
         let ended = run_words(rt.alloc(), &["solve", option, "model.cgm"], FIRST)?;
-        assert!(rt; has_answered(&ended, Status::Done, FIRST_REPORT), "at {option}");
+        assert!(rt;
+            has_answered(&ended, Status::Done, FIRST_REPORT),
+            "at {option}"
+        );
     }
     Ok(())
 }
@@ -36,7 +39,10 @@ fn numbers_out_of_range(rt: HostRuntime) -> Result<(), Fail> {
     ];
     for option in options {
         let ended = run_words(rt.alloc(), &["solve", "model.cgm", option], FIRST)?;
-        assert!(rt; has_answered(&ended, Status::Usage, "fault usage\n"), "at {option}");
+        assert!(rt;
+            has_answered(&ended, Status::Usage, "fault usage\n"),
+            "at {option}"
+        );
     }
     Ok(())
 }
@@ -57,7 +63,10 @@ fn no_numbers(rt: HostRuntime) -> Result<(), Fail> {
     ];
     for option in options {
         let ended = run_words(rt.alloc(), &["solve", "model.cgm", option], FIRST)?;
-        assert!(rt; has_answered(&ended, Status::Usage, "fault usage\n"), "at {option}");
+        assert!(rt;
+            has_answered(&ended, Status::Usage, "fault usage\n"),
+            "at {option}"
+        );
     }
     Ok(())
 }
@@ -66,7 +75,10 @@ fn no_numbers(rt: HostRuntime) -> Result<(), Fail> {
 fn options_twice(rt: HostRuntime) -> Result<(), Fail> {
     for option in ["--workers=2", "--budget=2", "--restarts=2", "--seed=2"] {
         let ended = run_words(rt.alloc(), &["solve", "model.cgm", option, option], FIRST)?;
-        assert!(rt; has_answered(&ended, Status::Usage, "fault usage\n"), "at {option}");
+        assert!(rt;
+            has_answered(&ended, Status::Usage, "fault usage\n"),
+            "at {option}"
+        );
     }
     Ok(())
 }
@@ -75,7 +87,10 @@ fn options_twice(rt: HostRuntime) -> Result<(), Fail> {
 fn options_of_other_commands(rt: HostRuntime) -> Result<(), Fail> {
     for command in ["show", "encode"] {
         let ended = run_words(rt.alloc(), &[command, "model.cgm", "--seed=1"], FIRST)?;
-        assert!(rt; has_answered(&ended, Status::Usage, "fault usage\n"), "at {command}");
+        assert!(rt;
+            has_answered(&ended, Status::Usage, "fault usage\n"),
+            "at {command}"
+        );
     }
     Ok(())
 }

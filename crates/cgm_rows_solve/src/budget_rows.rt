@@ -8,7 +8,8 @@ fn exhausted(rt: HostRuntime) -> Result<(), Fail> {
     let words = ["solve", "model.cgm", "--budget=0"];
     let ended = run_words(rt.alloc(), &words, FIRST)?;
     assert_eq!(rt; (ended.status, ended.status.code()), (Status::Open, 7));
-    assert!(rt; ended.sink.written() == b"exhausted\nspent 0 0\nbest none\n");
+    let report = "exhausted\nspent 0 0\nbest none\n";
+    assert!(rt; ended.sink.written() == report.as_bytes());
     Ok(())
 }
 

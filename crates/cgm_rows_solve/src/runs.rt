@@ -10,6 +10,7 @@ pub(crate) const FIRST: &str = "cgm 1\ngoal G must\ntask T\nrefine R G : T\n";
 pub(crate) const FIRST_REPORT: &str = "realized\ngoal G true\ntask T true\nrefine R true\n";
 
 /// How a run ended, what it printed, and the trails that it left.
+#[derive(Drop)]
 pub(crate) struct Ended {
     pub(crate) status: Status,
     pub(crate) sink: MemSink,

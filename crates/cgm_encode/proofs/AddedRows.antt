@@ -49,9 +49,9 @@ none_left : (variables : List ℕ) (expressions : List Expression) (i : ℕ) →
 none_left variables expressions i past =
     ap (λ (es : List Expression). rows_of (drop i variables) es) (drop_all i expressions past) ∙ empty (drop i variables)
   where
-  empty : (vs : List ℕ) → rows_of vs [] ≡ []
-  empty [] = refl
-  empty (v ∷ vs) = refl
+    empty : (vs : List ℕ) → rows_of vs [] ≡ []
+    empty [] = refl
+    empty (v ∷ vs) = refl
 
 pub rows_end : (old p : Instance) (variables : List ℕ) (expressions : List Expression) (i : ℕ) → length expressions ≤ i → AreRowsLeft old variables expressions i p → p ≡ with_rows old (rows_of variables expressions)
 rows_end old p variables expressions i past far =

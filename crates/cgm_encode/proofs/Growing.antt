@@ -72,7 +72,7 @@ ranged_rows m a zero n e = refl
 ranged_rows m a (suc k) n e =
     let next : n + 1 ≡ truth_variables m + length m.vars + (a + 1) = omega arith in
     ap (λ (v : ℕ). total_rows (truth_variables m) (sum_total m a) v
-        ++ flat_map defining_rows (enumerate_from (n + 1) (map (λ sum. expression_of (truth_variables m) (sum_total m sum)) (range_with_len (a + 1) k)))) e
+    ++ flat_map defining_rows (enumerate_from (n + 1) (map (λ sum. expression_of (truth_variables m) (sum_total m sum)) (range_with_len (a + 1) k)))) e
     ∙ ap (λ (rows : List Row). total_rows (truth_variables m) (sum_total m a) (number_variable m (number.Sum a)) ++ rows) (ranged_rows m (a + 1) k (n + 1) next)
 
 pub numbers_grown : (m : Lists) → with_defined (graph_instance m) (sum_expressions m) ≡ numbers_instance m
@@ -81,8 +81,8 @@ numbers_grown m =
     let n = var_count (graph_instance m) in
     let count : n ≡ truth_variables m + length m.vars + 0 = own_count m ∙ (let e : truth_variables m + length m.vars ≡ truth_variables m + length m.vars + 0 = omega arith in e) in
     ap (λ (bounds : Bounds). record { bounds = bounds; clauses = graph_clauses m; rows = flat_map defining_rows (enumerate_from n (sum_expressions m)); objectives = [] })
-        (sym (box_joined (own_ranges m) (map (expression_range b) (sum_expressions m)))
-        ∙ ap (λ (rs : List Range). box_of (own_ranges m ++ rs)) (twice (expression_range b) (λ sum. expression_of (truth_variables m) (sum_total m sum)) (range_with_len 0 (length m.sums))))
+    (sym (box_joined (own_ranges m) (map (expression_range b) (sum_expressions m)))
+    ∙ ap (λ (rs : List Range). box_of (own_ranges m ++ rs)) (twice (expression_range b) (λ sum. expression_of (truth_variables m) (sum_total m sum)) (range_with_len 0 (length m.sums))))
     ∙ ap (λ (rows : List Row). record { bounds = box_of (number_ranges m); clauses = graph_clauses m; rows = rows; objectives = [] }) (ranged_rows m 0 (length m.sums) n count)
 
 pub numbers_count : (m : Lists) → var_count (numbers_instance m) ≡ model_variables m
@@ -153,6 +153,6 @@ objectives_grown m pairs variables are =
       rows = before ++ flat_map defining_rows (enumerate_from (var_count (choices_instance m)) (objective_expressions m pairs));
       objectives = objectives_of variables;
     }) (sym (box_joined (choice_ranges m) (map (expression_range b) (objective_expressions m pairs)))
-        ∙ ap (λ (rs : List Range). box_of (choice_ranges m ++ rs)) (twice (expression_range b) f m.objectives))
+    ∙ ap (λ (rs : List Range). box_of (choice_ranges m ++ rs)) (twice (expression_range b) f m.objectives))
     ∙ ap (λ (rows : List Row). record { bounds = box_of (all_ranges m pairs); clauses = clauses; rows = before ++ rows; objectives = objectives_of variables }) rows_are
     ∙ ap (λ (vs : List ℕ). record { bounds = box_of (all_ranges m pairs); clauses = clauses; rows = before ++ objective_rows m pairs; objectives = objectives_of vs }) own

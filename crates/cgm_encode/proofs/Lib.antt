@@ -19,6 +19,7 @@ pub mod Lines
 pub mod Meanings
 pub mod Measured
 pub mod MeasuredTotals
+pub mod PairedPlaces
 pub mod PreferenceTruths
 pub mod ProblemRows
 pub mod ProblemSizes
@@ -30,8 +31,8 @@ pub mod Shares
 pub mod SharesBySum
 pub mod SharesSoFar
 pub mod SignedShares
+pub mod TellingSteps
 pub mod ToldRules
-pub mod ToldSteps
 pub mod ToldValues
 pub mod TotalRows
 pub mod TotalSums

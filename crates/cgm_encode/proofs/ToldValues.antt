@@ -1,8 +1,8 @@
 -- The values of naming variables by their definitions are the truths of the nodes that they stand for.
-use Rattle.std.proofs.Common.{◌≡◌, ℕ, ◌+◌, ◌<◌, ◌≤◌, Bool, true, false, cond, not, ◌&&◌, ◌||◌, List, [], ◌∷◌, ◌++◌, length, map, refl, sym, ap, ◌∙◌, subst, arith}
+use Rattle.std.proofs.Common.{◌≡◌, ℕ, ◌+◌, ◌<◌, ◌≤◌, Bool, true, false, not, ◌&&◌, ◌||◌, List, [], ◌∷◌, ◌++◌, length, map, refl, sym, ap, ◌∙◌, subst, arith}
 use Rattle.std.specs.Prelude.{ℤ, pos, int_le}
 use Rattle.std.specs.List.{All, AllByRecursion, list_all, list_any}
-use Rattle.std.proofs.lemmas.List.{append-nil, append_assoc, get_or_push, length-append, length_push, map-append}
+use Rattle.std.proofs.lemmas.List.{append-nil, append_assoc, get_or_push, length_push, map-append}
 use Rattle.std.proofs.lemmas.List.Elements.{All-cons, All-nil, All-weaker, recursion_from_All}
 use Rattle.std.proofs.lemmas.List.Folds.{list_all-map}
 use Rattle.cgm_atom.specs.Bounds.{value_of}
@@ -16,16 +16,16 @@ use Rattle.cgm_formula.specs.declared.formula.Truth.{Truth}
 use Rattle.cgm_formula.specs.declared.formula.Truth.TheVariants as truths
 use Rattle.cgm_formula.specs.Nodes.{comparisons, comparisons_step, names as names_of, names_step}
 use Rattle.cgm_formula.specs.Truth.{linear_value, same_truth, truth, truth_step}
-use Rattle.cgm_formula.proofs.Comparisons.{of_at_least, of_at_most, of_conjunction, of_disjunction, of_equality, of_equivalence, of_implication, of_negation}
+use Rattle.cgm_formula.proofs.Comparisons.{of_conjunction, of_disjunction, of_equality, of_equivalence, of_implication, of_negation}
 use Rattle.cgm_formula.proofs.Folds.{fold-And, fold-AtLeast, fold-AtMost, fold-Equal, fold-Iff, fold-Implies, fold-Name, fold-Not, fold-Or}
-use Rattle.cgm_formula.proofs.Induction.{Cases, by_cases}
+use Rattle.cgm_formula.proofs.Induction.{by_cases}
 use Rattle.cgm_formula.proofs.Truths.{list_any-map, truth-And, truth-Or}
 use Rattle.cgm_model.specs.declared.lists.Lists.{Lists}
 use Rattle.cgm_model.specs.Formulas.{IsKnownNumber, IsKnownTruth}
 use Rattle.cgm_enc_formula.specs.Definitions.{AreDefined, AreDefinitionsFrom, Definition, all_of, any_of, at_least, at_most, definition_true, same_as}
 use Rattle.cgm_enc_formula.specs.Laws.{extended}
 use Rattle.cgm_enc_formula.specs.Literals.{literal_true, opposite, positive}
-use Rattle.cgm_enc_formula.specs.Naming.{Named, Naming, defined, equal_definitions, naming, naming_step, parts_named}
+use Rattle.cgm_enc_formula.specs.Naming.{Named, Naming, defined, naming, naming_step, parts_named}
 use Rattle.cgm_enc_formula.specs.Terms.{model_variables, number_variable, row_terms}
 use Rattle.cgm_enc_formula.proofs.Agreement.{truth_agrees}
 use Rattle.cgm_enc_formula.proofs.Extending.{extended_defined, extended_keeps}
@@ -33,7 +33,7 @@ use Rattle.cgm_enc_formula.proofs.NamingKnown.{HasTerms, naming_known}
 use Rattle.cgm_enc_formula.proofs.NamingTruths.{literal_is_truth, names_at, numbers_at}
 use Rattle.cgm_enc_formula.proofs.Splits.{names_of_conjunction, names_of_disjunction, names_of_equivalence, names_of_implication, names_of_negation}
 use Rattle.cgm_enc_graph.specs.Assignments.{truth_at}
-use Rattle.cgm_enc_graph.specs.Literals.{truth_variables, variable_of}
+use Rattle.cgm_enc_graph.specs.Literals.{variable_of}
 use Rattle.cgm_encode.specs.Assignments.{bit}
 use Rattle.cgm_encode.specs.Telling.{Told, all_truths, told, told_step, telling}
 
@@ -170,7 +170,7 @@ module _ (m : Lists) (names : Truth → Bool) (numbers : Number → ℤ) where
       let long : length before ≡ n + length ds = extended_length values ds in
       let at : value_of all (n + length ds) ≡ bit t =
       ap (λ (vs : List ℤ). value_of vs (n + length ds)) (extended_append values ds (d ∷ []))
-      ∙ get_or_push before (bit t) (pos 0) (n + length ds) (sym long) in
+      ∙ get_or_push before (bit t) (pos 0) (n + length ds) long in
       let own : truth_at all (n + length ds) ≡ t = ap (λ (z : ℤ). int_le (pos 1) z) at ∙ bit_truth t in
       let says_so : literal_true all (naming m f n).literal ≡ truth (names_at m all) (numbers_at m all) f = literal_is_truth m all f n named in
       let later = reads_extended values (ds ++ d ∷ []) reads in
@@ -178,10 +178,10 @@ module _ (m : Lists) (names : Truth → Bool) (numbers : Number → ℤ) where
       ∙ ap (λ (named : Named). literal_true all named.literal) (sym is)
       ∙ says_so
       ∙ truth_agrees (names_at m all) names (numbers_at m all) numbers f
-          (All-weaker (IsKnownTruth m) (λ x. names_at m all x ≡ names x) (λ x h. later.names_are x h) (names_of f) readable.names_known)
-          (All-weaker KnowsTerms (λ c. All (λ t. numbers_at m all t.1 ≡ numbers t.1) c.0.terms)
-          (λ c h. All-weaker (λ t. IsKnownNumber m t.1) (λ t. numbers_at m all t.1 ≡ numbers t.1) (λ t k. later.numbers_are t.1 k) c.0.terms h.1)
-          (comparisons f) readable.terms_known)
+      (All-weaker (IsKnownTruth m) (λ x. names_at m all x ≡ names x) (λ x h. later.names_are x h) (names_of f) readable.names_known)
+      (All-weaker KnowsTerms (λ c. All (λ t. numbers_at m all t.1 ≡ numbers t.1) c.0.terms)
+      (λ c h. All-weaker (λ t. IsKnownNumber m t.1) (λ t. numbers_at m all t.1 ≡ numbers t.1) (λ t k. later.numbers_are t.1 k) c.0.terms h.1)
+      (comparisons f) readable.terms_known)
 
   -- ---- by the kind of formula
 

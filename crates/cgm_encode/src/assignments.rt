@@ -1,5 +1,5 @@
 //! Decoding values.
-ghost use Rattle.std.specs.Prelude.{◌≡◌, ◌+◌, ◌<◌, ◌^◌, map, IfOk};
+ghost use Rattle.std.specs.Prelude.{◌≡◌, ◌+◌, ◌<◌, ◌^◌, ◌++◌, ◌∷◌, [], map, IfOk, OnOk};
 ghost use Rattle.std.specs.List.{range_with_len};
 ghost use Rattle.cgm_atom.specs.Bounds.{value_of as value_in};
 ghost use Rattle.cgm_atom.specs.Instance.{IsSolution};
@@ -65,9 +65,16 @@ fn numbers(
 {
     let mut numbers = Vec::with_capacity(alloc, count)?;
     for x in 0..count {
-        numbers.push(value_of(values, from + x))?;
+        push_value(&mut numbers, values, from + x)?;
     }
     Ok(numbers)
+}
+
+fn push_value(out: &mut Vec<i64>, values: &[i64], x: usize) -> Result<(), OutOfMemory>
+    ensures { OnOk result (out.new.items ≡ out.old.items ++ value_in values.now x ∷ []) }
+{
+    out.push(value_of(values, x))?;
+    Ok(())
 }
 
 fn truth_at(values: &[i64], x: usize) -> bool

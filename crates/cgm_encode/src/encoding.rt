@@ -55,12 +55,7 @@ pub fn encode(alloc: Global, m: &Model, e: &Earlier) -> Result<Encoded, EncodeSt
 }
 
 /// Adds all of the problem.
-fn build(
-    alloc: Global,
-    b: &mut ProblemBuilder,
-    m: &Model,
-    e: &Earlier,
-) -> Result<(), EncodeStop>
+fn build(alloc: Global, b: &mut ProblemBuilder, m: &Model, e: &Earlier) -> Result<(), EncodeStop>
     requires { b.old ≡ empty_instance }
     ensures { IsBuildAnswer (lists_of m.now) e.now.pairs b.new result }
 {
@@ -71,12 +66,7 @@ fn build(
 }
 
 /// Adds what stands behind the sums.
-fn add_rest(
-    alloc: Global,
-    b: &mut ProblemBuilder,
-    m: &Model,
-    e: &Earlier,
-) -> Result<(), EncodeStop>
+fn add_rest(alloc: Global, b: &mut ProblemBuilder, m: &Model, e: &Earlier) -> Result<(), EncodeStop>
     requires { b.old ≡ numbers_instance (lists_of m.now) }
     ensures { IsBuildAnswer (lists_of m.now) e.now.pairs b.new result }
 {
@@ -99,11 +89,7 @@ fn add_numbers(alloc: Global, b: &mut ProblemBuilder, m: &Model) -> Result<(), O
 }
 
 /// The variables of elements, refinements and variables.
-fn add_own_variables(
-    alloc: Global,
-    b: &mut ProblemBuilder,
-    m: &Model,
-) -> Result<(), OutOfMemory>
+fn add_own_variables(alloc: Global, b: &mut ProblemBuilder, m: &Model) -> Result<(), OutOfMemory>
     requires { b.old ≡ empty_instance }
     ensures { OnOk result (b.new ≡ own_instance (lists_of m.now)) }
 {

@@ -94,10 +94,7 @@ fn push_nonzero(terms: &mut Vec<(i64, Var)>, number: i64, x: u32) -> Result<(), 
 }
 
 /// Each coefficient with its sign changed.
-pub(crate) fn negative(
-    alloc: Global,
-    terms: &[(i64, Var)],
-) -> Result<Vec<(i64, Var)>, OutOfMemory>
+pub(crate) fn negative(alloc: Global, terms: &[(i64, Var)]) -> Result<Vec<(i64, Var)>, OutOfMemory>
     requires { All (λ t. unsigned_abs t.0 < 2 ^ 63) terms.now }
     ensures { IfOk result (λ negated. negated.items ≡ negative_of terms.now) }
 {

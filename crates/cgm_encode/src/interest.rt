@@ -94,11 +94,7 @@ fn was_true(earlier: Option<bool>) -> bool
 }
 
 /// The leaf tasks of interest that weren't true.
-pub(crate) fn possible_work(
-    alloc: Global,
-    m: &Model,
-    e: &Earlier,
-) -> Result<Vec<u32>, OutOfMemory>
+pub(crate) fn possible_work(alloc: Global, m: &Model, e: &Earlier) -> Result<Vec<u32>, OutOfMemory>
     ensures { IfOk result (λ tasks. tasks.items ≡ quantities.possible_work (lists_of m.now) e.now.pairs) }
 {
     let targets = target_marks(alloc, m)?;

@@ -1,5 +1,5 @@
 //! The clauses of preferences.
-ghost use Rattle.std.specs.Prelude.{◌≡◌, ◌+◌, ◌<◌, ◌≤◌, ◌^◌, length, flat_map, All, OnOk};
+ghost use Rattle.std.specs.Prelude.{◌≡◌, ◌+◌, ◌<◌, ◌≤◌, length, flat_map, slice_index_or, All, OnOk};
 ghost use Rattle.std.specs.List.{zip};
 ghost use Rattle.cgm_model.specs.Model.{lists_of};
 ghost use Rattle.cgm_model.specs.Statement.{IsPreference};
@@ -26,9 +26,16 @@ pub(crate) fn add_preferences(
     ensures { OnOk result (b.new ≡ with_written b.old (flat_map (preference_clauses (lists_of m.now)) (zip variables.now prefers.now))) }
 {
     for (place, p) in prefers.iter().enumerate() {
-        add_preference(alloc, b, m, variables[place], p)?;
+        add_preference(alloc, b, m, variable_at(variables, place), p)?;
     }
     Ok(())
+}
+
+fn variable_at(variables: &[u32], place: usize) -> u32
+    requires { place < length variables.now }
+    ensures { result ≡ slice_index_or variables.now place 0 }
+{
+    variables[place]
 }
 
 /// Of a preference A B with variable u: `~u ~A`, `~u B`, `u A ~B`.

@@ -194,10 +194,7 @@ fn rewards(m: &Model) -> &[Weighing]
     m.rewards.as_slice()
 }
 
-fn push_penalties(
-    shares: &mut Vec<(i64, u32)>,
-    penalties: &[Weighing],
-) -> Result<(), OutOfMemory>
+fn push_penalties(shares: &mut Vec<(i64, u32)>, penalties: &[Weighing]) -> Result<(), OutOfMemory>
     ensures { OnOk result (shares.new.items ≡ shares.old.items ++ map (λ w. (w.k, w.element)) penalties.now) }
 {
     for w in penalties {

@@ -66,11 +66,7 @@ fn with_first(
 
 /// Adds a row without a guard. Where the row's measure passes its limit, which that of no sum and
 /// no objective of a model does, the answer is as for want of memory.
-fn add_row(
-    b: &mut ProblemBuilder,
-    terms: Vec<(i64, Var)>,
-    least: i64,
-) -> Result<(), OutOfMemory>
+fn add_row(b: &mut ProblemBuilder, terms: Vec<(i64, Var)>, least: i64) -> Result<(), OutOfMemory>
     requires terms { AreTermsOf (var_count b.old) terms.items }
     requires room { length b.old.rows < 2 ^ 32 - 1 }
     ensures { OnOk result (b.new ≡ with_row b.old (row_of terms.items least)) }

@@ -62,34 +62,29 @@ fn push_formula(
         }
         Formula::And(parts) => {
             let truths = push_each(alloc, out, a, sums, parts.as_slice())?;
-            let all = push_bit(out, are_all_true(truths.as_slice()))?;
-            Ok(all)
+            push_all(out, truths)
         }
         Formula::Or(parts) => {
             let truths = push_each(alloc, out, a, sums, parts.as_slice())?;
-            let some = push_bit(out, is_one_true(truths.as_slice()))?;
-            Ok(some)
+            push_any(out, truths)
         }
         Formula::Implies(premise, conclusion) => {
-            let premise = push_formula(alloc, out, a, sums, premise.get())?;
-            let conclusion = push_formula(alloc, out, a, sums, conclusion.get())?;
-            let holds = push_bit(out, follows(premise, conclusion))?;
-            Ok(holds)
+            let first = push_formula(alloc, out, a, sums, premise.get())?;
+            let second = push_formula(alloc, out, a, sums, conclusion.get())?;
+            push_implication(out, first, second)
         }
         Formula::Iff(one, other) => {
-            let one = push_formula(alloc, out, a, sums, one.get())?;
-            let other = push_formula(alloc, out, a, sums, other.get())?;
-            let same = push_bit(out, agree(one, other))?;
-            Ok(same)
+            let first = push_formula(alloc, out, a, sums, one.get())?;
+            let second = push_formula(alloc, out, a, sums, other.get())?;
+            push_equivalence(out, first, second)
         }
         Formula::AtMost(linear, k) => push_bit(out, is_at_most(linear, a, sums, *k)),
         Formula::AtLeast(linear, k) => push_bit(out, is_at_least(linear, a, sums, *k)),
-        Formula::Equal(linear, k) => {
-            let most = push_bit(out, is_at_most(linear, a, sums, *k))?;
-            let least = push_bit(out, is_at_least(linear, a, sums, *k))?;
-            let both = push_bit(out, are_both_true(most, least))?;
-            Ok(both)
-        }
+        Formula::Equal(linear, k) => push_equality(
+            out,
+            is_at_most(linear, a, sums, *k),
+            is_at_least(linear, a, sums, *k),
+        ),
     }
 }
 
@@ -108,9 +103,70 @@ fn push_each(
 {
     let mut truths = Vec::new(alloc);
     for part in parts {
-        truths.push(push_formula(alloc, out, a, sums, part)?)?;
+        let holds = push_formula(alloc, out, a, sums, part)?;
+        truths.push(holds)?;
     }
     Ok(truths)
+}
+
+/// Adds and answers whether all are true.
+fn push_all(out: &mut Vec<i64>, truths: Vec<bool>) -> Result<bool, OutOfMemory>
+    ensures says { IfOk result (λ t. t ≡ list_all (λ t. t) truths.items) }
+    ensures added { OnOk result (out.new.items ≡ out.old.items ++ bit_of (list_all (λ t. t) truths.items) ∷ []) }
+{
+    push_bit(out, are_all_true(truths.as_slice()))
+}
+
+/// Adds and answers whether one is true.
+fn push_any(out: &mut Vec<i64>, truths: Vec<bool>) -> Result<bool, OutOfMemory>
+    ensures says { IfOk result (λ t. t ≡ list_any (λ t. t) truths.items) }
+    ensures added { OnOk result (out.new.items ≡ out.old.items ++ bit_of (list_any (λ t. t) truths.items) ∷ []) }
+{
+    push_bit(out, is_one_true(truths.as_slice()))
+}
+
+/// Adds and answers whether the second is true where the first is.
+fn push_implication(out: &mut Vec<i64>, first: bool, second: bool) -> Result<bool, OutOfMemory>
+    ensures says { IfOk result (λ t. t ≡ (not first || second)) }
+    ensures added { OnOk result (out.new.items ≡ out.old.items ++ bit_of (not first || second) ∷ []) }
+{
+    push_bit(out, implies(first, second))
+}
+
+/// Adds and answers whether both are true or neither.
+fn push_equivalence(out: &mut Vec<i64>, first: bool, second: bool) -> Result<bool, OutOfMemory>
+    ensures says { IfOk result (λ t. t ≡ same_truth first second) }
+    ensures added { OnOk result (out.new.items ≡ out.old.items ++ bit_of (same_truth first second) ∷ []) }
+{
+    push_bit(out, is_same(first, second))
+}
+
+/// Adds two truths and whether both are true, and answers that.
+fn push_equality(out: &mut Vec<i64>, most: bool, least: bool) -> Result<bool, OutOfMemory>
+    ensures says { IfOk result (λ t. t ≡ (most && least)) }
+    ensures added { OnOk result (out.new.items ≡ ((out.old.items ++ bit_of most ∷ []) ++ bit_of least ∷ []) ++ bit_of (most && least) ∷ []) }
+{
+    push_bit(out, most)?;
+    push_bit(out, least)?;
+    push_bit(out, are_both(most, least))
+}
+
+fn implies(first: bool, second: bool) -> bool
+    ensures { result ≡ (not first || second) }
+{
+    !first || second
+}
+
+fn is_same(first: bool, second: bool) -> bool
+    ensures { result ≡ same_truth first second }
+{
+    first == second
+}
+
+fn are_both(first: bool, second: bool) -> bool
+    ensures { result ≡ (first && second) }
+{
+    first && second
 }
 
 /// Adds 1 for true and 0 for false, and answers the truth.
@@ -126,24 +182,6 @@ fn bit(truth: bool) -> i64
     ensures { result ≡ bit_of truth }
 {
     if truth { 1 } else { 0 }
-}
-
-fn follows(premise: bool, conclusion: bool) -> bool
-    ensures { result ≡ (not premise || conclusion) }
-{
-    !premise || conclusion
-}
-
-fn agree(one: bool, other: bool) -> bool
-    ensures { result ≡ same_truth one other }
-{
-    one == other
-}
-
-fn are_both_true(one: bool, other: bool) -> bool
-    ensures { result ≡ (one && other) }
-{
-    one && other
 }
 
 fn are_all_true(truths: &[bool]) -> bool

@@ -8,7 +8,8 @@ ghost use Rattle.cgm_model.specs.Model.{lists_of};
 ghost use Rattle.cgm_model.specs.Sums.{sums_of};
 ghost use Rattle.cgm_obj.specs.Counts.{is_met as is_met_by};
 ghost use Rattle.cgm_obj.specs.Least.{Realizes};
-ghost use Rattle.cgm_encode.specs.Assignments.{bit as bit_of, extension as extension_of};
+ghost use Rattle.cgm_obj.specs.Vector.{vector_of};
+ghost use Rattle.cgm_encode.specs.Assignments.{bit as bit_of, choice_values, extension as extension_of};
 ghost use Rattle.cgm_encode.specs.Decoding.{IsExtended};
 ghost use Rattle.cgm_encode.specs.Encoding.{IsEncodingOf};
 
@@ -51,18 +52,51 @@ fn push_values(
     ensures { OnOk result (out.new.items ≡ extension_of (lists_of m.now) e.now.pairs a.now) }
 {
     let sums = sums(alloc, m, a)?;
-    push_numbers(out, a, sums.as_slice())?;
-    push_rules(alloc, out, a, sums.as_slice(), rules(m, a))?;
-    push_preferences(out, a, m.prefers.as_slice())?;
-    let vector = vector(alloc, m, e, a, sums.as_slice())?;
-    out.extend_from_slice(vector.as_slice())?;
+    push_choices(alloc, out, m, a, sums.as_slice())?;
+    push_vector(alloc, out, m, e, a, sums.as_slice())?;
     Ok(())
 }
 
-fn rules<'m>(m: &'m Model, a: &Assignment) -> &'m [Rule]
-    requires { Fits (lists_of m.now) a.now }
+/// The values of all variables but those of objectives.
+fn push_choices(
+    alloc: Global,
+    out: &mut Vec<i64>,
+    m: &Model,
+    a: &Assignment,
+    sums: &[i64],
+) -> Result<(), OutOfMemory>
+    requires fits { Fits (lists_of m.now) a.now }
+    requires sums { sums.now ≡ sums_of (lists_of m.now) a.now }
+    requires empty { out.old.items ≡ [] }
+    ensures { OnOk result (out.new.items ≡ choice_values (lists_of m.now) a.now) }
+{
+    push_numbers(out, a, sums)?;
+    push_rules(alloc, out, a, sums, rules(m, a, sums))?;
+    push_preferences(out, a, m.prefers.as_slice())?;
+    Ok(())
+}
+
+fn push_vector(
+    alloc: Global,
+    out: &mut Vec<i64>,
+    m: &Model,
+    e: &Earlier,
+    a: &Assignment,
+    sums: &[i64],
+) -> Result<(), OutOfMemory>
+    requires fits { Fits (lists_of m.now) a.now }
+    requires sums { sums.now ≡ sums_of (lists_of m.now) a.now }
+    ensures { OnOk result (out.new.items ≡ out.old.items ++ vector_of (lists_of m.now) e.now.pairs a.now) }
+{
+    let numbers = vector(alloc, m, e, a, sums)?;
+    out.extend_from_slice(numbers.as_slice())
+}
+
+fn rules<'m>(m: &'m Model, a: &Assignment, sums: &[i64]) -> &'m [Rule]
+    requires fits { Fits (lists_of m.now) a.now }
+    requires sums { sums.now ≡ sums_of (lists_of m.now) a.now }
     ensures items { result.now ≡ m.now.rules }
-    ensures small { All (λ r. AreSmallIn (number_in a.now (sums_of (lists_of m.now) a.now)) (formula_of r)) result.now }
+    ensures small { All (λ r. AreSmallIn (number_in a.now sums.now) (formula_of r)) result.now }
 {
     m.rules.as_slice()
 }

@@ -1,6 +1,5 @@
-use Rattle.std.proofs.Common.{◌≡◌, ◌+◌, ◌++◌, ◌∷◌, [], ◌∙◌, Bool, List, ap, refl, sym, w64, FitsSigned, rules}
+use Rattle.std.proofs.Common.{◌+◌, ◌++◌, ◌∷◌, [], ◌∙◌, List, ap, refl, sym}
 use Rattle.std.specs.Prelude.{ℤ}
-use Rattle.std.proofs.lemmas.Int.{to_z-of_z}
 use Rattle.std.proofs.lemmas.List.FromFn.{map-range_with_len_more}
 use Rattle.cgm_atom.specs.Bounds.{value_of}
 use Rattle.cgm_encode.proofs.assignments.numbers.Goals as goal
@@ -10,9 +9,6 @@ loop-x-preserved c =
     let f = value_of c.args.values.now in
     let from = c.args.from in
     let x = c.loop-x.x in
-    let old = c.loop-x.numbers.items in
-    let fits : FitsSigned w64 c.value_of.result = search rules in
-    c.in_ok-push.ensures.items
-    ∙ ap (λ (z : ℤ). old ++ z ∷ []) (to_z-of_z w64 c.value_of.result fits ∙ c.value_of.ensures)
+    c.in_ok-push_value.ensures
     ∙ ap (λ (zs : List ℤ). zs ++ f (from + x) ∷ []) c.loop-x.invariant
     ∙ sym (map-range_with_len_more f from x (from + x) refl)

@@ -28,7 +28,7 @@ define-requires-clause-room c =
     let few = (few_parts m c.args.m.now.well_formed).variables in
     let count = ap (λ (p : Instance). var_count p) c.requires.stage ∙ choices_count m in
     let long = ap (λ (es : List Expression). length es) (c.as_slice.ensures.value ∙ c.in_ok-objectives.ensures)
-        ∙ length-map m.objectives (λ o. expression_of (first_objective m) (objective_total m pairs o)) in
+    ∙ length-map m.objectives (λ o. expression_of (first_objective m) (objective_total m pairs o)) in
     omega (arith, few, count, long)
 
 pub define-requires-clause-row_room : goal.define-requires-clause-row_room
@@ -39,7 +39,7 @@ define-requires-clause-row_room c =
     let rows = ap (λ (p : Instance). length p.rows) c.requires.stage in
     let eight = (known_sizes m c.args.m.now.well_formed).objectives in
     let long = ap (λ (es : List Expression). length es) (c.as_slice.ensures.value ∙ c.in_ok-objectives.ensures)
-        ∙ length-map m.objectives (λ o. expression_of (first_objective m) (objective_total m pairs o)) in
+    ∙ length-map m.objectives (λ o. expression_of (first_objective m) (objective_total m pairs o)) in
     omega (arith, few, rows, eight, long)
 
 pub add_objectives-requires-clause-known : goal.add_objectives-requires-clause-known
@@ -57,7 +57,7 @@ add_objectives-requires-clause-room c =
     let none = ap (λ (p : Instance). length p.objectives) c.in_ok-variables.ensures.added ∙ ap (λ (p : Instance). length p.objectives) c.requires.stage in
     let eight = (known_sizes m c.args.m.now.well_formed).objectives in
     let long = ap (λ (es : List Expression). length es) (c.as_slice.ensures.value ∙ c.in_ok-objectives.ensures)
-        ∙ length-map m.objectives (λ o. expression_of (first_objective m) (objective_total m pairs o)) in
+    ∙ length-map m.objectives (λ o. expression_of (first_objective m) (objective_total m pairs o)) in
     let own = ap (λ (vs : List ℕ). length vs) (c.as_slice-2.ensures.value ∙ c.in_ok-variables.ensures.variables) ∙ length-range_with_len (var_count c.args.b.now) (length c.as_slice.result.now) in
     omega (arith, none, eight, long, own)
 
@@ -68,11 +68,11 @@ returns c =
     let b = c.args.b.now in
     let es_are = c.as_slice.ensures.value ∙ c.in_ok-objectives.ensures in
     let own = c.as_slice-2.ensures.value ∙ c.in_ok-variables.ensures.variables
-        ∙ ap (λ (p : Instance). range_with_len (var_count p) (length c.as_slice.result.now)) c.requires.stage
-        ∙ ap (λ (es : List Expression). range_with_len (var_count (choices_instance m)) (length es)) es_are in
+    ∙ ap (λ (p : Instance). range_with_len (var_count p) (length c.as_slice.result.now)) c.requires.stage
+    ∙ ap (λ (es : List Expression). range_with_len (var_count (choices_instance m)) (length es)) es_are in
     c.in_ok-add_objectives.ensures
     ∙ ap (λ (p : Instance). with_objectives p c.as_slice-2.result.now)
-        (c.in_ok-variables.ensures.added
-        ∙ ap (λ (es : List Expression). with_defined b es) es_are
-        ∙ ap (λ (p : Instance). with_defined p (objective_expressions m pairs)) c.requires.stage)
+    (c.in_ok-variables.ensures.added
+    ∙ ap (λ (es : List Expression). with_defined b es) es_are
+    ∙ ap (λ (p : Instance). with_defined p (objective_expressions m pairs)) c.requires.stage)
     ∙ objectives_grown m pairs c.as_slice-2.result.now own

@@ -43,7 +43,7 @@ returns c =
     c.in_ok-add_own.ensures
     ∙ ap (λ (vs : List Variable). with_ranges c.add_bits.new.b (map own_range vs)) c.as_slice.ensures
     ∙ ap (λ (p : Instance). with_ranges p (map own_range m.vars))
-        (c.in_ok-add_bits.ensures.added
-        ∙ ap (λ (p : Instance). with_ranges p (bits c.truth_count.result)) c.requires
-        ∙ ap (λ (k : ℕ). with_ranges empty_instance (bits k)) c.truth_count.ensures)
+    (c.in_ok-add_bits.ensures.added
+    ∙ ap (λ (p : Instance). with_ranges p (bits c.truth_count.result)) c.requires
+    ∙ ap (λ (k : ℕ). with_ranges empty_instance (bits k)) c.truth_count.ensures)
     ∙ own_grown m

@@ -24,7 +24,7 @@ define-requires-clause-room c =
     let few = (few_parts m c.args.m.now.well_formed).variables in
     let count = ap (λ (p : Instance). var_count p) c.requires ∙ own_count m in
     let long = ap (λ (es : List Expression). length es) (c.as_slice.ensures.value ∙ c.in_ok-sums.ensures)
-        ∙ length-map-range_with_len (λ sum. expression_of (truth_variables m) (sum_total m sum)) 0 (length m.sums) in
+    ∙ length-map-range_with_len (λ sum. expression_of (truth_variables m) (sum_total m sum)) 0 (length m.sums) in
     omega (arith, few, count, long)
 
 pub define-requires-clause-row_room : goal.define-requires-clause-row_room
@@ -33,7 +33,7 @@ define-requires-clause-row_room c =
     let few = (few_parts m c.args.m.now.well_formed).variables in
     let none = ap (λ (p : Instance). length p.rows) c.requires in
     let long = ap (λ (es : List Expression). length es) (c.as_slice.ensures.value ∙ c.in_ok-sums.ensures)
-        ∙ length-map-range_with_len (λ sum. expression_of (truth_variables m) (sum_total m sum)) 0 (length m.sums) in
+    ∙ length-map-range_with_len (λ sum. expression_of (truth_variables m) (sum_total m sum)) 0 (length m.sums) in
     omega (arith, few, none, long)
 
 pub returns : goal.returns

@@ -1,4 +1,4 @@
-//! Atoms of elements and refinements, and clauses of them.
+//! Atoms of variables of 0 or 1, and clauses of them.
 ghost use Rattle.std.specs.Prelude.{◌≡◌, ◌++◌, ◌∷◌, [], map, OnOk};
 ghost use Rattle.cgm_enc_graph.specs.Adding.{CanTake, with_written};
 ghost use Rattle.cgm_enc_graph.specs.GraphClauses.{clause, implication};
@@ -7,8 +7,8 @@ ghost use Rattle.cgm_enc_graph.specs.Literals.{literal as literal_of, negated as
 use cgm_atom::{Atom, Clause, OutOfMemory, ProblemBuilder, Seq, Var};
 use std::alloc::Global;
 
-/// That the element or refinement with this variable is true: `x >= 1`.
-pub(crate) fn literal(x: u32) -> Atom
+/// That a variable of 0 or 1 is 1: `x >= 1`.
+pub fn literal(x: u32) -> Atom
     ensures { result ≡ literal_of x }
 {
     Atom {
@@ -18,8 +18,8 @@ pub(crate) fn literal(x: u32) -> Atom
     }
 }
 
-/// That the element or refinement with this variable is false: `x <= 0`.
-pub(crate) fn negated(x: u32) -> Atom
+/// That a variable of 0 or 1 is 0: `x <= 0`.
+pub fn negated(x: u32) -> Atom
     ensures { result ≡ negated_of x }
 {
     Atom {
@@ -29,8 +29,10 @@ pub(crate) fn negated(x: u32) -> Atom
     }
 }
 
-/// Adds a clause of these atoms.
-pub(crate) fn add(alloc: Global, b: &mut ProblemBuilder, atoms: &[Atom]) -> Result<(), OutOfMemory>
+/// Adds a clause of these atoms, a later equal one dropped.
+/// Condition: their variables are known, their numbers are at most 2·10^15 in size, and the builder
+/// has fewer than 2^32 - 1 clauses so far. After want of memory the builder is given up.
+pub fn add_clause(alloc: Global, b: &mut ProblemBuilder, atoms: &[Atom]) -> Result<(), OutOfMemory>
     requires { CanTake b.old (clause atoms.now ∷ []) }
     ensures { OnOk result (b.new ≡ with_written b.old (clause atoms.now ∷ [])) }
 {
@@ -51,7 +53,7 @@ pub(crate) fn add_implication(
     requires { CanTake b.old (implication first second ∷ []) }
     ensures { OnOk result (b.new ≡ with_written b.old (implication first second ∷ [])) }
 {
-    add(alloc, b, &[negated(first), literal(second)])
+    add_clause(alloc, b, &[negated(first), literal(second)])
 }
 
 pub(crate) fn push_literals(atoms: &mut Vec<Atom>, variables: &[u32]) -> Result<(), OutOfMemory>

@@ -7,7 +7,7 @@ ghost use Rattle.cgm_enc_graph.specs.Adding.{CanTake, with_written};
 ghost use Rattle.cgm_enc_graph.specs.GraphClauses.{bind_clauses, conflict_clause, contrib_clause, target_of as target_in};
 ghost use Rattle.cgm_enc_graph.specs.Literals.{variable_of};
 
-use crate::adding::{add, add_implication, literal, negated};
+use crate::adding::{add_clause, add_implication, literal, negated};
 use cgm_atom::{OutOfMemory, ProblemBuilder};
 use cgm_model::{Edge, Model};
 use std::alloc::Global;
@@ -46,7 +46,7 @@ fn add_conflict(alloc: Global, b: &mut ProblemBuilder, e: &Edge) -> Result<(), O
     requires { CanTake b.old (conflict_clause e.now ∷ []) }
     ensures { OnOk result (b.new ≡ with_written b.old (conflict_clause e.now ∷ [])) }
 {
-    add(alloc, b, &[negated(e.from), negated(e.to)])
+    add_clause(alloc, b, &[negated(e.from), negated(e.to)])
 }
 
 /// Where both targets are true, both refinements are true or neither is.
@@ -75,12 +75,12 @@ fn add_bind(alloc: Global, b: &mut ProblemBuilder, m: &Model, e: &Edge) -> Resul
     let other = target_of(m, e.to);
     let from = refinement_variable(m, e.from);
     let to = refinement_variable(m, e.to);
-    add(
+    add_clause(
         alloc,
         b,
         &[negated(one), negated(other), negated(from), literal(to)],
     )?;
-    add(
+    add_clause(
         alloc,
         b,
         &[negated(one), negated(other), literal(from), negated(to)],

@@ -4,7 +4,7 @@ ghost use Rattle.std.specs.List.{enumerate_from};
 ghost use Rattle.cgm_enc_graph.specs.Adding.{CanTake, with_written};
 ghost use Rattle.cgm_enc_graph.specs.GraphClauses.{assertion_clause, must_clauses};
 
-use crate::adding::{add, literal, negated};
+use crate::adding::{add_clause, literal, negated};
 use cgm_atom::{OutOfMemory, ProblemBuilder};
 use cgm_model::{Assertion, Element};
 use std::alloc::Global;
@@ -37,7 +37,7 @@ fn add_must(
     if !e.must {
         return Ok(());
     }
-    add(alloc, b, &[literal(number)])
+    add_clause(alloc, b, &[literal(number)])
 }
 
 /// An element has the truth that is asserted.
@@ -60,8 +60,8 @@ fn add_assertion(alloc: Global, b: &mut ProblemBuilder, a: &Assertion) -> Result
     ensures { OnOk result (b.new ≡ with_written b.old (assertion_clause a.now ∷ [])) }
 {
     if a.truth {
-        add(alloc, b, &[literal(a.element)])
+        add_clause(alloc, b, &[literal(a.element)])
     } else {
-        add(alloc, b, &[negated(a.element)])
+        add_clause(alloc, b, &[negated(a.element)])
     }
 }

@@ -9,5 +9,6 @@ pub mod laws;
 mod refinements;
 mod targets;
 
+pub use adding::{add_clause, literal, negated};
 pub use cgm_atom::OutOfMemory;
 pub use graph::add_graph;

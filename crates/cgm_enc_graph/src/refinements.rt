@@ -5,7 +5,7 @@ ghost use Rattle.cgm_enc_graph.specs.Adding.{CanTake, with_written};
 ghost use Rattle.cgm_enc_graph.specs.GraphClauses.{clause, element_clauses, implication, refinement_clauses};
 ghost use Rattle.cgm_enc_graph.specs.Literals.{literal as literal_of, negated as negated_of};
 
-use crate::adding::{add, add_implication, literal, negated, push_literals, push_negated};
+use crate::adding::{add_clause, add_implication, literal, negated, push_literals, push_negated};
 use cgm_atom::{OutOfMemory, ProblemBuilder};
 use cgm_formula::Parts;
 use cgm_model::Refinement;
@@ -72,7 +72,7 @@ fn add_converse(
     let mut atoms = Vec::new(alloc);
     push_negated(&mut atoms, sources)?;
     atoms.push(literal(x))?;
-    add(alloc, b, atoms.as_slice())
+    add_clause(alloc, b, atoms.as_slice())
 }
 
 /// Adds the clause of each element that has refinements. The list has the variables of the
@@ -108,5 +108,5 @@ fn add_element(
     let mut atoms = Vec::new(alloc);
     atoms.push(negated(element))?;
     push_literals(&mut atoms, refinements)?;
-    add(alloc, b, atoms.as_slice())
+    add_clause(alloc, b, atoms.as_slice())
 }

@@ -8,8 +8,8 @@ use Rattle.cgm_enc_graph.specs.Literals.{literal, negated, variable_of}
 use Rattle.cgm_enc_graph.proofs.Additions.{first_left, left_all, left_more}
 use Rattle.cgm_enc_graph.proofs.edges.add_bind.Goals as goal
 
-pub add-requires : goal.add-requires
-add-requires c =
+pub add_clause-requires : goal.add_clause-requires
+add_clause-requires c =
     let m = lists_of c.args.m.now in
     let e = c.args.e.now in
     let b = c.args.b.now in
@@ -23,8 +23,8 @@ add-requires c =
     subst (λ (added : Clause). CanTake b (added ∷ [])) (sym same)
     (first_left b b (bind_clauses m e) (first ∷ []) (second ∷ []) (left_all b (bind_clauses m e) c.requires.room))
 
-pub add-requires-2 : goal.add-requires-2
-add-requires-2 c =
+pub add_clause-requires-2 : goal.add_clause-requires-2
+add_clause-requires-2 c =
     let m = lists_of c.args.m.now in
     let e = c.args.e.now in
     let b = c.args.b.now in
@@ -36,6 +36,6 @@ add-requires-2 c =
     let second : Clause = clause (one ∷ other ∷ literal from ∷ negated to ∷ []) in
     let same : clause (c.negated.result ∷ c.negated-2.result ∷ c.negated-3.result ∷ c.literal.result ∷ []) ≡ first = cc in
     let next : clause (c.negated-4.result ∷ c.negated-5.result ∷ c.literal-2.result ∷ c.negated-6.result ∷ []) ≡ second = cc in
-    let added = c.in_ok-add.ensures ∙ ap (λ (x : Clause). with_written b (x ∷ [])) same in
-    let far = left_more b b c.add.new.b (bind_clauses m e) (first ∷ []) (second ∷ []) (left_all b (bind_clauses m e) c.requires.room) added in
-    subst (λ (x : Clause). CanTake c.add.new.b (x ∷ [])) (sym next) far.room
+    let added = c.in_ok-add_clause.ensures ∙ ap (λ (x : Clause). with_written b (x ∷ [])) same in
+    let far = left_more b b c.add_clause.new.b (bind_clauses m e) (first ∷ []) (second ∷ []) (left_all b (bind_clauses m e) c.requires.room) added in
+    subst (λ (x : Clause). CanTake c.add_clause.new.b (x ∷ [])) (sym next) far.room

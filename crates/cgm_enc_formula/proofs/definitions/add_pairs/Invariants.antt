@@ -1,0 +1,7 @@
+use Rattle.std.proofs.Common.{drop}
+use Rattle.cgm_enc_formula.specs.Definitions.{pairs}
+use Rattle.cgm_enc_graph.proofs.Additions.{AreLeft}
+use Rattle.cgm_enc_formula.proofs.definitions.add_pairs.Given as goal
+
+abbrev pub invariant-loop-l : goal.invariant-loop-l
+invariant-loop-l l = AreLeft l.fn.b (pairs l.a l.literals) l.b (pairs l.a (drop l.l-index l.literals))

@@ -1,0 +1,39 @@
+use Rattle.std.proofs.Common.{◌≡◌, ◌∷◌, ◌∙◌, [], List, ap, map, subst, sym}
+use Rattle.cgm_atom.specs.declared.constraints.Atom.{Atom}
+use Rattle.cgm_atom.specs.Instance.{var_count}
+use Rattle.cgm_enc_formula.specs.declared.literals.Literal.{Literal}
+use Rattle.cgm_enc_formula.specs.Definitions.{any_of, definition_clauses, one_of, pairs}
+use Rattle.cgm_enc_formula.specs.Literals.{opposite}
+use Rattle.cgm_enc_formula.proofs.Defining.{all_left}
+use Rattle.cgm_enc_graph.specs.Adding.{CanTake, with_written}
+use Rattle.cgm_enc_graph.specs.Literals.{literal, negated}
+use Rattle.cgm_enc_graph.proofs.Additions.{first_left, left_more}
+use Rattle.cgm_enc_formula.proofs.definitions.define_any.Goals as goal
+
+pub add_pairs-requires : goal.add_pairs-requires
+add_pairs-requires c =
+    let b = c.args.b.now in
+    let p = c.new_name.new.b in
+    let n = var_count b in
+    let ls = c.args.literals.now in
+    let all = definition_clauses n (any_of ls) in
+    let a : c.literal.result ≡ literal n = c.literal.ensures ∙ ap literal c.in_ok-p.ensures.number in
+    let others : c.as_slice.result.now ≡ map opposite ls = c.as_slice.ensures.value ∙ c.in_ok-opposites.ensures in
+    subst (λ (x : Atom). CanTake p (pairs x c.as_slice.result.now)) (sym a)
+    (subst (λ (xs : List Literal). CanTake p (pairs (literal n) xs)) (sym others)
+    (first_left p p all (pairs (literal n) (map opposite ls)) (one_of (negated n) ls ∷ []) (all_left b p (any_of ls) c.in_ok-p.ensures.added c.requires.known c.requires.room)))
+
+pub add_one_of-requires : goal.add_one_of-requires
+add_one_of-requires c =
+    let b = c.args.b.now in
+    let p = c.new_name.new.b in
+    let q = c.add_pairs.new.b in
+    let n = var_count b in
+    let ls = c.args.literals.now in
+    let all = definition_clauses n (any_of ls) in
+    let a : c.literal.result ≡ literal n = c.literal.ensures ∙ ap literal c.in_ok-p.ensures.number in
+    let a-last : c.negated.result ≡ negated n = c.negated.ensures ∙ ap negated c.in_ok-p.ensures.number in
+    let others : c.as_slice.result.now ≡ map opposite ls = c.as_slice.ensures.value ∙ c.in_ok-opposites.ensures in
+    let added = c.in_ok-add_pairs.ensures ∙ ap (λ (x : Atom). with_written p (pairs x c.as_slice.result.now)) a ∙ ap (λ (xs : List Literal). with_written p (pairs (literal n) xs)) others in
+    let far = left_more p p q all (pairs (literal n) (map opposite ls)) (one_of (negated n) ls ∷ []) (all_left b p (any_of ls) c.in_ok-p.ensures.added c.requires.known c.requires.room) added in
+    subst (λ (x : Atom). CanTake q (one_of x ls ∷ [])) (sym a-last) far.room

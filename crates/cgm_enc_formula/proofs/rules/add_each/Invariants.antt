@@ -1,0 +1,7 @@
+use Rattle.std.proofs.Common.{drop}
+use Rattle.cgm_model.specs.Model.{lists_of}
+use Rattle.cgm_enc_formula.proofs.RuleSteps.{AreAdded}
+use Rattle.cgm_enc_formula.proofs.rules.add_each.Given as goal
+
+abbrev pub invariant-loop-rule : goal.invariant-loop-rule
+invariant-loop-rule l = AreAdded (lists_of l.m) l.fn.b l.rules l.b (drop l.rule-index l.rules)

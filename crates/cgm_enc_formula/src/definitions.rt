@@ -1,0 +1,212 @@
+//! Naming variables, each with the clauses or rows that define it.
+ghost use Rattle.std.specs.Prelude.{◌≡◌, ◌+◌, ◌-◌, ◌^◌, ◌<◌, ◌≤◌, ◌∷◌, [], length, map, pos, neg_ℤ, ◌+ℤ◌, unsigned_abs, All, IfOk, OnOk};
+ghost use Rattle.cgm_atom.specs.Building.{with_row, with_var};
+ghost use Rattle.cgm_atom.specs.Instance.{var_count};
+ghost use Rattle.cgm_atom.specs.Limits.{AreTermsOf, max_least, max_measure};
+ghost use Rattle.cgm_enc_formula.specs.Building.{HasRoomFor, definition_part, with_part};
+ghost use Rattle.cgm_enc_formula.specs.Definitions.{all_of, any_of, at_least, at_most, one_of as one_of_clause, pairs, row_where, same_as};
+ghost use Rattle.cgm_enc_formula.specs.Literals.{opposite as opposite_of, positive as positive_of};
+ghost use Rattle.cgm_enc_graph.specs.Adding.{CanTake, with_written};
+
+use crate::literals::{Literal, atom, opposite, positive};
+use crate::terms::negative;
+use cgm_atom::{Atom, OutOfMemory, ProblemBuilder, Row, Seq, Var};
+use cgm_enc_graph::{add_clause, literal, negated};
+use std::alloc::Global;
+
+/// A variable that is true exactly where all literals are.
+pub(crate) fn define_all(
+    alloc: Global,
+    b: &mut ProblemBuilder,
+    literals: &[Literal],
+) -> Result<Literal, OutOfMemory>
+    requires known { All (λ l. l.variable < var_count b.old) literals.now }
+    requires room { HasRoomFor b.old (definition_part (var_count b.old) (all_of literals.now)) }
+    ensures literal { IfOk result (λ l. l ≡ positive_of (var_count b.old)) }
+    ensures added { OnOk result (b.new ≡ with_part b.old (definition_part (var_count b.old) (all_of literals.now))) }
+{
+    let p = new_name(b)?;
+    let opposites = opposites(alloc, literals)?;
+    add_pairs(alloc, b, negated(p), literals)?;
+    add_one_of(alloc, b, literal(p), opposites.as_slice())?;
+    Ok(positive(p))
+}
+
+/// A variable that is true exactly where one of the literals is.
+pub(crate) fn define_any(
+    alloc: Global,
+    b: &mut ProblemBuilder,
+    literals: &[Literal],
+) -> Result<Literal, OutOfMemory>
+    requires known { All (λ l. l.variable < var_count b.old) literals.now }
+    requires room { HasRoomFor b.old (definition_part (var_count b.old) (any_of literals.now)) }
+    ensures literal { IfOk result (λ l. l ≡ positive_of (var_count b.old)) }
+    ensures added { OnOk result (b.new ≡ with_part b.old (definition_part (var_count b.old) (any_of literals.now))) }
+{
+    let p = new_name(b)?;
+    let opposites = opposites(alloc, literals)?;
+    add_pairs(alloc, b, literal(p), opposites.as_slice())?;
+    add_one_of(alloc, b, negated(p), literals)?;
+    Ok(positive(p))
+}
+
+/// A variable that is true exactly where both literals are true or both are false.
+pub(crate) fn define_same(
+    alloc: Global,
+    b: &mut ProblemBuilder,
+    one: Literal,
+    other: Literal,
+) -> Result<Literal, OutOfMemory>
+    requires one { one.variable < var_count b.old }
+    requires other { other.variable < var_count b.old }
+    requires room { HasRoomFor b.old (definition_part (var_count b.old) (same_as one other)) }
+    ensures literal { IfOk result (λ l. l ≡ positive_of (var_count b.old)) }
+    ensures added { OnOk result (b.new ≡ with_part b.old (definition_part (var_count b.old) (same_as one other))) }
+{
+    let p = new_name(b)?;
+    let not_one = opposite(one);
+    let not_other = opposite(other);
+    add_clause(alloc, b, &[negated(p), atom(not_one), atom(other)])?;
+    add_clause(alloc, b, &[negated(p), atom(one), atom(not_other)])?;
+    add_clause(alloc, b, &[literal(p), atom(one), atom(other)])?;
+    add_clause(alloc, b, &[literal(p), atom(not_one), atom(not_other)])?;
+    Ok(positive(p))
+}
+
+/// A variable that is true exactly where the sum of the terms is at most the number.
+pub(crate) fn define_at_most(
+    alloc: Global,
+    b: &mut ProblemBuilder,
+    terms: &[(i64, Var)],
+    k: i64,
+) -> Result<Literal, OutOfMemory>
+    requires known { AreTermsOf (var_count b.old) terms.now }
+    requires coefficients { All (λ t. unsigned_abs t.0 < 2 ^ 63) terms.now }
+    requires number { unsigned_abs k ≤ max_measure }
+    requires room { HasRoomFor b.old (definition_part (var_count b.old) (at_most terms.now k)) }
+    ensures literal { IfOk result (λ l. l ≡ positive_of (var_count b.old)) }
+    ensures added { OnOk result (b.new ≡ with_part b.old (definition_part (var_count b.old) (at_most terms.now k))) }
+{
+    let p = new_name(b)?;
+    let negative_terms = negative(alloc, terms)?;
+    add_row(b, literal(p), negative_terms, negated_number(k))?;
+    let same_terms = Vec::from_slice(alloc, terms)?;
+    add_row(b, negated(p), same_terms, next_number(k))?;
+    Ok(positive(p))
+}
+
+/// A variable that is true exactly where the sum of the terms is at least the number.
+pub(crate) fn define_at_least(
+    alloc: Global,
+    b: &mut ProblemBuilder,
+    terms: &[(i64, Var)],
+    k: i64,
+) -> Result<Literal, OutOfMemory>
+    requires known { AreTermsOf (var_count b.old) terms.now }
+    requires coefficients { All (λ t. unsigned_abs t.0 < 2 ^ 63) terms.now }
+    requires number { unsigned_abs k ≤ max_measure }
+    requires room { HasRoomFor b.old (definition_part (var_count b.old) (at_least terms.now k)) }
+    ensures literal { IfOk result (λ l. l ≡ positive_of (var_count b.old)) }
+    ensures added { OnOk result (b.new ≡ with_part b.old (definition_part (var_count b.old) (at_least terms.now k))) }
+{
+    let p = new_name(b)?;
+    let same_terms = Vec::from_slice(alloc, terms)?;
+    add_row(b, literal(p), same_terms, k)?;
+    let negative_terms = negative(alloc, terms)?;
+    add_row(b, negated(p), negative_terms, 1 - k)?;
+    Ok(positive(p))
+}
+
+fn negated_number(k: i64) -> i64
+    requires { unsigned_abs k ≤ max_least }
+    ensures { result ≡ neg_ℤ k }
+{
+    -k
+}
+
+fn next_number(k: i64) -> i64
+    requires { unsigned_abs k ≤ max_least }
+    ensures { result ≡ k +ℤ pos 1 }
+{
+    k + 1
+}
+
+/// A new variable of 0 or 1.
+fn new_name(b: &mut ProblemBuilder) -> Result<u32, OutOfMemory>
+    requires { var_count b.old < 2 ^ 32 - 1 }
+    ensures number { IfOk result (λ p. p ≡ var_count b.old) }
+    ensures added { OnOk result (b.new ≡ with_var b.old (pos 0) (pos 1)) }
+{
+    match b.var(0, 1) {
+        Ok(v) => Ok(v.0),
+        Err(_) => Err(OutOfMemory),
+    }
+}
+
+fn opposites(alloc: Global, literals: &[Literal]) -> Result<Vec<Literal>, OutOfMemory>
+    ensures { IfOk result (λ opposites. opposites.items ≡ map opposite_of literals.now) }
+{
+    let mut opposites = Vec::new(alloc);
+    for l in literals {
+        opposites.push(opposite(*l))?;
+    }
+    Ok(opposites)
+}
+
+/// For each literal a clause of the atom and the literal.
+fn add_pairs(
+    alloc: Global,
+    b: &mut ProblemBuilder,
+    a: Atom,
+    literals: &[Literal],
+) -> Result<(), OutOfMemory>
+    requires { CanTake b.old (pairs a literals.now) }
+    ensures { OnOk result (b.new ≡ with_written b.old (pairs a literals.now)) }
+{
+    for l in literals {
+        add_clause(alloc, b, &[a, atom(*l)])?;
+    }
+    Ok(())
+}
+
+/// A clause of the atom and the literals.
+fn add_one_of(
+    alloc: Global,
+    b: &mut ProblemBuilder,
+    a: Atom,
+    literals: &[Literal],
+) -> Result<(), OutOfMemory>
+    requires { CanTake b.old (one_of_clause a literals.now ∷ []) }
+    ensures { OnOk result (b.new ≡ with_written b.old (one_of_clause a literals.now ∷ [])) }
+{
+    let mut atoms = Vec::new(alloc);
+    atoms.push(a)?;
+    for l in literals {
+        atoms.push(atom(*l))?;
+    }
+    add_clause(alloc, b, atoms.as_slice())
+}
+
+/// Adds a row with a guard. Where the row's measure passes its limit, which can't be for comparisons
+/// that were measured before, the answer is as for want of memory.
+fn add_row(
+    b: &mut ProblemBuilder,
+    guard: Atom,
+    terms: Vec<(i64, Var)>,
+    least: i64,
+) -> Result<(), OutOfMemory>
+    requires guard { guard.var.0 < var_count b.old }
+    requires terms { AreTermsOf (var_count b.old) terms.items }
+    requires room { length b.old.rows < 2 ^ 32 - 1 }
+    ensures { OnOk result (b.new ≡ with_row b.old (row_where guard terms.items least)) }
+{
+    let row = Row {
+        guard: Some(guard),
+        terms: Seq::of(terms),
+        least,
+    };
+    match b.row(row) {
+        Ok(_) => Ok(()),
+        Err(_) => Err(OutOfMemory),
+    }
+}

@@ -1,0 +1,13 @@
+pub mod Absorbing
+pub mod CutNames
+pub mod FixedBoxes
+pub mod Forgetting
+pub mod Keeping
+pub mod LandedBatches
+pub mod Offers
+pub mod Readiness
+pub mod Reasons
+pub mod Rounds
+pub mod TakenLemmas
+pub mod UsedBounds
+pub mod WholeWorkers

@@ -1,0 +1,25 @@
+use Rattle.std.proofs.Common.{List, ap, refl, subst, sym, ◌∙◌}
+use Rattle.std.specs.Prelude.{ℤ}
+use Rattle.cgm_log.specs.declared.batches.Batch.{Batch}
+use Rattle.cgm_log.specs.Landing.{IsProper}
+use Rattle.cgm_search.specs.Knowing.{seen}
+use Rattle.cgm_search.proofs.FixedBoxes.{settled_is_solution}
+use Rattle.cgm_search.proofs.Offers.{candidate_batch, offered_on_ok, proper_candidate, trail_box}
+use Rattle.cgm_search.proofs.stepping.offer.Goals as goal
+use Rattle.cgm_trail.specs.TrailState.{box_of}
+
+pub exchange-requires-clause-proper : goal.exchange-requires-clause-proper
+exchange-requires-clause-proper g c = λ _ _.
+    let box = trail_box c.args.s.now c.requires.ready c.recall_trail.ensures in
+    subst (λ (b : Batch). IsProper c.args.s.now.known.problem (seen c.args.s.now.known) b)
+    (sym (c.candidate_batch-batch.ensures ∙ ap (λ (values : List ℤ). candidate_batch c.args.s.now.by values) (c.in_ok-values.ensures ∙ ap (λ b. b.lower) c.state.ensures.state)))
+    (proper_candidate c.args.s.now.known.problem (seen c.args.s.now.known) c.args.s.now.by (box_of c.args.s.now.trail).lower c.requires.ready.worker
+    (settled_is_solution c.args.s.now.known.problem (box_of c.args.s.now.trail) box c.requires.point c.requires.rest))
+
+pub returns-clause-offered : goal.returns-clause-offered
+returns-clause-offered g c =
+    offered_on_ok c.exchange.result c.args.s.now (record c.args.s.now { known = c.exchange.new.known }) c.candidate_batch-batch.result c.requires.ready
+    (record { problem = c.exchange.ensures.same_problem; trail = refl; choice = refl; plan = refl; worker = refl })
+    (trail_box c.args.s.now c.requires.ready c.recall_trail.ensures) c.requires.point
+    (c.candidate_batch-batch.ensures ∙ ap (λ (values : List ℤ). candidate_batch c.args.s.now.by values) (c.in_ok-values.ensures ∙ ap (λ b. b.lower) c.state.ensures.state))
+    c.exchange.ensures.known c.exchange.ensures.landed

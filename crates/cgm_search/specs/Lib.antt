@@ -1,0 +1,11 @@
+pub mod Choosing
+pub mod Cutting
+pub mod Knowing
+pub mod Resolving
+pub mod Searching
+pub mod Settling
+pub mod Stepping
+pub mod Storing
+pub mod Trading
+pub mod WorkerParts
+pub mod Working

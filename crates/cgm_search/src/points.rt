@@ -1,0 +1,22 @@
+//! The values of a box that holds one value of each variable.
+ghost use Rattle.std.specs.Prelude.{◌≡◌, ◌+◌, ◌<◌, length, IfOk};
+ghost use Rattle.cgm_atom.specs.Instance.{var_count};
+
+use cgm_atom::{BoxState, OutOfMemory, Problem, Var};
+use std::alloc::Global;
+
+/// The least value of each variable.
+pub(crate) fn least_values(
+    alloc: Global,
+    p: &Problem,
+    b: &BoxState,
+) -> Result<Vec<i64>, OutOfMemory>
+    requires { length b.now.lower ≡ var_count p.now }
+    ensures { IfOk result (λ values. values.items ≡ b.now.lower) }
+{
+    let mut values = Vec::new(alloc);
+    for x in 0..p.vars() {
+        values.push(b.lo(Var(x)))?;
+    }
+    Ok(values)
+}

@@ -666,5 +666,5 @@ name_each-loop-part-preserved t c =
     let l = c.in_ok-name_formula.field-0 in
     let here = drop-read parts parts i part refl c.loop-part-test.true c.part-item.is in
     let far = subst (λ (others : List Formula). AreNamed m b parts p ls others) here c.loop-part.invariant in
-    subst (λ (items : List Literal). AreNamed m b parts q items rest) (sym c.in_ok-push.ensures.items)
+    subst (λ (items : List Literal). AreNamed m b parts q items rest) (sym {A = List Literal} c.in_ok-push.ensures.items)
     (named_more m b p q parts ls l part rest far c.in_ok-name_formula.ensures.added c.in_ok-name_formula.ensures.literal)

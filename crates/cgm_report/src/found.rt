@@ -1,0 +1,252 @@
+//! The lines of a found realization.
+ghost use Rattle.std.specs.Prelude.{◌≡◌, ◌++◌, length, OnOk, IfOk};
+ghost use Rattle.cgm_model.specs.Model.{lists_of};
+ghost use Rattle.cgm_text.specs.Canonical.{quantity_name, sum_name, variable_name};
+ghost use Rattle.cgm_report.specs.Report.{element_word, truth_word, objective_word, found_line, number_line, element_lines, refinement_lines, variable_lines, sum_lines};
+ghost use Rattle.cgm_report.specs.Shown.{IsShowable, shown, shown_line, shown_lines, vector_lines};
+
+use cgm_encode::Found;
+use cgm_formula::OutOfMemory;
+use cgm_model::{
+    Element, ElementKind, Model, Objective, Quantity, Refinement, Sum, Variable, sums,
+};
+use std::alloc::Global;
+
+/// The lines of a realization with its vector: a line for each objective with the quantity itself,
+/// then for each element, refinement, variable and sum, in the order of the model.
+///
+/// Conditions: the assignment fits the model, and the vector has a number for each objective.
+pub fn found_lines(alloc: Global, m: &Model, found: &Found) -> Result<Vec<u8>, OutOfMemory>
+    requires { IsShowable (lists_of m.now) found.now }
+    ensures { IfOk result (λ lines. lines.items ≡ shown_lines (lists_of m.now) found.now) }
+{
+    let mut lines = Vec::new(alloc);
+    push_found(alloc, &mut lines, m, found)?;
+    Ok(lines)
+}
+
+/// Adds the lines of a realization.
+pub(crate) fn push_found(
+    alloc: Global,
+    report: &mut Vec<u8>,
+    m: &Model,
+    found: &Found,
+) -> Result<(), OutOfMemory>
+    requires { IsShowable (lists_of m.now) found.now }
+    ensures { OnOk result (report.new.items ≡ report.old.items ++ shown_lines (lists_of m.now)
+        found.now) }
+{
+    let a = &found.assignment;
+    let values = sums(alloc, m, a)?;
+    push_objectives(
+        alloc,
+        report,
+        m,
+        m.objectives.as_slice(),
+        found.vector.as_slice(),
+    )?;
+    push_elements(report, m.elements.as_slice(), a.elements.as_slice())?;
+    push_refinements(report, m.refinements.as_slice(), a.refinements.as_slice())?;
+    push_variables(alloc, report, m.vars.as_slice(), a.vars.as_slice())?;
+    push_sums(alloc, report, m.sums.as_slice(), values.as_slice())
+}
+
+fn element_word(kind: ElementKind) -> &'static str
+    ensures { result.now ≡ element_word kind }
+{
+    match kind {
+        ElementKind::Goal => "goal",
+        ElementKind::Task => "task",
+        ElementKind::Assume => "assume",
+    }
+}
+
+fn truth_word(truth: bool) -> &'static str
+    ensures { result.now ≡ truth_word truth }
+{
+    if truth { "true" } else { "false" }
+}
+
+/// Adds the line of one found truth value.
+fn push_line(report: &mut Vec<u8>, word: &str, name: &[u8], truth: bool) -> Result<(), OutOfMemory>
+    ensures { OnOk result (report.new.items ≡ report.old.items ++ found_line word.now name.now
+        truth) }
+{
+    report.extend_from_slice(word.as_bytes())?;
+    report.extend_from_slice(b" ")?;
+    report.extend_from_slice(name)?;
+    report.extend_from_slice(b" ")?;
+    report.extend_from_slice(truth_word(truth).as_bytes())?;
+    report.extend_from_slice(b"\n")
+}
+
+fn push_elements(
+    report: &mut Vec<u8>,
+    elements: &[Element],
+    truths: &[bool],
+) -> Result<(), OutOfMemory>
+    requires { length truths.now ≡ length elements.now }
+    ensures { OnOk result (report.new.items ≡ report.old.items ++ element_lines elements.now
+        truths.now) }
+{
+    for (at, element) in elements.iter().enumerate() {
+        let word = element_word(element.kind);
+        push_line(report, word, element.name.as_slice(), truths[at])?;
+    }
+    Ok(())
+}
+
+fn push_refinements(
+    report: &mut Vec<u8>,
+    refinements: &[Refinement],
+    truths: &[bool],
+) -> Result<(), OutOfMemory>
+    requires { length truths.now ≡ length refinements.now }
+    ensures { OnOk result (report.new.items ≡ report.old.items ++ refinement_lines refinements.now
+        truths.now) }
+{
+    for (at, refinement) in refinements.iter().enumerate() {
+        push_line(report, "refine", refinement.name.as_slice(), truths[at])?;
+    }
+    Ok(())
+}
+
+/// Adds the line of one number.
+fn push_number(
+    alloc: Global,
+    report: &mut Vec<u8>,
+    word: &str,
+    name: &[u8],
+    number: i128,
+) -> Result<(), OutOfMemory>
+    ensures { OnOk result (report.new.items ≡ report.old.items ++ number_line word.now name.now
+        number) }
+{
+    let digits = format!(in alloc; "{number}")?;
+    report.extend_from_slice(word.as_bytes())?;
+    report.extend_from_slice(b" ")?;
+    report.extend_from_slice(name)?;
+    report.extend_from_slice(b" ")?;
+    report.extend_from_slice(digits.as_bytes())?;
+    report.extend_from_slice(b"\n")
+}
+
+fn push_variables(
+    alloc: Global,
+    report: &mut Vec<u8>,
+    vars: &[Variable],
+    numbers: &[i64],
+) -> Result<(), OutOfMemory>
+    requires { length numbers.now ≡ length vars.now }
+    ensures { OnOk result (report.new.items ≡ report.old.items ++ variable_lines vars.now
+        numbers.now) }
+{
+    for (at, variable) in vars.iter().enumerate() {
+        let number = i128::from(numbers[at]);
+        push_number(alloc, report, "var", variable.name.as_slice(), number)?;
+    }
+    Ok(())
+}
+
+fn push_sums(
+    alloc: Global,
+    report: &mut Vec<u8>,
+    sums: &[Sum],
+    values: &[i64],
+) -> Result<(), OutOfMemory>
+    requires { length values.now ≡ length sums.now }
+    ensures { OnOk result (report.new.items ≡ report.old.items ++ sum_lines sums.now values.now) }
+{
+    for (at, sum) in sums.iter().enumerate() {
+        let value = i128::from(values[at]);
+        push_number(alloc, report, "sum", sum.name.as_slice(), value)?;
+    }
+    Ok(())
+}
+
+fn objective_word(max: bool) -> &'static str
+    ensures { result.now ≡ objective_word max }
+{
+    if max {
+        "objective max"
+    } else {
+        "objective min"
+    }
+}
+
+/// The name of a variable, or an empty one where there is no such variable.
+fn variable_name(m: &Model, k: u32) -> &[u8]
+    ensures { result.now ≡ variable_name (lists_of m.now) k }
+{
+    match m.vars.as_slice().get(k as usize) {
+        None => b"",
+        Some(variable) => variable.name.as_slice(),
+    }
+}
+
+/// The name of a sum, or an empty one where there is no such sum.
+fn sum_name(m: &Model, k: u32) -> &[u8]
+    ensures { result.now ≡ sum_name (lists_of m.now) k }
+{
+    match m.sums.as_slice().get(k as usize) {
+        None => b"",
+        Some(sum) => sum.name.as_slice(),
+    }
+}
+
+/// The name of a variable or a sum, or the word of a built-in quantity.
+fn quantity_name(m: &Model, q: Quantity) -> &[u8]
+    ensures { result.now ≡ quantity_name (lists_of m.now) q }
+{
+    match q {
+        Quantity::Var(k) => variable_name(m, k),
+        Quantity::Sum(k) => sum_name(m, k),
+        Quantity::Weight => b"weight",
+        Quantity::UnsatPrefs => b"unsat_prefs",
+        Quantity::UnsatReqs => b"unsat_reqs",
+        Quantity::SatTasks => b"sat_tasks",
+        Quantity::Familiarity => b"familiarity",
+        Quantity::Effort => b"effort",
+    }
+}
+
+/// The quantity of an objective's number in a vector.
+fn shown(max: bool, number: i64) -> i128
+    ensures { result ≡ shown max number }
+{
+    let number = i128::from(number);
+    if max { -number } else { number }
+}
+
+/// Adds the line of an objective with its number in a vector.
+fn push_objective(
+    alloc: Global,
+    report: &mut Vec<u8>,
+    m: &Model,
+    objective: &Objective,
+    number: i64,
+) -> Result<(), OutOfMemory>
+    ensures { OnOk result (report.new.items ≡ report.old.items ++ shown_line (lists_of m.now)
+        objective.now number) }
+{
+    let word = objective_word(objective.max);
+    let name = quantity_name(m, objective.of);
+    push_number(alloc, report, word, name, shown(objective.max, number))
+}
+
+fn push_objectives(
+    alloc: Global,
+    report: &mut Vec<u8>,
+    m: &Model,
+    objectives: &[Objective],
+    vector: &[i64],
+) -> Result<(), OutOfMemory>
+    requires { length vector.now ≡ length objectives.now }
+    ensures { OnOk result (report.new.items ≡ report.old.items ++ vector_lines (lists_of m.now)
+        objectives.now vector.now) }
+{
+    for (at, objective) in objectives.iter().enumerate() {
+        push_objective(alloc, report, m, objective, vector[at])?;
+    }
+    Ok(())
+}

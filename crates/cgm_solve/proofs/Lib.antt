@@ -1,0 +1,6 @@
+pub mod Bests
+pub mod Decoded
+pub mod EncodingLaws
+pub mod Showing
+pub mod Telling
+pub mod Verdicts

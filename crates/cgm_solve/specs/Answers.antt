@@ -1,0 +1,132 @@
+-- What it is to solve a model with a plan, and what entries show of a model: answers over the model itself, beside the entries that show them.
+use Rattle.std.specs.Prelude.{◌≡◌, ℕ, ◌+◌, ◌*◌, ◌^◌, ◌<◌, ◌≤◌, ℤ, List, [], ◌∷◌, ◌++◌, IsSomeAnd, Option, Some, None, Result, Ok, Err}
+use Rattle.std.specs.List.{All}
+use Rattle.cgm_formula.specs.declared.assignment.Assignment.{Assignment}
+use Rattle.cgm_model.specs.declared.lists.Lists.{Lists}
+use Rattle.cgm_evolve.specs.Pairs.{Pair}
+use Rattle.cgm_obj.specs.Least.{IsLeastRealization, Realizes}
+use Rattle.cgm_obj.specs.Vector.{vector_of}
+use Rattle.cgm_atom.specs.declared.entries.BadStep.{BadStep}
+use Rattle.cgm_atom.specs.declared.entries.Entry.{Entry}
+use Rattle.cgm_atom.specs.Acceptance.{IsAccepted, IsClosed}
+use Rattle.cgm_atom.specs.Instance.{Instance}
+use Rattle.cgm_atom.specs.LogState.{last_best, state_of}
+use Rattle.cgm_atom.specs.Ranges.{IsPrintable}
+use Rattle.cgm_check.specs.Verdicts.{IsRefusedAt}
+use Rattle.cgm_trail.specs.Rank.{slack}
+use Rattle.cgm_trail.specs.TrailState.{TrailState}
+use Rattle.cgm_search.specs.declared.plans.Plan.{Plan}
+use Rattle.cgm_enc_formula.specs.declared.stop.EncodeStop.TheVariants as encode_stops
+use Rattle.cgm_encode.specs.declared.answer.Answer.{Answer}
+use Rattle.cgm_encode.specs.declared.answer.Answer.TheVariants.{Exhausted, Open, Realized, Unrealizable}
+use Rattle.cgm_encode.specs.declared.answer.Encoded.{Encoded}
+use Rattle.cgm_encode.specs.declared.answer.Found.{Found}
+use Rattle.cgm_encode.specs.declared.answer.SolveStop.{SolveStop}
+use Rattle.cgm_encode.specs.declared.answer.SolveStop.TheVariants.{Memory, Row}
+use Rattle.cgm_encode.specs.Assignments.{decoded}
+use Rattle.cgm_encode.specs.Encoding.{IsEncodable, IsEncodeAnswer, IsEncodingOf}
+use Rattle.cgm_encode.specs.Problem.{problem_of}
+use Rattle.cgm_solve.specs.declared.verifying.Verified.{Verified}
+use Rattle.cgm_solve.specs.declared.verifying.Verified.TheVariants.{Refused, Shown}
+
+-- ---- what is found
+
+-- the realization that the values of a solution stand for, with its vector
+pub record IsReading (m : Lists) (pairs : List Pair) (values : List ℤ) (found : Found) : Type 0 where
+  pub assignment : found.assignment ≡ decoded m values
+  pub realizes : Realizes m found.assignment
+  pub vector : found.vector ≡ vector_of m pairs found.assignment
+
+-- the same of the values of a best, if there is one
+abbrev pub IsReadingOfBest : Lists → List Pair → Option (List ℤ) → Option Found → Type 0
+IsReadingOfBest m pairs best None = best ≡ None
+IsReadingOfBest m pairs best (Some found) = IsSomeAnd best (λ values. IsReading m pairs values found)
+
+-- what is found stands for the last best of the entries; nothing is found where there is none
+abbrev pub IsLastBest : Lists → List Pair → List Entry → Option Found → Type 0
+IsLastBest m pairs entries found = IsReadingOfBest m pairs (last_best (state_of entries)) found
+
+abbrev pub HasNoRealization : Lists → Type 0
+HasNoRealization m = (a : Assignment) → ¬ Realizes m a
+
+-- ---- what entries show
+
+-- the entries are accepted and closed, and their last best is a least realization
+pub record ShowsRealized (m : Lists) (pairs : List Pair) (entries : List Entry) (found : Found) : Type 0 where
+  pub accepted : IsAccepted (problem_of m pairs) entries
+  pub closed : IsClosed entries
+  pub best : IsLastBest m pairs entries (Some found)
+  pub least : IsLeastRealization m pairs found.assignment
+
+-- the entries are accepted and closed, and have no best, so that there is no realization
+pub record ShowsUnrealizable (m : Lists) (pairs : List Pair) (entries : List Entry) : Type 0 where
+  pub accepted : IsAccepted (problem_of m pairs) entries
+  pub closed : IsClosed entries
+  pub no_best : last_best (state_of entries) ≡ None
+  pub none : HasNoRealization m
+
+-- the entries are accepted and not closed, and this is their last best, if any
+pub record LeavesOpen (m : Lists) (pairs : List Pair) (entries : List Entry) (best : Option Found) : Type 0 where
+  pub accepted : IsAccepted (problem_of m pairs) entries
+  pub not_closed : ¬ IsClosed entries
+  pub best_is : IsLastBest m pairs entries best
+
+-- ---- verifying
+
+-- an answer by these entries alone
+abbrev pub IsShown : Lists → List Pair → List Entry → Answer → Type 0
+IsShown m pairs entries (Realized found own) = (own ≡ entries) × ShowsRealized m pairs entries found
+IsShown m pairs entries (Unrealizable own) = (own ≡ entries) × ShowsUnrealizable m pairs entries
+IsShown m pairs entries (Exhausted best spent own) = ⊥
+IsShown m pairs entries (Open best) = LeavesOpen m pairs entries best
+
+-- what the entries show, or the first of them that isn't accepted and the test that it fails
+abbrev pub IsVerified : Lists → List Pair → List Entry → Verified → Type 0
+IsVerified m pairs entries (Shown answer) = IsShown m pairs entries answer
+IsVerified m pairs entries (Refused step why) = IsRefusedAt (problem_of m pairs) entries step why
+
+-- the first rule with a comparison whose measure passes the limit
+abbrev pub IsPastLimit : Lists → List Pair → ℕ → Type 0
+IsPastLimit m pairs rule = IsEncodeAnswer m pairs (Err (encode_stops.Row rule))
+
+-- the encoding, or why there is none
+abbrev pub IsEncoded : Lists → List Pair → Result Encoded SolveStop → Type 0
+IsEncoded m pairs (Ok encoded) = IsEncodable m × IsEncodingOf m pairs encoded
+IsEncoded m pairs (Err (Row rule)) = IsPastLimit m pairs rule
+IsEncoded m pairs (Err Memory) = Unit {0}
+
+abbrev pub IsVerifyAnswer : Lists → List Pair → List Entry → Result Verified SolveStop → Type 0
+IsVerifyAnswer m pairs entries (Ok verified) = IsEncodable m × IsVerified m pairs entries verified
+IsVerifyAnswer m pairs entries (Err (Row rule)) = IsPastLimit m pairs rule
+IsVerifyAnswer m pairs entries (Err Memory) = Unit {0}
+
+-- ---- solving
+
+-- a trail of the problem that made as many moves as the plan says, and no more restarts; so large budgets are never spent
+pub record IsSpentTrail (p : Instance) (plan : Plan) (t : TrailState) : Type 0 where
+  pub problem : t.problem ≡ p
+  pub moves : t.moves ≡ plan.budget
+  pub restarts : t.restarts ≤ plan.restarts
+  pub few : plan.budget < (plan.restarts + 1) * 2 ^ (slack p.bounds + 1)
+
+-- one worker spent its budget, and its trail was added to the trails before
+pub record IsSpentWork (p : Instance) (plan : Plan) (before after : List TrailState) (spent : List ℕ) : Type 0 where
+  pub trail : TrailState
+  pub is_spent : IsSpentTrail p plan trail
+  pub added : after ≡ before ++ trail ∷ []
+  pub moves : spent ≡ trail.moves ∷ []
+
+-- a certificate can write the entries of each answer
+abbrev pub IsSolved : Lists → List Pair → Plan → List TrailState → List TrailState → Answer → Type 0
+IsSolved m pairs plan before after (Realized found entries) =
+    ShowsRealized m pairs entries found × All IsPrintable entries × (after ≡ before)
+IsSolved m pairs plan before after (Unrealizable entries) =
+    ShowsUnrealizable m pairs entries × All IsPrintable entries × (after ≡ before)
+IsSolved m pairs plan before after (Exhausted best spent entries) =
+    LeavesOpen m pairs entries best × All IsPrintable entries × IsSpentWork (problem_of m pairs) plan before after spent
+IsSolved m pairs plan before after (Open best) = ⊥
+
+abbrev pub IsSolveAnswer : Lists → List Pair → Plan → List TrailState → List TrailState → Result Answer SolveStop → Type 0
+IsSolveAnswer m pairs plan before after (Ok answer) = IsEncodable m × IsSolved m pairs plan before after answer
+IsSolveAnswer m pairs plan before after (Err (Row rule)) = IsPastLimit m pairs rule × (after ≡ before)
+IsSolveAnswer m pairs plan before after (Err Memory) = after ≡ before

@@ -1,0 +1,4 @@
+pub mod Answers
+pub mod Readings
+pub mod Runs
+pub mod Searches

@@ -1,0 +1,85 @@
+//! What is told of an ended run.
+ghost use Rattle.std.specs.Prelude.{◌≡◌, IfOk};
+ghost use Rattle.cgm_solve.specs.Readings.{ReadsLastBest};
+ghost use Rattle.cgm_solve.specs.Runs.{IsExhausted, IsTold, closed_answer};
+
+use crate::copies::copy_entries;
+use crate::reading::read;
+use crate::running::Ended;
+use cgm_atom::{Entry, OutOfMemory, Seq};
+use cgm_encode::{Answer, Encoded, Found};
+use cgm_log::Log;
+use cgm_search::Stopped;
+use cgm_trail::{Trail, Work};
+use std::alloc::Global;
+
+/// The answer of a closed log, or of one that isn't closed where the worker's budget is spent. Then the
+/// work gains its trail.
+pub(crate) fn tell(
+    alloc: Global,
+    encoded: &Encoded,
+    ended: Ended,
+    work: &mut Work,
+) -> Result<Answer, OutOfMemory>
+    requires { ended.log.problem ≡ encoded.now.problem }
+    ensures { IsTold encoded.now ended work.old work.new result }
+{
+    let Ended {
+        log,
+        trail,
+        stopped,
+    } = ended;
+    let best = read_last_best(alloc, encoded, &log)?;
+    let entries = copy_entries(alloc, log.entries())?;
+    if log.closed() {
+        return Ok(closed_answer(best, entries));
+    }
+    match stopped {
+        Stopped::Spent => exhausted(alloc, best, entries, trail, work),
+        // A worker ends so only where the log is closed.
+        Stopped::Final => Err(OutOfMemory),
+        Stopped::Memory => Err(OutOfMemory),
+    }
+}
+
+/// The realization that the last best of the log stands for, if there is one.
+fn read_last_best(alloc: Global, encoded: &Encoded, log: &Log) -> Result<Option<Found>, OutOfMemory>
+    requires { log.now.problem ≡ encoded.now.problem }
+    ensures { IfOk result (λ found. ReadsLastBest encoded.now log.now.entries found) }
+{
+    match log.indexed().last_best() {
+        None => Ok(None),
+        Some(values) => {
+            let found = read(alloc, encoded, values)?;
+            Ok(Some(found))
+        }
+    }
+}
+
+fn closed_answer(best: Option<Found>, entries: Seq<Entry>) -> Answer
+    ensures { result ≡ closed_answer best entries }
+{
+    match best {
+        None => Answer::Unrealizable { entries },
+        Some(found) => Answer::Realized { found, entries },
+    }
+}
+
+fn exhausted(
+    alloc: Global,
+    best: Option<Found>,
+    entries: Seq<Entry>,
+    trail: Trail,
+    work: &mut Work,
+) -> Result<Answer, OutOfMemory>
+    ensures { IsExhausted best entries trail work.old work.new result }
+{
+    let spent = vec![in alloc; trail.moves()]?;
+    let trails = vec![in alloc; trail]?;
+    work.keep(trails)?;
+    Ok(Answer::Exhausted {
+        best,
+        spent: Seq::of(spent),
+        entries,
+    })
+}

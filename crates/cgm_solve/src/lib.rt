@@ -1,0 +1,15 @@
+//! A model solved by one worker, and what entries show of a model.
+#![tactic(auto)]
+
+mod answering;
+mod copies;
+mod encoding;
+mod reading;
+mod running;
+mod solving;
+mod verifying;
+
+pub use cgm_encode::{Answer, Found, SolveStop};
+pub use cgm_search::Plan;
+pub use solving::solve_alone;
+pub use verifying::{Verified, verify};

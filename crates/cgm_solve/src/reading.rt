@@ -1,0 +1,46 @@
+//! What the values of a solution stand for.
+ghost use Rattle.std.specs.Prelude.{◌≡◌, IfOk};
+ghost use Rattle.cgm_atom.specs.Bounds.{value_of};
+ghost use Rattle.cgm_atom.specs.Instance.{IsSolution, values_at};
+ghost use Rattle.cgm_solve.specs.Readings.{Reads};
+
+use cgm_atom::{OutOfMemory, Seq, Var};
+use cgm_encode::{Encoded, Found, decode};
+use std::alloc::Global;
+
+/// The realization that a solution of the encoding stands for, with its vector.
+pub(crate) fn read(alloc: Global, encoded: &Encoded, values: &[i64]) -> Result<Found, OutOfMemory>
+    requires { IsSolution encoded.now.problem values.now }
+    ensures { IfOk result (λ found. Reads encoded.now values.now found) }
+{
+    let assignment = decode(alloc, encoded, values)?;
+    let vector = objective_values(alloc, encoded.problem.objectives(), values)?;
+    Ok(Found {
+        assignment,
+        vector: Seq::of(vector),
+    })
+}
+
+fn objective_values(
+    alloc: Global,
+    objectives: &[Var],
+    values: &[i64],
+) -> Result<Vec<i64>, OutOfMemory>
+    ensures { IfOk result (λ vector. vector.items ≡ values_at values.now objectives.now) }
+{
+    let mut vector = Vec::new(alloc);
+    for v in objectives {
+        vector.push(value_at(values, *v))?;
+    }
+    Ok(vector)
+}
+
+/// The value of a variable; 0 where it has none.
+fn value_at(values: &[i64], v: Var) -> i64
+    ensures { result ≡ value_of values.now v.0 }
+{
+    match values.get(v.0 as usize) {
+        None => 0,
+        Some(value) => *value,
+    }
+}

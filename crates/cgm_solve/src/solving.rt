@@ -1,0 +1,58 @@
+//! Solving a model by one worker.
+ghost use Rattle.cgm_model.specs.Model.{lists_of};
+ghost use Rattle.cgm_search.specs.Searching.{IsPlan};
+ghost use Rattle.cgm_solve.specs.Answers.{IsSolveAnswer};
+ghost use Rattle.cgm_solve.specs.Readings.{ForEncoded};
+ghost use Rattle.cgm_solve.specs.Searches.{IsSearchAnswer};
+
+use crate::answering::tell;
+use crate::encoding::encode_model;
+use crate::running::run_worker;
+use cgm_atom::OutOfMemory;
+use cgm_encode::{Answer, Encoded, SolveStop};
+use cgm_evolve::Earlier;
+use cgm_model::Model;
+use cgm_search::Plan;
+use cgm_trail::Work;
+use std::alloc::Global;
+
+/// Solves a model, with what is known of an earlier realization, by one worker with this plan.
+///
+/// `Realized` has a least realization with its vector, and `Unrealizable` says that there is none. The
+/// entries are then an accepted, closed log of the model's problem, which shows this by itself.
+/// `Exhausted` comes only where the log isn't closed and the worker made as many moves as its budget
+/// says. Then the work gains its trail, and the best is that of the log, if any. Otherwise the work
+/// stays. `Open` never comes. A certificate can write the entries of each answer.
+/// `SolveStop::Row` comes exactly where the model has no encoding.
+///
+/// Condition: the numbers of the plan are within their limits.
+pub fn solve_alone(
+    alloc: Global,
+    m: &Model,
+    e: &Earlier,
+    plan: Plan,
+    work: &mut Work,
+) -> Result<Answer, SolveStop>
+    requires { IsPlan plan }
+    ensures { IsSolveAnswer (lists_of m.now) e.now.pairs plan work.old work.new result }
+{
+    let encoded = encode_model(alloc, m, e)?;
+    match search(alloc, &encoded, plan, work) {
+        Ok(answer) => Ok(answer),
+        Err(_) => Err(SolveStop::Memory),
+    }
+}
+
+/// Searches for a least solution of an encoding.
+fn search(
+    alloc: Global,
+    encoded: &Encoded,
+    plan: Plan,
+    work: &mut Work,
+) -> Result<Answer, OutOfMemory>
+    requires { IsPlan plan }
+    ensures { ForEncoded encoded.now (λ m pairs. IsSearchAnswer m pairs plan work.old work.new result) }
+{
+    let ended = run_worker(alloc, &encoded.problem, plan)?;
+    tell(alloc, encoded, ended, work)
+}

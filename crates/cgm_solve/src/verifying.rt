@@ -1,0 +1,92 @@
+//! What entries, whoever made them, show of a model.
+ghost use Rattle.std.specs.Prelude.{◌≡◌, IfOk, IfSome};
+ghost use Rattle.cgm_model.specs.Model.{lists_of};
+ghost use Rattle.cgm_atom.specs.Instance.{IsSolution};
+ghost use Rattle.cgm_solve.specs.Answers.{IsVerifyAnswer, IsVerified};
+ghost use Rattle.cgm_solve.specs.Readings.{ForEncoded, ReadsBest};
+
+use crate::copies::copy_entries;
+use crate::encoding::encode_model;
+use crate::reading::read;
+use cgm_atom::{BadStep, Entry, OutOfMemory, Seq};
+use cgm_check::{Verdict, check};
+use cgm_encode::{Answer, Encoded, Found, SolveStop};
+use cgm_evolve::Earlier;
+use cgm_model::Model;
+use std::alloc::Global;
+
+/// What entries show of a model.
+#[derive(Debug, Drop)]
+pub enum Verified {
+    /// All entries are accepted, and this is what they show: `Realized`, `Unrealizable` or `Open`.
+    Shown(Answer),
+    /// The entry at this place, from 1, is the first that isn't accepted.
+    Refused { step: u64, why: BadStep },
+}
+
+/// Checks entries against the encoding of a model, with what is known of an earlier realization.
+///
+/// `Realized` comes exactly where the entries are accepted and closed and have a best: the last one
+/// stands for a least realization. `Unrealizable` comes exactly where they are closed and have no
+/// best: there is no realization. `Open` comes exactly where they are accepted and not closed.
+/// `Exhausted` never comes. `SolveStop::Row` comes exactly where the model has no encoding.
+pub fn verify(
+    alloc: Global,
+    m: &Model,
+    e: &Earlier,
+    entries: &[Entry],
+) -> Result<Verified, SolveStop>
+    ensures { IsVerifyAnswer (lists_of m.now) e.now.pairs entries.now result }
+{
+    let encoded = encode_model(alloc, m, e)?;
+    match verify_encoded(alloc, &encoded, entries) {
+        Ok(verified) => Ok(verified),
+        Err(_) => Err(SolveStop::Memory),
+    }
+}
+
+fn verify_encoded(
+    alloc: Global,
+    encoded: &Encoded,
+    entries: &[Entry],
+) -> Result<Verified, OutOfMemory>
+    ensures { IfOk result
+        (λ verified. ForEncoded encoded.now (λ m pairs. IsVerified m pairs entries.now verified)) }
+{
+    encoded.problem.recall_well_formed();
+    let verdict = check(alloc, &encoded.problem, entries)?;
+    match verdict {
+        Verdict::Least { values } => {
+            let found = read(alloc, encoded, values.as_slice())?;
+            let entries = copy_entries(alloc, entries)?;
+            Ok(Verified::Shown(Answer::Realized { found, entries }))
+        }
+        Verdict::NoSolution => {
+            let entries = copy_entries(alloc, entries)?;
+            Ok(Verified::Shown(Answer::Unrealizable { entries }))
+        }
+        Verdict::Open { best } => {
+            let best = read_best(alloc, encoded, &best)?;
+            Ok(Verified::Shown(Answer::Open { best }))
+        }
+        Verdict::Refused { step, why } => Ok(Verified::Refused { step, why }),
+    }
+}
+
+/// The realization that the values of a best stand for, if there are any.
+fn read_best(
+    alloc: Global,
+    encoded: &Encoded,
+    best: &Option<Seq<i64>>,
+) -> Result<Option<Found>, OutOfMemory>
+    requires { IfSome best.now (IsSolution encoded.now.problem) }
+    ensures { IfOk result (λ found. ReadsBest encoded.now best.now found) }
+{
+    match best {
+        None => Ok(None),
+        Some(values) => {
+            let found = read(alloc, encoded, values.as_slice())?;
+            Ok(Some(found))
+        }
+    }
+}

@@ -145,7 +145,7 @@ module _ (m : Lists) (pairs : List Pair) (a : Assignment) (fits : Fits m a) wher
       let fit = fits.vars in
       omega arith
 
-  numbers_values_long : length numbers ≡ model_variables m
+  pub numbers_values_long : length numbers ≡ model_variables m
   numbers_values_long =
       let both = length-append own (sums_of m a) in
       let first = own_values_long in
@@ -186,7 +186,7 @@ module _ (m : Lists) (pairs : List Pair) (a : Assignment) (fits : Fits m a) wher
   rule_at : (x : ℕ) → x < first_preference m → value_of (extension m pairs a) x ≡ value_of (rule_values m a) x
   rule_at x l = let long = rule_values_long in choice_at x (omega arith) ∙ get_or_append_left (rule_values m a) prefers (pos 0) x (omega arith)
 
-  number_at : (x : ℕ) → x < model_variables m → value_of (extension m pairs a) x ≡ value_of numbers x
+  pub number_at : (x : ℕ) → x < model_variables m → value_of (extension m pairs a) x ≡ value_of numbers x
   number_at x l = let long = numbers_values_long in rule_at x (omega arith) ∙ extended_keeps numbers definitions x (omega arith)
 
   own_at : (x : ℕ) → x < truth_variables m + length m.vars → value_of (extension m pairs a) x ≡ value_of own x
@@ -197,7 +197,7 @@ module _ (m : Lists) (pairs : List Pair) (a : Assignment) (fits : Fits m a) wher
 
   -- ---- each group
 
-  extension_names : (t : Truth) → IsKnownTruth m t → value_of (extension m pairs a) (variable_of m t) ≡ bit (name_in a t)
+  pub extension_names : (t : Truth) → IsKnownTruth m t → value_of (extension m pairs a) (variable_of m t) ≡ bit (name_in a t)
   extension_names (Element k) l =
       let long = elements_long in
       let fit = fits.elements in
@@ -206,10 +206,10 @@ module _ (m : Lists) (pairs : List Pair) (a : Assignment) (fits : Fits m a) wher
       let fit = fits.refinements in
       truth_value_at (length m.elements + k) (omega arith) ∙ behind elements refinements (length m.elements) k elements_long ∙ get_or-map bit a.refinements k false (pos 0) (omega arith)
 
-  extension_var : (k : ℕ) → k < length m.vars → value_of (extension m pairs a) (truth_variables m + k) ≡ slice_index_or a.vars k (pos 0)
+  pub extension_var : (k : ℕ) → k < length m.vars → value_of (extension m pairs a) (truth_variables m + k) ≡ slice_index_or a.vars k (pos 0)
   extension_var k l = own_at (truth_variables m + k) (omega arith) ∙ behind truths a.vars (truth_variables m) k truths_long
 
-  extension_sum : (k : ℕ) → k < length m.sums → value_of (extension m pairs a) (number_variable m (number.Sum k)) ≡ slice_index_or (sums_of m a) k (pos 0)
+  pub extension_sum : (k : ℕ) → k < length m.sums → value_of (extension m pairs a) (number_variable m (number.Sum k)) ≡ slice_index_or (sums_of m a) k (pos 0)
   extension_sum k l = number_at (number_variable m (number.Sum k)) (omega arith) ∙ behind own (sums_of m a) (truth_variables m + length m.vars) k own_values_long
 
   extension_numbers : AreNumbers m (extension m pairs a) a

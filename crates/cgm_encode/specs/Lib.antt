@@ -1,7 +1,13 @@
 pub mod Assignments
+pub mod Building
+pub mod Decoding
 pub mod Encoding
 pub mod Laws
 pub mod Problem
+pub mod ProblemText
 pub mod Quantities
+pub mod Stages
+pub mod Summands
+pub mod Telling
 pub mod Totals
 pub mod Variables

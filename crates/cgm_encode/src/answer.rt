@@ -24,9 +24,14 @@ pub struct Found {
 #[derive(Debug, Drop)]
 pub enum Answer {
     /// A least realization was found, and the entries show that it is least.
-    Realized { found: Found, entries: Seq<Entry> },
+    Realized {
+        found: Found,
+        entries: Seq<Entry>,
+    },
     /// There is no realization, as the entries show.
-    Unrealizable { entries: Seq<Entry> },
+    Unrealizable {
+        entries: Seq<Entry>,
+    },
     /// The budgets are spent: the best realization so far, if any, and what each worker spent.
     Exhausted {
         best: Option<Found>,
@@ -34,7 +39,9 @@ pub enum Answer {
         entries: Seq<Entry>,
     },
     /// The entries that are there leave it open: the best realization so far, if any.
-    Open { best: Option<Found> },
+    Open {
+        best: Option<Found>,
+    },
 }
 
 /// Why a model isn't solved.

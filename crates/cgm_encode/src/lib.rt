@@ -2,5 +2,28 @@
 #![tactic(auto)]
 
 mod answer;
+mod assignments;
+mod encoding;
+mod expressions;
+mod interest;
+pub mod laws;
+mod marks;
+mod names;
+mod preferences;
+mod printer;
+mod quantities;
+mod ranges;
+mod rows;
+mod sums;
+mod telling;
+mod values;
+mod variables;
+mod words;
 
 pub use answer::{Answer, Encoded, Found, SolveStop};
+pub use assignments::decode;
+pub use cgm_atom::OutOfMemory;
+pub use cgm_enc_formula::EncodeStop;
+pub use encoding::encode;
+pub use printer::print_problem;
+pub use values::extend;

@@ -1,0 +1,15 @@
+use Rattle.std.proofs.Common.{◌+◌, ◌++◌, ◌∷◌, [], ◌∙◌, Bool, List, ap, refl, sym}
+use Rattle.std.proofs.lemmas.List.FromFn.{map-range_with_len_more}
+use Rattle.cgm_enc_graph.specs.Assignments.{truth_at}
+use Rattle.cgm_encode.proofs.assignments.truths.Goals as goal
+
+pub loop-x-preserved : goal.loop-x-preserved
+loop-x-preserved c =
+    let f = truth_at c.args.values.now in
+    let from = c.args.from in
+    let x = c.loop-x.x in
+    let old = c.loop-x.truths.items in
+    c.in_ok-push.ensures.items
+    ∙ ap (λ (z : Bool). old ++ z ∷ []) c.truth_at.ensures
+    ∙ ap (λ (zs : List Bool). zs ++ f (from + x) ∷ []) c.loop-x.invariant
+    ∙ sym (map-range_with_len_more f from x (from + x) refl)

@@ -1,0 +1,9 @@
+use Rattle.cgm_model.specs.Model.{lists_of}
+use Rattle.cgm_obj.specs.Counts.{is_free_requirement}
+use Rattle.cgm_encode.proofs.Kept.{numbers_kept}
+use Rattle.cgm_encode.proofs.interest.free_requirements.Goals as goal
+
+pub loop-element-preserved : goal.loop-element-preserved
+loop-element-preserved c =
+    numbers_kept (is_free_requirement (lists_of c.args.m.now)) c.loop-element.element c.loop-element.requirements.items c.push_free_requirement.new.requirements.items
+    c.loop-element.invariant c.in_ok-push_free_requirement.ensures

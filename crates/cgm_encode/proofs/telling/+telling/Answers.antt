@@ -1,0 +1,203 @@
+-- What holds of the whole formula's comparisons holds of the parts', and what each node adds.
+use Rattle.std.proofs.Common.{rules, List, ℤ, ◌++◌, map, subst, sym}
+use Rattle.std.specs.List.{All}
+use Rattle.cgm_formula.specs.declared.assignment.Assignment.{Assignment}
+use Rattle.cgm_formula.specs.declared.formula.Linear.{Linear}
+use Rattle.cgm_formula.specs.declared.formula.Formula.{Formula}
+use Rattle.cgm_formula.specs.declared.formula.Formula.TheViews.{the_lemmas}
+use Rattle.cgm_formula.specs.Reading.{name_in, number_in}
+use Rattle.cgm_formula.specs.Sizes.{IsSmall, AreSmallIn}
+use Rattle.cgm_formula.proofs.Comparisons.{of_negation, of_conjunction, of_disjunction, of_implication, of_equivalence, of_at_most, of_at_least, of_equality}
+use Rattle.cgm_encode.specs.Assignments.{bit}
+use Rattle.cgm_encode.specs.Telling.{all_truths, told}
+use Rattle.cgm_encode.proofs.TellingSteps.{all_say, all_told, any_says, any_told, equivalence_says, equivalence_told, if_ok, implication_says, implication_told, on_ok, part_said, part_told}
+use Rattle.cgm_encode.proofs.telling.+telling.Goals as goal
+
+abbrev Small : Assignment → List ℤ → Linear × ℤ → Type 0
+Small a sums c = IsSmall (number_in a sums) c.0
+
+abbrev AreSmall : Assignment → List ℤ → Formula → Type 0
+AreSmall a sums = AreSmallIn (number_in a sums)
+
+pub push_each-loop-part-preserved : goal.push_each-loop-part-preserved
+push_each-loop-part-preserved t c =
+    let names = name_in c.args.a.now in
+    let numbers = number_in c.args.a.now c.args.sums.now in
+    let parts = c.args.parts.now in (
+      part_said names numbers parts c.loop-part.part-index c.part-item.result c.loop-part.truths.items c.push.new.self.items c.in_ok-holds.holds
+          c.loop-part-test.true c.part-item.is c.loop-part.invariant.0 c.in_ok-push.ensures.items c.in_ok-holds.ensures.says,
+      part_told names numbers parts c.loop-part.part-index c.part-item.result c.loop-part.out.items c.push_formula.new.out.items
+          (c.args.out.now.items ++ map bit (all_truths (map (told names numbers) parts)))
+          c.loop-part-test.true c.part-item.is c.loop-part.invariant.1 c.in_ok-holds.ensures.added,
+    )
+
+pub push_formula-push_formula-requires : goal.push_formula-push_formula-requires
+push_formula-push_formula-requires t c =
+    let a = c.args.a.now in
+    let sums = c.args.sums.now in (
+      search (rules, the_lemmas),
+      subst (AreSmall a sums) (sym c.get.ensures)
+          (of_negation (Small a sums) c.in-Not.part (subst (AreSmall a sums) c.in-Not.is c.requires)),
+    )
+
+pub push_formula-push_each-requires : goal.push_formula-push_each-requires
+push_formula-push_each-requires t c =
+    let a = c.args.a.now in
+    let sums = c.args.sums.now in (
+      search (rules, the_lemmas),
+      subst (All (AreSmall a sums)) (sym c.as_slice.ensures)
+          (of_conjunction (Small a sums) c.in-And.parts (subst (AreSmall a sums) c.in-And.is c.requires)),
+    )
+
+pub push_formula-push_each-requires-in-Or : goal.push_formula-push_each-requires-in-Or
+push_formula-push_each-requires-in-Or t c =
+    let a = c.args.a.now in
+    let sums = c.args.sums.now in (
+      search (rules, the_lemmas),
+      subst (All (AreSmall a sums)) (sym c.as_slice-in-Or.ensures)
+          (of_disjunction (Small a sums) c.in-Or.parts (subst (AreSmall a sums) c.in-Or.is c.requires)),
+    )
+
+pub push_formula-push_formula-requires-in-Implies : goal.push_formula-push_formula-requires-in-Implies
+push_formula-push_formula-requires-in-Implies t c =
+    let a = c.args.a.now in
+    let sums = c.args.sums.now in (
+      search (rules, the_lemmas),
+      subst (AreSmall a sums) (sym c.get-in-Implies.ensures)
+          ((of_implication (Small a sums) c.in-Implies.premise c.in-Implies.conclusion (subst (AreSmall a sums) c.in-Implies.is c.requires))).0,
+    )
+
+pub push_formula-push_formula-requires-in-Implies-2 : goal.push_formula-push_formula-requires-in-Implies-2
+push_formula-push_formula-requires-in-Implies-2 t c =
+    let a = c.args.a.now in
+    let sums = c.args.sums.now in (
+      search (rules, the_lemmas),
+      subst (AreSmall a sums) (sym c.get-in-Implies-2.ensures)
+          ((of_implication (Small a sums) c.in-Implies.premise c.in-Implies.conclusion (subst (AreSmall a sums) c.in-Implies.is c.requires))).1,
+    )
+
+pub push_formula-push_formula-requires-in-Iff : goal.push_formula-push_formula-requires-in-Iff
+push_formula-push_formula-requires-in-Iff t c =
+    let a = c.args.a.now in
+    let sums = c.args.sums.now in (
+      search (rules, the_lemmas),
+      subst (AreSmall a sums) (sym c.get-in-Iff.ensures)
+          ((of_equivalence (Small a sums) c.in-Iff.one c.in-Iff.other (subst (AreSmall a sums) c.in-Iff.is c.requires))).0,
+    )
+
+pub push_formula-push_formula-requires-in-Iff-2 : goal.push_formula-push_formula-requires-in-Iff-2
+push_formula-push_formula-requires-in-Iff-2 t c =
+    let a = c.args.a.now in
+    let sums = c.args.sums.now in (
+      search (rules, the_lemmas),
+      subst (AreSmall a sums) (sym c.get-in-Iff-2.ensures)
+          ((of_equivalence (Small a sums) c.in-Iff.one c.in-Iff.other (subst (AreSmall a sums) c.in-Iff.is c.requires))).1,
+    )
+
+pub push_formula-is_at_most-requires : goal.push_formula-is_at_most-requires
+push_formula-is_at_most-requires t c =
+    let a = c.args.a.now in
+    let sums = c.args.sums.now in
+    of_at_most (Small a sums) c.in-AtMost.linear c.in-AtMost.k (subst (AreSmall a sums) c.in-AtMost.is c.requires)
+
+pub push_formula-is_at_least-requires : goal.push_formula-is_at_least-requires
+push_formula-is_at_least-requires t c =
+    let a = c.args.a.now in
+    let sums = c.args.sums.now in
+    of_at_least (Small a sums) c.in-AtLeast.linear c.in-AtLeast.k (subst (AreSmall a sums) c.in-AtLeast.is c.requires)
+
+pub push_formula-is_at_most-requires-in-Equal : goal.push_formula-is_at_most-requires-in-Equal
+push_formula-is_at_most-requires-in-Equal t c =
+    let a = c.args.a.now in
+    let sums = c.args.sums.now in
+    of_equality (Small a sums) c.in-Equal.linear c.in-Equal.k (subst (AreSmall a sums) c.in-Equal.is c.requires)
+
+pub push_formula-is_at_least-requires-in-Equal : goal.push_formula-is_at_least-requires-in-Equal
+push_formula-is_at_least-requires-in-Equal t c =
+    let a = c.args.a.now in
+    let sums = c.args.sums.now in
+    of_equality (Small a sums) c.in-Equal.linear c.in-Equal.k (subst (AreSmall a sums) c.in-Equal.is c.requires)
+
+pub push_formula-returns-in_ok-truths-in-And-clause-says : goal.push_formula-returns-in_ok-truths-in-And-clause-says
+push_formula-returns-in_ok-truths-in-And-clause-says t c =
+    let names = name_in c.args.a.now in
+    let numbers = number_in c.args.a.now c.args.sums.now in
+    let f = c.args.f.now in
+    if_ok c.push_all.result _ (told names numbers f).says
+    (all_say names numbers f c.in-And.parts c.as_slice.result.now c.in_ok-truths-in-And.truths.items c.in-And.is c.as_slice.ensures c.in_ok-truths-in-And.ensures.says)
+    c.push_all.ensures.says
+
+pub push_formula-returns-in_ok-truths-in-And-clause-added : goal.push_formula-returns-in_ok-truths-in-And-clause-added
+push_formula-returns-in_ok-truths-in-And-clause-added t c =
+    let names = name_in c.args.a.now in
+    let numbers = number_in c.args.a.now c.args.sums.now in
+    let f = c.args.f.now in
+    on_ok c.push_all.result
+    (λ last.
+    all_told names numbers f c.in-And.parts c.as_slice.result.now c.in_ok-truths-in-And.truths.items c.args.out.now.items c.push_each.new.out.items c.push_all.new.out.items
+    c.in-And.is c.as_slice.ensures c.in_ok-truths-in-And.ensures.says c.in_ok-truths-in-And.ensures.added last)
+    c.push_all.ensures.added
+
+pub push_formula-returns-in_ok-truths-in-Or-clause-says : goal.push_formula-returns-in_ok-truths-in-Or-clause-says
+push_formula-returns-in_ok-truths-in-Or-clause-says t c =
+    let names = name_in c.args.a.now in
+    let numbers = number_in c.args.a.now c.args.sums.now in
+    let f = c.args.f.now in
+    if_ok c.push_any.result _ (told names numbers f).says
+    (any_says names numbers f c.in-Or.parts c.as_slice-in-Or.result.now c.in_ok-truths-in-Or.truths.items c.in-Or.is c.as_slice-in-Or.ensures c.in_ok-truths-in-Or.ensures.says)
+    c.push_any.ensures.says
+
+pub push_formula-returns-in_ok-truths-in-Or-clause-added : goal.push_formula-returns-in_ok-truths-in-Or-clause-added
+push_formula-returns-in_ok-truths-in-Or-clause-added t c =
+    let names = name_in c.args.a.now in
+    let numbers = number_in c.args.a.now c.args.sums.now in
+    let f = c.args.f.now in
+    on_ok c.push_any.result
+    (λ last.
+    any_told names numbers f c.in-Or.parts c.as_slice-in-Or.result.now c.in_ok-truths-in-Or.truths.items c.args.out.now.items c.push_each-in-Or.new.out.items c.push_any.new.out.items
+    c.in-Or.is c.as_slice-in-Or.ensures c.in_ok-truths-in-Or.ensures.says c.in_ok-truths-in-Or.ensures.added last)
+    c.push_any.ensures.added
+
+pub push_formula-returns-in_ok-second-in-Implies-clause-says : goal.push_formula-returns-in_ok-second-in-Implies-clause-says
+push_formula-returns-in_ok-second-in-Implies-clause-says t c =
+    let names = name_in c.args.a.now in
+    let numbers = number_in c.args.a.now c.args.sums.now in
+    let f = c.args.f.now in
+    if_ok c.push_implication.result _ (told names numbers f).says
+    (implication_says names numbers f c.in-Implies.premise c.in-Implies.conclusion c.get-in-Implies.result.now c.get-in-Implies-2.result.now c.in_ok-first-in-Implies.first c.in_ok-second-in-Implies.second
+    c.in-Implies.is c.get-in-Implies.ensures c.get-in-Implies-2.ensures c.in_ok-first-in-Implies.ensures.says c.in_ok-second-in-Implies.ensures.says)
+    c.push_implication.ensures.says
+
+pub push_formula-returns-in_ok-second-in-Implies-clause-added : goal.push_formula-returns-in_ok-second-in-Implies-clause-added
+push_formula-returns-in_ok-second-in-Implies-clause-added t c =
+    let names = name_in c.args.a.now in
+    let numbers = number_in c.args.a.now c.args.sums.now in
+    let f = c.args.f.now in
+    on_ok c.push_implication.result
+    (λ last.
+    implication_told names numbers f c.in-Implies.premise c.in-Implies.conclusion c.get-in-Implies.result.now c.get-in-Implies-2.result.now c.in_ok-first-in-Implies.first c.in_ok-second-in-Implies.second
+    c.args.out.now.items c.push_formula-in-Implies.new.out.items c.push_formula-in-Implies-2.new.out.items c.push_implication.new.out.items
+    c.in-Implies.is c.get-in-Implies.ensures c.get-in-Implies-2.ensures c.in_ok-first-in-Implies.ensures.says c.in_ok-second-in-Implies.ensures.says c.in_ok-first-in-Implies.ensures.added c.in_ok-second-in-Implies.ensures.added last)
+    c.push_implication.ensures.added
+
+pub push_formula-returns-in_ok-second-in-Iff-clause-says : goal.push_formula-returns-in_ok-second-in-Iff-clause-says
+push_formula-returns-in_ok-second-in-Iff-clause-says t c =
+    let names = name_in c.args.a.now in
+    let numbers = number_in c.args.a.now c.args.sums.now in
+    let f = c.args.f.now in
+    if_ok c.push_equivalence.result _ (told names numbers f).says
+    (equivalence_says names numbers f c.in-Iff.one c.in-Iff.other c.get-in-Iff.result.now c.get-in-Iff-2.result.now c.in_ok-first-in-Iff.first c.in_ok-second-in-Iff.second
+    c.in-Iff.is c.get-in-Iff.ensures c.get-in-Iff-2.ensures c.in_ok-first-in-Iff.ensures.says c.in_ok-second-in-Iff.ensures.says)
+    c.push_equivalence.ensures.says
+
+pub push_formula-returns-in_ok-second-in-Iff-clause-added : goal.push_formula-returns-in_ok-second-in-Iff-clause-added
+push_formula-returns-in_ok-second-in-Iff-clause-added t c =
+    let names = name_in c.args.a.now in
+    let numbers = number_in c.args.a.now c.args.sums.now in
+    let f = c.args.f.now in
+    on_ok c.push_equivalence.result
+    (λ last.
+    equivalence_told names numbers f c.in-Iff.one c.in-Iff.other c.get-in-Iff.result.now c.get-in-Iff-2.result.now c.in_ok-first-in-Iff.first c.in_ok-second-in-Iff.second
+    c.args.out.now.items c.push_formula-in-Iff.new.out.items c.push_formula-in-Iff-2.new.out.items c.push_equivalence.new.out.items
+    c.in-Iff.is c.get-in-Iff.ensures c.get-in-Iff-2.ensures c.in_ok-first-in-Iff.ensures.says c.in_ok-second-in-Iff.ensures.says c.in_ok-first-in-Iff.ensures.added c.in_ok-second-in-Iff.ensures.added last)
+    c.push_equivalence.ensures.added

@@ -1,0 +1,12 @@
+use Rattle.std.proofs.Common.{◌≡◌, ◌++◌, drop, map}
+use Rattle.cgm_formula.specs.Reading.{name_in, number_in}
+use Rattle.cgm_encode.specs.Assignments.{bit}
+use Rattle.cgm_encode.specs.Telling.{all_truths, told}
+use Rattle.cgm_encode.proofs.telling.+telling.Given as goal
+
+abbrev pub invariant-push_each-loop-part : goal.invariant-push_each-loop-part
+invariant-push_each-loop-part l =
+    (l.truths.items ++ map (λ part. part.says) (map (told (name_in l.a) (number_in l.a l.sums)) (drop l.part-index l.parts))
+    ≡ map (λ part. part.says) (map (told (name_in l.a) (number_in l.a l.sums)) l.parts))
+    × (l.out.items ++ map bit (all_truths (map (told (name_in l.a) (number_in l.a l.sums)) (drop l.part-index l.parts)))
+    ≡ l.initial.out.items ++ map bit (all_truths (map (told (name_in l.a) (number_in l.a l.sums)) l.parts)))

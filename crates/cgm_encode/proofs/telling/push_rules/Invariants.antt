@@ -1,0 +1,10 @@
+use Rattle.std.proofs.Common.{◌≡◌, ◌++◌, drop, map}
+use Rattle.cgm_formula.specs.Reading.{name_in, number_in}
+use Rattle.cgm_encode.specs.Assignments.{bit}
+use Rattle.cgm_encode.specs.Telling.{rule_truths}
+use Rattle.cgm_encode.proofs.telling.push_rules.Given as goal
+
+abbrev pub invariant-loop-rule : goal.invariant-loop-rule
+invariant-loop-rule l =
+    l.out.items ++ map bit (rule_truths (name_in l.a) (number_in l.a l.sums) (drop l.rule-index l.rules))
+    ≡ l.initial.out.items ++ map bit (rule_truths (name_in l.a) (number_in l.a l.sums) l.rules)

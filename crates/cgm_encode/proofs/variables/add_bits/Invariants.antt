@@ -1,0 +1,7 @@
+use Rattle.std.proofs.Common.{◌≡◌}
+use Rattle.cgm_encode.proofs.AddedVariables.{AreBitsLeft}
+use Rattle.cgm_encode.proofs.variables.add_bits.Given as goal
+
+abbrev pub invariant-loop : goal.invariant-loop
+invariant-loop l =
+    AreBitsLeft l.fn.b l.count l.counter l.b l.variables.items

@@ -1,0 +1,33 @@
+-- What decoding and extending promise for every model whose encoding it is.
+use Rattle.std.specs.Prelude.{◌≡◌, List, ℤ}
+use Rattle.cgm_atom.specs.Instance.{IsSolution, vector}
+use Rattle.cgm_formula.specs.declared.assignment.Assignment.{Assignment}
+use Rattle.cgm_model.specs.declared.lists.Lists.{Lists}
+use Rattle.cgm_model.specs.WellFormed.{IsWellFormed}
+use Rattle.cgm_evolve.specs.Pairs.{Pair}
+use Rattle.cgm_obj.specs.Least.{Realizes}
+use Rattle.cgm_obj.specs.Vector.{vector_of}
+use Rattle.cgm_encode.specs.declared.answer.Encoded.{Encoded}
+use Rattle.cgm_encode.specs.Assignments.{decoded, extension}
+use Rattle.cgm_encode.specs.Encoding.{IsEncodingOf}
+
+-- the assignment is the one that the values stand for, a realization, and the values of the objectives are its vector
+pub record IsDecodedFor (m : Lists) (pairs : List Pair) (enc : Encoded) (values : List ℤ) (a : Assignment) : Type 0 where
+  pub assignment : a ≡ decoded m values
+  pub realizes : Realizes m a
+  pub vector : vector enc.problem values ≡ vector_of m pairs a
+
+-- the same for every model and earlier realization whose encoding this is
+unfoldable pub IsDecoded : Encoded → List ℤ → Assignment → Type 0
+IsDecoded enc values a =
+    (m : Lists) (pairs : List Pair)
+    → ∥ IsWellFormed m ∥₁
+    → IsEncodingOf m pairs enc
+    → IsDecodedFor m pairs enc values a
+
+-- the values are those of the realization: a solution that decodes to it, with its vector
+pub record IsExtended (m : Lists) (pairs : List Pair) (enc : Encoded) (a : Assignment) (values : List ℤ) : Type 0 where
+  pub numbers : values ≡ extension m pairs a
+  pub solution : IsSolution enc.problem values
+  pub assignment : decoded m values ≡ a
+  pub vector : vector enc.problem values ≡ vector_of m pairs a

@@ -1,0 +1,58 @@
+//! The clauses of preferences.
+ghost use Rattle.std.specs.Prelude.{◌≡◌, ◌+◌, ◌<◌, ◌≤◌, length, flat_map, slice_index_or, All, OnOk};
+ghost use Rattle.std.specs.List.{zip};
+ghost use Rattle.cgm_model.specs.Model.{lists_of};
+ghost use Rattle.cgm_model.specs.Statement.{IsPreference};
+ghost use Rattle.cgm_enc_graph.specs.Adding.{CanTake, with_written};
+ghost use Rattle.cgm_encode.specs.Problem.{preference_clauses};
+
+use crate::names::truth_variable;
+use cgm_atom::{OutOfMemory, ProblemBuilder};
+use cgm_enc_graph::{add_clause, literal, negated};
+use cgm_model::{Model, Preference};
+use std::alloc::Global;
+
+/// Adds the clauses of each preference, of which each has the variable at its place.
+pub(crate) fn add_preferences(
+    alloc: Global,
+    b: &mut ProblemBuilder,
+    m: &Model,
+    variables: &[u32],
+    prefers: &[Preference],
+) -> Result<(), OutOfMemory>
+    requires count { length variables.now ≡ length prefers.now }
+    requires room { CanTake b.old (flat_map (preference_clauses (lists_of m.now)) (zip variables.now prefers.now)) }
+    requires known { All (IsPreference (lists_of m.now)) prefers.now }
+    ensures { OnOk result (b.new ≡ with_written b.old (flat_map (preference_clauses (lists_of m.now)) (zip variables.now prefers.now))) }
+{
+    for (place, p) in prefers.iter().enumerate() {
+        add_preference(alloc, b, m, variable_at(variables, place), p)?;
+    }
+    Ok(())
+}
+
+fn variable_at(variables: &[u32], place: usize) -> u32
+    requires { place < length variables.now }
+    ensures { result ≡ slice_index_or variables.now place 0 }
+{
+    variables[place]
+}
+
+/// Of a preference A B with variable u: `~u ~A`, `~u B`, `u A ~B`.
+fn add_preference(
+    alloc: Global,
+    b: &mut ProblemBuilder,
+    m: &Model,
+    u: u32,
+    p: &Preference,
+) -> Result<(), OutOfMemory>
+    requires room { CanTake b.old (preference_clauses (lists_of m.now) (u, p.now)) }
+    requires known { IsPreference (lists_of m.now) p.now }
+    ensures { OnOk result (b.new ≡ with_written b.old (preference_clauses (lists_of m.now) (u, p.now))) }
+{
+    let better = truth_variable(m, p.better);
+    let worse = truth_variable(m, p.worse);
+    add_clause(alloc, b, &[negated(u), negated(better)])?;
+    add_clause(alloc, b, &[negated(u), literal(worse)])?;
+    add_clause(alloc, b, &[literal(u), literal(better), negated(worse)])
+}

@@ -1,0 +1,83 @@
+//! The rows by which variables are the values of expressions.
+ghost use Rattle.std.specs.Prelude.{◌≡◌, ◌≢◌, ◌+◌, ◌-◌, ◌*◌, ◌<◌, ◌≤◌, ◌^◌, ◌∷◌, length, flat_map, pos, negsuc, neg_ℤ, unsigned_abs, All, IfOk, OnOk};
+ghost use Rattle.std.specs.List.{zip};
+ghost use Rattle.cgm_atom.specs.Building.{with_row};
+ghost use Rattle.cgm_atom.specs.Instance.{var_count};
+ghost use Rattle.cgm_atom.specs.Limits.{AreTermsOf};
+ghost use Rattle.cgm_encode.specs.Building.{IsDefining, defining_rows, with_rows};
+ghost use Rattle.cgm_encode.specs.Totals.{row_of};
+
+use crate::expressions::{Expression, negative};
+use cgm_atom::{OutOfMemory, ProblemBuilder, Row, Seq, Var};
+use std::alloc::Global;
+
+/// Adds the rows by which each variable is the value of the expression at its place.
+pub(crate) fn add_defining_rows(
+    alloc: Global,
+    b: &mut ProblemBuilder,
+    variables: &[u32],
+    expressions: &[Expression],
+) -> Result<(), OutOfMemory>
+    requires count { length variables.now ≡ length expressions.now }
+    requires known { All (λ v. v < var_count b.old) variables.now }
+    requires expressions { All (λ v. All (IsDefining v) expressions.now) variables.now }
+    requires room { length b.old.rows + 2 * length expressions.now ≤ 2 ^ 32 - 1 }
+    ensures { OnOk result (b.new ≡ with_rows b.old (flat_map defining_rows (zip variables.now expressions.now))) }
+{
+    for (place, e) in expressions.iter().enumerate() {
+        add_two_rows(alloc, b, variables[place], e)?;
+    }
+    Ok(())
+}
+
+/// Of the variable v and the expression L + d: `v - L >= d`, then `-v + L >= -d`.
+fn add_two_rows(
+    alloc: Global,
+    b: &mut ProblemBuilder,
+    v: u32,
+    e: &Expression,
+) -> Result<(), OutOfMemory>
+    requires expression { IsDefining v e.now }
+    requires known { v < var_count b.old }
+    requires room { length b.old.rows + 2 ≤ 2 ^ 32 - 1 }
+    ensures { OnOk result (b.new ≡ with_rows b.old (defining_rows (v, e.now))) }
+{
+    let negative_terms = negative(alloc, e.terms.as_slice())?;
+    let terms = with_first(alloc, 1, v, negative_terms.as_slice())?;
+    add_row(b, terms, e.constant)?;
+    let terms = with_first(alloc, -1, v, e.terms.as_slice())?;
+    add_row(b, terms, -e.constant)
+}
+
+/// The term of the variable before the others.
+fn with_first(
+    alloc: Global,
+    coefficient: i64,
+    v: u32,
+    others: &[(i64, Var)],
+) -> Result<Vec<(i64, Var)>, OutOfMemory>
+    ensures { IfOk result (λ terms. terms.items ≡ (coefficient, record { 0 = v }) ∷ others.now) }
+{
+    let mut terms = Vec::new(alloc);
+    terms.push((coefficient, Var(v)))?;
+    terms.extend_from_slice(others)?;
+    Ok(terms)
+}
+
+/// Adds a row without a guard. Where the row's measure passes its limit, which that of no sum and
+/// no objective of a model does, the answer is as for want of memory.
+fn add_row(b: &mut ProblemBuilder, terms: Vec<(i64, Var)>, least: i64) -> Result<(), OutOfMemory>
+    requires terms { AreTermsOf (var_count b.old) terms.items }
+    requires room { length b.old.rows < 2 ^ 32 - 1 }
+    ensures { OnOk result (b.new ≡ with_row b.old (row_of terms.items least)) }
+{
+    let row = Row {
+        guard: None,
+        terms: Seq::of(terms),
+        least,
+    };
+    match b.row(row) {
+        Ok(_) => Ok(()),
+        Err(_) => Err(OutOfMemory),
+    }
+}

@@ -1,0 +1,141 @@
+//! The values of a realization.
+ghost use Rattle.std.specs.Prelude.{◌≡◌, ◌++◌, [], map, not, All, IfOk, OnOk};
+ghost use Rattle.cgm_formula.specs.Reading.{number_in};
+ghost use Rattle.cgm_formula.specs.Sizes.{AreSmallIn};
+ghost use Rattle.cgm_model.specs.Assignment.{Fits};
+ghost use Rattle.cgm_model.specs.Formulas.{formula_of};
+ghost use Rattle.cgm_model.specs.Model.{lists_of};
+ghost use Rattle.cgm_model.specs.Sums.{sums_of};
+ghost use Rattle.cgm_obj.specs.Counts.{is_met as is_met_by};
+ghost use Rattle.cgm_obj.specs.Least.{Realizes};
+ghost use Rattle.cgm_obj.specs.Vector.{vector_of};
+ghost use Rattle.cgm_encode.specs.Assignments.{bit as bit_of, choice_values, extension as extension_of};
+ghost use Rattle.cgm_encode.specs.Decoding.{IsExtended};
+ghost use Rattle.cgm_encode.specs.Encoding.{IsEncodingOf};
+
+use crate::answer::Encoded;
+use crate::telling::{is_true, push_bit, push_rules};
+use cgm_atom::OutOfMemory;
+use cgm_evolve::Earlier;
+use cgm_formula::Assignment;
+use cgm_model::{Model, Preference, Rule, sums};
+use cgm_obj::vector;
+use std::alloc::Global;
+
+/// The values of a realization: a solution of the problem of the model that decodes to it, in which the
+/// values of the objectives are its vector.
+pub fn extend(
+    alloc: Global,
+    m: &Model,
+    e: &Earlier,
+    enc: &Encoded,
+    a: &Assignment,
+) -> Result<Vec<i64>, OutOfMemory>
+    requires realizes { Realizes (lists_of m.now) a.now }
+    requires encoding { IsEncodingOf (lists_of m.now) e.now.pairs enc.now }
+    ensures { IfOk result (λ values. IsExtended (lists_of m.now) e.now.pairs enc.now a.now values.items) }
+{
+    let mut values = Vec::with_capacity(alloc, enc.problem.vars() as usize)?;
+    push_values(alloc, &mut values, m, e, a)?;
+    Ok(values)
+}
+
+fn push_values(
+    alloc: Global,
+    out: &mut Vec<i64>,
+    m: &Model,
+    e: &Earlier,
+    a: &Assignment,
+) -> Result<(), OutOfMemory>
+    requires fits { Fits (lists_of m.now) a.now }
+    requires empty { out.old.items ≡ [] }
+    ensures { OnOk result (out.new.items ≡ extension_of (lists_of m.now) e.now.pairs a.now) }
+{
+    let sums = sums(alloc, m, a)?;
+    push_choices(alloc, out, m, a, sums.as_slice())?;
+    push_vector(alloc, out, m, e, a, sums.as_slice())?;
+    Ok(())
+}
+
+/// The values of all variables but those of objectives.
+fn push_choices(
+    alloc: Global,
+    out: &mut Vec<i64>,
+    m: &Model,
+    a: &Assignment,
+    sums: &[i64],
+) -> Result<(), OutOfMemory>
+    requires fits { Fits (lists_of m.now) a.now }
+    requires sums { sums.now ≡ sums_of (lists_of m.now) a.now }
+    requires empty { out.old.items ≡ [] }
+    ensures { OnOk result (out.new.items ≡ choice_values (lists_of m.now) a.now) }
+{
+    push_numbers(out, a, sums)?;
+    push_rules(alloc, out, a, sums, rules(m, a, sums))?;
+    push_preferences(out, a, m.prefers.as_slice())?;
+    Ok(())
+}
+
+fn push_vector(
+    alloc: Global,
+    out: &mut Vec<i64>,
+    m: &Model,
+    e: &Earlier,
+    a: &Assignment,
+    sums: &[i64],
+) -> Result<(), OutOfMemory>
+    requires fits { Fits (lists_of m.now) a.now }
+    requires sums { sums.now ≡ sums_of (lists_of m.now) a.now }
+    ensures { OnOk result (out.new.items ≡ out.old.items ++ vector_of (lists_of m.now) e.now.pairs a.now) }
+{
+    let numbers = vector(alloc, m, e, a, sums)?;
+    out.extend_from_slice(numbers.as_slice())
+}
+
+fn rules<'m>(m: &'m Model, a: &Assignment, sums: &[i64]) -> &'m [Rule]
+    requires fits { Fits (lists_of m.now) a.now }
+    requires sums { sums.now ≡ sums_of (lists_of m.now) a.now }
+    ensures items { result.now ≡ m.now.rules }
+    ensures small { All (λ r. AreSmallIn (number_in a.now sums.now) (formula_of r)) result.now }
+{
+    m.rules.as_slice()
+}
+
+/// The values of elements, refinements, variables and sums.
+fn push_numbers(out: &mut Vec<i64>, a: &Assignment, sums: &[i64]) -> Result<(), OutOfMemory>
+    ensures { OnOk result (out.new.items ≡ out.old.items ++ (((map bit_of a.now.elements ++ map bit_of a.now.refinements) ++ a.now.vars) ++ sums.now)) }
+{
+    push_bits(out, a.elements.as_slice())?;
+    push_bits(out, a.refinements.as_slice())?;
+    out.extend_from_slice(a.vars.as_slice())?;
+    out.extend_from_slice(sums)
+}
+
+fn push_bits(out: &mut Vec<i64>, truths: &[bool]) -> Result<(), OutOfMemory>
+    ensures { OnOk result (out.new.items ≡ out.old.items ++ map bit_of truths.now) }
+{
+    for truth in truths {
+        push_bit(out, *truth)?;
+    }
+    Ok(())
+}
+
+/// For each preference 1 where it isn't met, else 0.
+fn push_preferences(
+    out: &mut Vec<i64>,
+    a: &Assignment,
+    prefers: &[Preference],
+) -> Result<(), OutOfMemory>
+    ensures { OnOk result (out.new.items ≡ out.old.items ++ map (λ p. bit_of (not (is_met_by a.now p))) prefers.now) }
+{
+    for p in prefers {
+        push_bit(out, !is_met(a, p))?;
+    }
+    Ok(())
+}
+
+fn is_met(a: &Assignment, p: &Preference) -> bool
+    ensures { result ≡ is_met_by a.now p.now }
+{
+    is_true(a, p.better) || !is_true(a, p.worse)
+}

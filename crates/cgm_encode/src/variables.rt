@@ -1,0 +1,81 @@
+//! Variables that are added to a problem.
+ghost use Rattle.std.specs.Prelude.{◌≡◌, ◌+◌, ◌-◌, ◌^◌, ◌<◌, ◌≤◌, ◌≤ℤ◌, length, map, All, IfOk, OnOk};
+ghost use Rattle.std.specs.List.{range_with_len};
+ghost use Rattle.cgm_atom.specs.Building.{with_var};
+ghost use Rattle.cgm_atom.specs.Instance.{var_count};
+ghost use Rattle.cgm_encode.specs.Building.{with_ranges};
+ghost use Rattle.cgm_encode.specs.Problem.{bits, own_range};
+
+use cgm_atom::{OutOfMemory, ProblemBuilder};
+use cgm_model::Variable;
+use std::alloc::Global;
+
+/// Adds so many variables of 0 or 1, and answers them.
+pub(crate) fn add_bits(
+    alloc: Global,
+    b: &mut ProblemBuilder,
+    count: usize,
+) -> Result<Vec<u32>, OutOfMemory>
+    requires { var_count b.old + count ≤ 2 ^ 32 - 1 }
+    ensures added { OnOk result (b.new ≡ with_ranges b.old (bits count)) }
+    ensures variables { IfOk result (λ variables. variables.items ≡ range_with_len (var_count b.old) count) }
+{
+    let mut variables = Vec::new(alloc);
+    for _ in 0..count {
+        variables.push(add_variable(b, &(0, 1))?)?;
+    }
+    Ok(variables)
+}
+
+/// Adds the variables of a model, each with its bounds.
+pub(crate) fn add_own(b: &mut ProblemBuilder, vars: &[Variable]) -> Result<(), OutOfMemory>
+    requires ordered { All (λ v. v.lo ≤ℤ v.hi) vars.now }
+    requires room { var_count b.old + length vars.now ≤ 2 ^ 32 - 1 }
+    ensures { OnOk result (b.new ≡ with_ranges b.old (map own_range vars.now)) }
+{
+    for v in vars {
+        add_one_own(b, v)?;
+    }
+    Ok(())
+}
+
+fn add_one_own(b: &mut ProblemBuilder, v: &Variable) -> Result<(), OutOfMemory>
+    requires ordered { v.now.lo ≤ℤ v.now.hi }
+    requires room { var_count b.old < 2 ^ 32 - 1 }
+    ensures { OnOk result (b.new ≡ with_var b.old v.now.lo v.now.hi) }
+{
+    add_variable(b, &(v.lo, v.hi))?;
+    Ok(())
+}
+
+/// Adds a variable for each range, and answers the variables.
+pub(crate) fn add_variables(
+    alloc: Global,
+    b: &mut ProblemBuilder,
+    ranges: &[(i64, i64)],
+) -> Result<Vec<u32>, OutOfMemory>
+    requires ordered { All (λ r. r.0 ≤ℤ r.1) ranges.now }
+    requires room { var_count b.old + length ranges.now ≤ 2 ^ 32 - 1 }
+    ensures added { OnOk result (b.new ≡ with_ranges b.old ranges.now) }
+    ensures variables { IfOk result (λ variables. variables.items ≡ range_with_len (var_count b.old) (length ranges.now)) }
+{
+    let mut variables = Vec::new(alloc);
+    for range in ranges {
+        variables.push(add_variable(b, range)?)?;
+    }
+    Ok(variables)
+}
+
+/// Adds a variable with its least and its greatest value, and answers it. Where one passes the limit
+/// of a bound, which no range of a model's problem does, the answer is as for want of memory.
+fn add_variable(b: &mut ProblemBuilder, range: &(i64, i64)) -> Result<u32, OutOfMemory>
+    requires ordered { range.now.0 ≤ℤ range.now.1 }
+    requires room { var_count b.old < 2 ^ 32 - 1 }
+    ensures added { OnOk result (b.new ≡ with_var b.old range.now.0 range.now.1) }
+    ensures variable { IfOk result (λ x. x ≡ var_count b.old) }
+{
+    match b.var(range.0, range.1) {
+        Ok(v) => Ok(v.0),
+        Err(_) => Err(OutOfMemory),
+    }
+}

@@ -1,8 +1,4 @@
-pub mod Continuing
-pub mod Least
-pub mod Order
+pub mod RuleLines
 pub mod Shelves
-pub mod Showing
 pub mod Solving
 pub mod Taking
-pub mod Truths

@@ -6,9 +6,10 @@ use Rattle.cgm_base.specs.declared.status.Status.TheVariants as statuses
 use Rattle.cgm_model.specs.declared.lists.Lists.{Lists}
 use Rattle.cgm_shelf.specs.Faults.{Rose}
 use Rattle.cgm_shelf.specs.Shelf.{Files, MissingOrRose}
-use Rattle.cgm_text.specs.Text.{IsTextOf}
+use Rattle.cgm_text.specs.Text.{IsReading, IsTextOf}
+use Rattle.cgm_evolve.specs.Pairs.{Pair}
 use Rattle.cgm_evolve.specs.Text.{IsTextOf as IsEarlierTextOf}
-use Rattle.cgm_cli.specs.Outcome.{Printing, shelving, IsFileOf, IsModelOf, HasNoText, HasNoEarlier, HasFileOutcome, HasEarlierOutcome, HasEarlierFaultOutcome}
+use Rattle.cgm_cli.specs.Outcome.{Printing, Shelving, shelving, IsEarlierOf, IsFileOf, IsInputOf, IsModelOf, IsReadingOf, HasNoInput, HasNoText, HasNoEarlier, HasEarlierFaultOutcome}
 
 rose_from : (before mid now : ℕ) → before ≤ mid → Rose mid now → Rose before now
 rose_from before mid now under rose = omega (arith, clamps, under, rose)
@@ -39,21 +40,24 @@ no_earlier : (told : Option Files) (name : List ℕ) (before mid now : ℕ) (sin
 no_earlier told name before mid now sink status under (inl gone) = inl (no_text told name before mid now sink status under gone)
 no_earlier told name before mid now sink status under (inr file) = inr (file_of told name (λ text. HasEarlierFaultOutcome text sink status) mid now before now file)
 
--- the outcome of what comes after a read is that of both
-pub earlier_outcome : (earlier : Option (List ℕ)) (told : Option Files) (before mid now : ℕ) (m : Lists) (sink : Printing) (status : Status) → before ≤ mid → HasEarlierOutcome earlier (shelving told mid now) m sink status → HasEarlierOutcome earlier (shelving told before now) m sink status
-earlier_outcome None told before mid now m sink status under outcome = outcome
-earlier_outcome (Some name) told before mid now m sink status under (inl gone) = inl (no_earlier told name before mid now sink status under gone)
-earlier_outcome (Some name) told before mid now m sink status under (inr has) =
-    inr (has.0, (file_of told name (λ text. IsEarlierTextOf text has.0) mid now before now has.1.0, has.1.1))
+-- a reading is one of its model
+pub model_of_reading : (shelf : Shelving) (name : List ℕ) (m : Lists) (lines : List ℕ) → IsReadingOf shelf name m lines → IsModelOf shelf name m
+model_of_reading shelf name m lines file =
+    let reading = file.1.1 in
+    (file.0, (file.1.0, (reading.said, (reading.has, reading.model_is))))
 
--- a model was read, and what came after it had this outcome
-pub file_outcome : (name : List ℕ) (earlier : Option (List ℕ)) (told told_then : Option Files) (before mid now : ℕ) (m : Lists) (sink : Printing) (status : Status) → told_then ≡ told → before ≤ mid → IsModelOf (shelving told before mid) name m → HasEarlierOutcome earlier (shelving told_then mid now) m sink status → HasFileOutcome (HasEarlierOutcome earlier (shelving told before now)) name (shelving told before now) sink status
-file_outcome name earlier told told_then before mid now m sink status same under model outcome =
+-- a model was read, and then no earlier realization
+pub no_input : (name file : List ℕ) (told told_then : Option Files) (before mid now : ℕ) (m : Lists) (lines : List ℕ) (sink : Printing) (status : Status) → told_then ≡ told → before ≤ mid → IsReadingOf (shelving told before mid) name m lines → HasNoEarlier file (shelving told_then mid now) sink status → HasNoInput name (Some file) (shelving told before now) sink status
+no_input name file told told_then before mid now m lines sink status same under reading gone =
+    let model = model_of_reading (shelving told before mid) name m lines reading in
     inr (
-      m,
-      (
-        file_of told name (λ text. IsTextOf text m) before mid before now model,
-        earlier_outcome earlier told before mid now m sink status under
-            (subst (λ files. HasEarlierOutcome earlier (shelving files mid now) m sink status) same outcome),
-      ),
+      (m, file_of told name (λ text. IsTextOf text m) before mid before now model),
+      no_earlier told file before mid now sink status under (subst (λ files. HasNoEarlier file (shelving files mid now) sink status) same gone),
     )
+
+-- a model was read, and then an earlier realization
+pub input_of : (name file : List ℕ) (told told_then : Option Files) (before mid now : ℕ) (m : Lists) (lines : List ℕ) (pairs : List Pair) → told_then ≡ told → IsReadingOf (shelving told before mid) name m lines → IsEarlierOf (shelving told_then mid now) file pairs → IsInputOf (shelving told before now) name (Some file) m lines pairs
+input_of name file told told_then before mid now m lines pairs same reading earlier = record {
+  model = file_of told name (λ text. IsReading text m lines) before mid before now reading;
+  known = file_of told file (λ text. IsEarlierTextOf text pairs) mid now before now (subst (λ files. IsEarlierOf (shelving files mid now) file pairs) same earlier);
+}

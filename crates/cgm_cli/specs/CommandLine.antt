@@ -1,10 +1,14 @@
 -- Which words, after the program's own name, are a command line, and the command that they give.
-use Rattle.std.specs.Prelude.{true, List, [], ◌∷◌, ◌++◌, Option, Some, None, codes, map, option_and_then, option_map, if◌then◌else◌}
+use Rattle.std.specs.Prelude.{true, ℕ, ◌-◌, ◌^◌, List, [], ◌∷◌, ◌++◌, Option, Some, None, codes, map, option_and_then, option_map, if◌then◌else◌}
 use Rattle.std.specs.Str.{bytes_eq}
 use Rattle.clap.specs.Faults.{fault_of}
 use Rattle.clap.specs.Kinds.{Kinds}
 use Rattle.clap.specs.Simple.{App, matches_of, new_rule, new_shape}
 use Rattle.clap.specs.Walk.{Row, Rule, Text, first_of}
+use Rattle.cgm_atom.specs.Limits.{max_workers}
+use Rattle.cgm_search.specs.declared.plans.Plan.{Plan}
+use Rattle.cgm_search.specs.Searching.{max_budget, max_restarts}
+use Rattle.cgm_cli.specs.Numbers.{number_or}
 
 -- ---- the words that each command takes
 
@@ -23,13 +27,19 @@ options_of word positionals names = record {
   subs = [];
 }
 
--- `solve MODEL --earlier=FILE`
+-- `solve MODEL --earlier=FILE --workers=N --budget=N --restarts=N --seed=N`
 abbrev pub solve_options : App
-solve_options = options_of (codes "solve") (codes "model" ∷ []) (codes "earlier" ∷ [])
+solve_options =
+    options_of (codes "solve") (codes "model" ∷ [])
+    (codes "earlier" ∷ codes "workers" ∷ codes "budget" ∷ codes "restarts" ∷ codes "seed" ∷ [])
 
 -- `show MODEL`
 abbrev pub show_options : App
 show_options = options_of (codes "show") (codes "model" ∷ []) []
+
+-- `encode MODEL --earlier=FILE`
+abbrev pub encode_options : App
+encode_options = options_of (codes "encode") (codes "model" ∷ []) (codes "earlier" ∷ [])
 
 abbrev pub unless_faulty : Kinds → List Row → Option (List Row)
 unless_faulty [] rows = Some rows
@@ -39,25 +49,61 @@ unless_faulty (fault ∷ faults) rows = None
 unfoldable pub given : App → List Text → Option (List Row)
 given options words = unless_faulty (fault_of options words) (matches_of options words)
 
+-- ---- the numbers that the words give
+
+-- the number of an option, or its default; none where what is given is no number of its range
+abbrev pub number_given : Text → ℕ → ℕ → ℕ → List Row → Option ℕ
+number_given name least greatest default rows = number_or least greatest default (first_of name rows)
+
+abbrev pub workers_given : List Row → Option ℕ
+workers_given rows = number_given (codes "workers") 1 max_workers 4 rows
+
+abbrev pub budget_given : List Row → Option ℕ
+budget_given rows = number_given (codes "budget") 0 max_budget 1000000000 rows
+
+abbrev pub restarts_given : List Row → Option ℕ
+restarts_given rows = number_given (codes "restarts") 0 max_restarts 64 rows
+
+abbrev pub seed_given : List Row → Option ℕ
+seed_given rows = number_given (codes "seed") 0 (2 ^ 64 - 1) 0 rows
+
+-- how long and how each worker searches; none where a number isn't one of its range
+abbrev pub plan_given : List Row → Option Plan
+plan_given rows =
+    option_and_then (λ budget.
+    option_and_then (λ restarts.
+    option_map (λ seed. record { budget = budget; restarts = restarts; seed = seed })
+    (seed_given rows)) (restarts_given rows)) (budget_given rows)
+
 -- ---- commands
 
 pub data Command : Type 0 where
-  -- `solve`, with the name of the model's file and that of the earlier realization's file
-  solve : Text → Option Text → Command
+  -- `solve`, with the name of the model's file and that of the earlier realization's file, by so many workers with this plan
+  solve : Text → Option Text → ℕ → Plan → Command
   -- `show`, with the name of the model's file
   show : Text → Command
+  -- `encode`, with the name of the model's file and that of the earlier realization's file
+  encode : Text → Option Text → Command
 
 abbrev pub solve_with : List Row → Option Command
-solve_with rows = option_map (λ model. solve model (first_of (codes "earlier") rows)) (first_of (codes "model") rows)
+solve_with rows =
+    option_and_then (λ model.
+    option_and_then (λ workers.
+    option_map (λ plan. solve model (first_of (codes "earlier") rows) workers plan)
+    (plan_given rows)) (workers_given rows)) (first_of (codes "model") rows)
 
 abbrev pub show_with : List Row → Option Command
 show_with rows = option_map show (first_of (codes "model") rows)
+
+abbrev pub encode_with : List Row → Option Command
+encode_with rows = option_map (λ model. encode model (first_of (codes "earlier") rows)) (first_of (codes "model") rows)
 
 -- the command of the first word, which the words begin with
 abbrev pub command_of : Text → List Text → Option Command
 command_of word words =
     if bytes_eq word (codes "solve") then option_and_then solve_with (given solve_options words)
     else if bytes_eq word (codes "show") then option_and_then show_with (given show_options words)
+    else if bytes_eq word (codes "encode") then option_and_then encode_with (given encode_options words)
     else None
 
 abbrev pub command_line : List Text → Option Command

@@ -1,7 +1,7 @@
+pub mod Answers
 pub mod CommandLine
 pub mod Commands
+pub mod FaultLines
+pub mod Numbers
 pub mod Outcome
 pub mod Placed
-pub mod Report
-pub mod Search
-pub mod Shown

@@ -4,7 +4,7 @@ use Rattle.cgm_base.specs.declared.status.Status.{Status}
 use Rattle.cgm_base.specs.declared.status.Status.TheVariants as statuses
 use Rattle.cgm_cli.specs.declared.print.PlacedFault.{PlacedFault}
 use Rattle.cgm_cli.specs.declared.print.PlacedFault.TheVariants as faults
-use Rattle.cgm_cli.specs.Report.{text_fault, earlier_fault, limit_fault}
+use Rattle.cgm_cli.specs.FaultLines.{text_fault, earlier_fault, limit_fault}
 
 abbrev pub placed_line : PlacedFault → List ℕ
 placed_line (faults.Text line kind) = text_fault line kind

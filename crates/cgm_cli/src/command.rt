@@ -1,24 +1,50 @@
-ghost use Rattle.std.specs.Prelude.{◌≡◌, ◌∷◌, IfOk, map, option_and_then, option_map};
+ghost use Rattle.std.specs.Prelude.{◌≡◌, ◌≤◌, IfOk, IfSome, map, option_and_then, option_map};
 ghost use Rattle.std.specs.String.{string_bytes};
 ghost use Rattle.clap.specs.Words.{found_of, rows_of};
-ghost use Rattle.cgm_cli.specs.CommandLine.{command_line, command_of, given, show_options, show_with, solve_options, solve_with};
-ghost use Rattle.cgm_cli.specs.Commands.{told_by};
+ghost use Rattle.cgm_search.specs.Searching.{IsPlan};
+ghost use Rattle.cgm_cli.specs.CommandLine.{command_line, command_of, encode_options, encode_with, given, number_given, plan_given, show_options, show_with, solve_options, solve_with, workers_given};
+ghost use Rattle.cgm_cli.specs.Commands.{HasPlan, told_by};
 
-use crate::options::{given, show_options, solve_options, text_given};
+use crate::numbers::number_or;
+use crate::options::{encode_options, given, show_options, solve_options, text_given};
+use cgm_search::{MAX_BUDGET, MAX_RESTARTS, Plan};
 use clap::ArgMatches;
 use std::alloc::{AllocError, Global};
+
+/// The most workers.
+const MAX_WORKERS: u64 = 16;
+
+/// How many workers search where no number is given.
+const WORKERS: u64 = 4;
+
+/// The budget of each worker where none is given.
+const BUDGET: u64 = 1_000_000_000;
+
+/// How many restarts each worker makes at most where no number is given.
+const RESTARTS: u64 = 64;
+
+/// The seed where none is given.
+const SEED: u64 = 0;
 
 /// What the words ask for, with names of files.
 #[derive(Clone, Copy)]
 pub(crate) enum Command<'w> {
-    /// `solve MODEL`, with the file of an earlier realization where one is given.
+    /// `solve MODEL`, with the file of an earlier realization where one is given, by so many workers,
+    /// each with this plan.
     Solve {
         model: &'w str,
         earlier: Option<&'w str>,
+        workers: u64,
+        plan: Plan,
     },
     /// `show MODEL`
     Show {
         model: &'w str,
+    },
+    /// `encode MODEL`, with the file of an earlier realization where one is given.
+    Encode {
+        model: &'w str,
+        earlier: Option<&'w str>,
     },
 }
 
@@ -27,8 +53,9 @@ pub(crate) fn command_in<'w>(
     alloc: Global,
     words: &'w [String],
 ) -> Result<Option<Command<'w>>, AllocError>
-    ensures { IfOk result (λ found. option_map told_by found ≡ command_line (map string_bytes
+    ensures command { IfOk result (λ found. option_map told_by found ≡ command_line (map string_bytes
         words.now)) }
+    ensures plan { IfOk result (λ found. IfSome found HasPlan) }
 {
     match words {
         [] => Ok(None),
@@ -42,21 +69,25 @@ fn command_of<'w>(
     word: &str,
     words: &'w [String],
 ) -> Result<Option<Command<'w>>, AllocError>
-    ensures { IfOk result (λ found. option_map told_by found ≡ command_of word.now (map string_bytes
+    ensures command { IfOk result (λ found. option_map told_by found ≡ command_of word.now (map string_bytes
         words.now)) }
+    ensures plan { IfOk result (λ found. IfSome found HasPlan) }
 {
     if word == "solve" {
         solve_in(alloc, words)
     } else if word == "show" {
         show_in(alloc, words)
+    } else if word == "encode" {
+        encode_in(alloc, words)
     } else {
         Ok(None)
     }
 }
 
 fn solve_in<'w>(alloc: Global, words: &'w [String]) -> Result<Option<Command<'w>>, AllocError>
-    ensures { IfOk result (λ found. option_map told_by found ≡ option_and_then solve_with (given
+    ensures command { IfOk result (λ found. option_map told_by found ≡ option_and_then solve_with (given
         solve_options (map string_bytes words.now))) }
+    ensures plan { IfOk result (λ found. IfSome found HasPlan) }
 {
     match given(solve_options(alloc)?, words)? {
         None => Ok(None),
@@ -65,20 +96,61 @@ fn solve_in<'w>(alloc: Global, words: &'w [String]) -> Result<Option<Command<'w>
 }
 
 fn solve_with<'w>(matches: &ArgMatches<'w>) -> Option<Command<'w>>
-    ensures { option_map told_by result ≡ solve_with (rows_of (found_of matches.now)) }
+    ensures command { option_map told_by result ≡ solve_with (rows_of (found_of matches.now)) }
+    ensures plan { IfSome result HasPlan }
 {
-    match text_given(matches, "model") {
-        None => None,
-        Some(model) => {
-            let earlier = text_given(matches, "earlier");
-            Some(Command::Solve { model, earlier })
-        }
-    }
+    let model = text_given(matches, "model")?;
+    let earlier = text_given(matches, "earlier");
+    let workers = workers_given(matches)?;
+    let plan = plan_given(matches)?;
+    Some(Command::Solve {
+        model,
+        earlier,
+        workers,
+        plan,
+    })
+}
+
+/// The number of an option, or its default; none where what is given is no number of its range.
+fn number_given(
+    matches: &ArgMatches<'_>,
+    name: &str,
+    least: u64,
+    greatest: u64,
+    default: u64,
+) -> Option<u64>
+    requires { default ≤ greatest }
+    ensures number { result ≡ number_given name.now least greatest default (rows_of (found_of matches.now)) }
+    ensures within { IfSome result (λ number. number ≤ greatest) }
+{
+    number_or(least, greatest, default, text_given(matches, name))
+}
+
+fn workers_given(matches: &ArgMatches<'_>) -> Option<u64>
+    ensures { result ≡ workers_given (rows_of (found_of matches.now)) }
+{
+    number_given(matches, "workers", 1, MAX_WORKERS, WORKERS)
+}
+
+/// How long and how each worker searches.
+fn plan_given(matches: &ArgMatches<'_>) -> Option<Plan>
+    ensures plan { result ≡ plan_given (rows_of (found_of matches.now)) }
+    ensures within { IfSome result IsPlan }
+{
+    let budget = number_given(matches, "budget", 0, MAX_BUDGET, BUDGET)?;
+    let restarts = number_given(matches, "restarts", 0, MAX_RESTARTS as u64, RESTARTS)?;
+    let seed = number_given(matches, "seed", 0, u64::MAX, SEED)?;
+    Some(Plan {
+        budget,
+        restarts: restarts as u32,
+        seed,
+    })
 }
 
 fn show_in<'w>(alloc: Global, words: &'w [String]) -> Result<Option<Command<'w>>, AllocError>
-    ensures { IfOk result (λ found. option_map told_by found ≡ option_and_then show_with (given
+    ensures command { IfOk result (λ found. option_map told_by found ≡ option_and_then show_with (given
         show_options (map string_bytes words.now))) }
+    ensures plan { IfOk result (λ found. IfSome found HasPlan) }
 {
     match given(show_options(alloc)?, words)? {
         None => Ok(None),
@@ -87,10 +159,35 @@ fn show_in<'w>(alloc: Global, words: &'w [String]) -> Result<Option<Command<'w>>
 }
 
 fn show_with<'w>(matches: &ArgMatches<'w>) -> Option<Command<'w>>
-    ensures { option_map told_by result ≡ show_with (rows_of (found_of matches.now)) }
+    ensures command { option_map told_by result ≡ show_with (rows_of (found_of matches.now)) }
+    ensures plan { IfSome result HasPlan }
 {
     match text_given(matches, "model") {
         None => None,
         Some(model) => Some(Command::Show { model }),
+    }
+}
+
+fn encode_in<'w>(alloc: Global, words: &'w [String]) -> Result<Option<Command<'w>>, AllocError>
+    ensures command { IfOk result (λ found. option_map told_by found ≡ option_and_then encode_with (given
+        encode_options (map string_bytes words.now))) }
+    ensures plan { IfOk result (λ found. IfSome found HasPlan) }
+{
+    match given(encode_options(alloc)?, words)? {
+        None => Ok(None),
+        Some(matches) => Ok(encode_with(&matches)),
+    }
+}
+
+fn encode_with<'w>(matches: &ArgMatches<'w>) -> Option<Command<'w>>
+    ensures command { option_map told_by result ≡ encode_with (rows_of (found_of matches.now)) }
+    ensures plan { IfSome result HasPlan }
+{
+    match text_given(matches, "model") {
+        None => None,
+        Some(model) => {
+            let earlier = text_given(matches, "earlier");
+            Some(Command::Encode { model, earlier })
+        }
     }
 }

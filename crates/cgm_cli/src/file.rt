@@ -1,17 +1,16 @@
 // The model of a file, and the earlier realization of a file, or why there is none.
-ghost use Rattle.std.specs.Prelude.{◌≡◌, ◌≤◌, length, MatchResult, OnOk};
+ghost use Rattle.std.specs.Prelude.{◌≡◌, ◌≤◌, length, IfOk, MatchResult, OnOk};
 ghost use Rattle.cgm_evolve.specs.Text.{IsTextOf as IsEarlierTextOf};
 ghost use Rattle.cgm_model.specs.Model.{lists_of};
-ghost use Rattle.cgm_text.specs.Text.{IsTextOf};
-ghost use Rattle.cgm_cli.specs.Outcome.{printing, shelving, IsEarlierOf, IsModelOf, IsTextFile, HasNoEarlier, HasNoModel, HasNoText, HasEarlierFaultOutcome, HasFaultOutcome, most_bytes, text_limit};
+ghost use Rattle.cgm_text.specs.Text.{IsReading};
+ghost use Rattle.cgm_cli.specs.Outcome.{printing, shelving, IsEarlierOf, IsReadingOf, IsTextFile, HasNoEarlier, HasNoModel, HasNoText, HasEarlierFaultOutcome, HasFaultOutcome, most_bytes, text_limit};
 
 use crate::print::{PlacedFault, tell, tell_fault, tell_memory};
 use cgm_base::limits::TEXT_BYTES;
 use cgm_base::{Limit, Status, Which};
 use cgm_evolve::{Earlier, EarlierStop, read_earlier};
-use cgm_model::Model;
 use cgm_shelf::{ReadStop, Shelf, Sink, read_whole};
-use cgm_text::{TextStop, read};
+use cgm_text::{Reading, TextStop, read};
 use std::alloc::Global;
 
 /// The limit that a text of too many bytes passes.
@@ -54,16 +53,19 @@ fn text_of_file<F: Shelf, O: Sink>(
     }
 }
 
-/// The model of a text, or the status after its first fault was told.
-fn model_of_text<O: Sink>(alloc: Global, text: &[u8], out: &mut O) -> Result<Model, Status>
+/// The model of a text with the lines of its rules, or the status after its first fault was told.
+fn reading_of_text<O: Sink>(alloc: Global, text: &[u8], out: &mut O) -> Result<Reading, Status>
     requires { length text.now ≤ most_bytes }
-    ensures outcome { MatchResult result (λ m. IsTextOf text.now (lists_of m))
+    ensures outcome { MatchResult result
+        (λ reading. IsReading text.now (lists_of reading.model) reading.rule_lines.items)
         (HasFaultOutcome text.now
         (printing (O.written out.old) (O.written out.new) (O.faults out.old) (O.faults out.new))) }
+    ensures lines { IfOk result (λ reading. length reading.rule_lines.items ≡ length
+        reading.model.rules) }
     ensures untouched { OnOk result (out.new ≡ out.old) }
 {
     match read(alloc, text) {
-        Ok(reading) => Ok(reading.model),
+        Ok(reading) => Ok(reading),
         Err(TextStop::Bad { line, kind }) => {
             Err(tell_fault(alloc, out, PlacedFault::Text { line, kind }))
         }
@@ -72,26 +74,30 @@ fn model_of_text<O: Sink>(alloc: Global, text: &[u8], out: &mut O) -> Result<Mod
     }
 }
 
-/// The model of the named file, or the status after it was told why there is none.
-pub(crate) fn model_of_file<F: Shelf, O: Sink>(
+/// The model of the named file with the lines of its rules, or the status after it was told why
+/// there is none.
+pub(crate) fn reading_of_file<F: Shelf, O: Sink>(
     alloc: Global,
     name: &str,
     shelf: &mut F,
     out: &mut O,
-) -> Result<Model, Status>
+) -> Result<Reading, Status>
     ensures outcome { MatchResult result
-        (λ m. IsModelOf (shelving (F.files shelf.old) (F.read_faults shelf.old) (F.read_faults shelf.new))
-        name.now (lists_of m))
+        (λ reading. IsReadingOf
+        (shelving (F.files shelf.old) (F.read_faults shelf.old) (F.read_faults shelf.new))
+        name.now (lists_of reading.model) reading.rule_lines.items)
         (HasNoModel name.now
         (shelving (F.files shelf.old) (F.read_faults shelf.old) (F.read_faults shelf.new))
         (printing (O.written out.old) (O.written out.new) (O.faults out.old) (O.faults out.new))) }
     ensures untouched { OnOk result (out.new ≡ out.old) }
     ensures files { F.files shelf.new ≡ F.files shelf.old }
     ensures writes { F.write_faults shelf.new ≡ F.write_faults shelf.old }
+    ensures lines { IfOk result (λ reading. length reading.rule_lines.items ≡ length
+        reading.model.rules) }
     ensures later { F.read_faults shelf.old ≤ F.read_faults shelf.new }
 {
     match text_of_file(alloc, name, shelf, out) {
-        Ok(text) => model_of_text(alloc, text.as_slice(), out),
+        Ok(text) => reading_of_text(alloc, text.as_slice(), out),
         Err(status) => Err(status),
     }
 }

@@ -2,15 +2,14 @@
 #![tactic(auto)]
 
 mod command;
+mod encoding;
 mod file;
-mod found;
+mod input;
 mod numbers;
 mod options;
 mod print;
 mod program;
-mod report;
 mod run;
-mod search;
 mod show;
 mod solve;
 

@@ -2,7 +2,7 @@
 ghost use Rattle.std.specs.Prelude.{◌≡◌, IfOk, true, map, option_map};
 ghost use Rattle.std.specs.String.{string_bytes};
 ghost use Rattle.clap.specs.Words.{app_of, first_of, found_of, is_simple_and_free, rows_of, with_rule};
-ghost use Rattle.cgm_cli.specs.CommandLine.{given, option, positional, show_options, solve_options};
+ghost use Rattle.cgm_cli.specs.CommandLine.{encode_options, given, option, positional, show_options, solve_options};
 
 use clap::error::ErrorKind;
 use clap::{Arg, ArgMatches, Command, Error};
@@ -30,13 +30,17 @@ fn with_option<'w>(
     options.arg(Arg::new(alloc, name).long(name))
 }
 
-/// `solve MODEL --earlier=FILE`
+/// `solve MODEL --earlier=FILE --workers=N --budget=N --restarts=N --seed=N`
 pub(crate) fn solve_options<'w>(alloc: Global) -> Result<Command<'w>, AllocError>
     ensures { IfOk result (λ options. app_of options ≡ solve_options) }
 {
     let word = Command::new(alloc, "solve").disable_help_flag(true);
     let with_model = with_positional(alloc, word, "model")?;
-    with_option(alloc, with_model, "earlier")
+    let with_earlier = with_option(alloc, with_model, "earlier")?;
+    let with_workers = with_option(alloc, with_earlier, "workers")?;
+    let with_budget = with_option(alloc, with_workers, "budget")?;
+    let with_restarts = with_option(alloc, with_budget, "restarts")?;
+    with_option(alloc, with_restarts, "seed")
 }
 
 /// `show MODEL`
@@ -45,6 +49,15 @@ pub(crate) fn show_options<'w>(alloc: Global) -> Result<Command<'w>, AllocError>
 {
     let word = Command::new(alloc, "show").disable_help_flag(true);
     with_positional(alloc, word, "model")
+}
+
+/// `encode MODEL --earlier=FILE`
+pub(crate) fn encode_options<'w>(alloc: Global) -> Result<Command<'w>, AllocError>
+    ensures { IfOk result (λ options. app_of options ≡ encode_options) }
+{
+    let word = Command::new(alloc, "encode").disable_help_flag(true);
+    let with_model = with_positional(alloc, word, "model")?;
+    with_option(alloc, with_model, "earlier")
 }
 
 /// What the words, of which the first is the command's, give to each name; none where they aren't

@@ -3,7 +3,7 @@ ghost use Rattle.std.specs.String.{string_bytes};
 ghost use Rattle.cgm_base.specs.declared.status.Status.TheVariants as statuses;
 ghost use Rattle.cgm_cli.specs.Outcome.{printing, IsTold, PrintsReport, TellsOrLacksMemory};
 ghost use Rattle.cgm_cli.specs.Placed.{placed_line, placed_status};
-ghost use Rattle.cgm_cli.specs.Report.{text_fault, earlier_fault, limit_fault, memory_fault};
+ghost use Rattle.cgm_cli.specs.FaultLines.{text_fault, earlier_fault, limit_fault, memory_fault};
 
 use cgm_base::{BadKind, Limit, Status};
 use cgm_shelf::{Sink, write_whole};

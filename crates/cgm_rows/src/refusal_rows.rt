@@ -5,6 +5,7 @@ use crate::runs::{
 use cgm_base::Status;
 use cgm_cli::run_quiet;
 use cgm_shelf::MemSink;
+use cgm_trail::Work;
 use std::alloc::Global;
 use std::process::Abort;
 use std::test::Fail;
@@ -44,7 +45,8 @@ fn usage_faults(rt: HostRuntime) -> Result<(), Fail> {
         let mut shelf = shelf_of(alloc, "first.cgm", FIRST.as_bytes(), Vec::new(alloc))?;
         let mut sink = sink_of_pieces(alloc);
         let owned = owned_words(alloc, words)?;
-        let status = run_quiet(alloc, owned.as_slice(), &mut shelf, &mut sink);
+        let mut work = Work::new(alloc);
+        let status = run_quiet(alloc, owned.as_slice(), &mut shelf, &mut sink, &mut work);
         assert_eq!(rt; status, Status::Usage);
         assert!(rt; has_printed(&sink, "fault usage\n"));
     }
@@ -70,7 +72,8 @@ fn words_in_other_orders(rt: HostRuntime) -> Result<(), Fail> {
         shelf.put("old.txt", b"earlier 1\n")?;
         let mut sink = sink_of_pieces(alloc);
         let owned = owned_words(alloc, words)?;
-        let status = run_quiet(alloc, owned.as_slice(), &mut shelf, &mut sink);
+        let mut work = Work::new(alloc);
+        let status = run_quiet(alloc, owned.as_slice(), &mut shelf, &mut sink, &mut work);
         assert_eq!(rt; status, Status::Done);
         assert!(rt; has_printed(&sink, FIRST_REPORT));
     }
@@ -84,7 +87,8 @@ fn file_not_there(rt: HostRuntime) -> Result<(), Fail> {
         let mut shelf = shelf_of(alloc, "first.cgm", FIRST.as_bytes(), Vec::new(alloc))?;
         let mut sink = sink_of_pieces(alloc);
         let words = owned_words(alloc, &[command, "nowhere.cgm"])?;
-        let status = run_quiet(alloc, words.as_slice(), &mut shelf, &mut sink);
+        let mut work = Work::new(alloc);
+        let status = run_quiet(alloc, words.as_slice(), &mut shelf, &mut sink, &mut work);
         assert_eq!(rt; (status, status.code()), (Status::Read, 8));
         assert!(rt; has_printed(&sink, "fault read\n"));
         assert_eq!(rt; shelf.read_faults(), 0);
@@ -100,7 +104,8 @@ fn read_fails(rt: HostRuntime) -> Result<(), Fail> {
     let mut shelf = shelf_of(alloc, "first.cgm", FIRST.as_bytes(), second)?;
     let mut sink = sink_of_pieces(alloc);
     let words = owned_words(alloc, &["solve", "first.cgm"])?;
-    let status = run_quiet(alloc, words.as_slice(), &mut shelf, &mut sink);
+    let mut work = Work::new(alloc);
+    let status = run_quiet(alloc, words.as_slice(), &mut shelf, &mut sink, &mut work);
     assert_eq!(rt; status, Status::Read);
     assert!(rt; has_printed(&sink, "fault read\n"));
     assert_eq!(rt; shelf.read_faults(), 1);
@@ -115,7 +120,8 @@ fn sink_fails(rt: HostRuntime) -> Result<(), Fail> {
         let mut shelf = shelf_of(alloc, "first.cgm", FIRST.as_bytes(), Vec::new(alloc))?;
         let mut sink = MemSink::new(alloc, 8, vec![in alloc; 2]?);
         let words = owned_words(alloc, &[command, "first.cgm"])?;
-        let status = run_quiet(alloc, words.as_slice(), &mut shelf, &mut sink);
+        let mut work = Work::new(alloc);
+        let status = run_quiet(alloc, words.as_slice(), &mut shelf, &mut sink, &mut work);
         assert_eq!(rt; (status, status.code()), (Status::Write, 9));
         assert!(rt; has_printed(&sink, front), "at {command}");
         assert_eq!(rt; sink.faults(), 1);

@@ -2,6 +2,7 @@
 use cgm_base::Status;
 use cgm_cli::run_quiet;
 use cgm_shelf::{MemShelf, MemSink};
+use cgm_trail::Work;
 use std::alloc::{AllocError, Global};
 use std::process::Abort;
 use std::test::Fail;
@@ -43,7 +44,8 @@ pub(crate) fn run_on_text(
     let mut shelf = shelf_of(alloc, "model.cgm", text, Vec::new(alloc))?;
     let mut sink = sink_of_pieces(alloc);
     let words = owned_words(alloc, &[command, "model.cgm"])?;
-    let status = run_quiet(alloc, words.as_slice(), &mut shelf, &mut sink);
+    let mut work = Work::new(alloc);
+    let status = run_quiet(alloc, words.as_slice(), &mut shelf, &mut sink, &mut work);
     Ok((status, sink))
 }
 

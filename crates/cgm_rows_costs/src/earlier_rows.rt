@@ -5,6 +5,7 @@ use crate::runs::{
 use cgm_base::Status;
 use cgm_cli::run_quiet;
 use cgm_shelf::MemSink;
+use cgm_trail::Work;
 use std::test::Fail;
 
 const EVOLVING: &str =
@@ -168,7 +169,8 @@ fn earlier_read_fails(rt: HostRuntime) -> Result<(), Fail> {
     let mut shelf = shelf_of(alloc, "cgm 1\n", b"earlier 1\n", third)?;
     let mut sink = MemSink::new(alloc, 7, Vec::new(alloc));
     let words = owned_words(alloc, &["solve", "model.cgm", "--earlier=old.txt"])?;
-    let status = run_quiet(alloc, words.as_slice(), &mut shelf, &mut sink);
+    let mut work = Work::new(alloc);
+    let status = run_quiet(alloc, words.as_slice(), &mut shelf, &mut sink, &mut work);
     assert_eq!(rt; status, Status::Read);
     assert!(rt; has_printed(&sink, "fault read\n"));
     assert_eq!(rt; shelf.read_faults(), 1);

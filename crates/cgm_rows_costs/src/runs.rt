@@ -2,6 +2,7 @@
 use cgm_base::Status;
 use cgm_cli::run_quiet;
 use cgm_shelf::{MemShelf, MemSink};
+use cgm_trail::Work;
 use std::alloc::{AllocError, Global};
 use std::process::Abort;
 use std::test::Fail;
@@ -37,7 +38,8 @@ pub(crate) fn run_words(
     let mut shelf = shelf_of(alloc, model, earlier, Vec::new(alloc))?;
     let mut sink = MemSink::new(alloc, 7, Vec::new(alloc));
     let owned = owned_words(alloc, words)?;
-    let status = run_quiet(alloc, owned.as_slice(), &mut shelf, &mut sink);
+    let mut work = Work::new(alloc);
+    let status = run_quiet(alloc, owned.as_slice(), &mut shelf, &mut sink, &mut work);
     Ok((status, sink))
 }
 

@@ -1,7 +1,0 @@
-use Rattle.std.proofs.Common.{rules}
-use Rattle.cgm_cli.specs.Shown.{shown_line}
-use Rattle.cgm_cli.proofs.report.push_objective.Goals as goal
-
-pub returns : goal.returns
-unfolding shown_line
-returns c = search rules

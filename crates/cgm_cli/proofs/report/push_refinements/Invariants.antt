@@ -1,8 +1,0 @@
-use Rattle.std.proofs.Common.{◌≡◌, ◌++◌, drop}
-use Rattle.cgm_cli.specs.Report.{refinement_lines}
-use Rattle.cgm_cli.proofs.report.push_refinements.Given as goal
-
-abbrev pub invariant-loop-at : goal.invariant-loop-at
-invariant-loop-at l =
-    l.report.items ++ refinement_lines (drop l.at l.refinements) (drop l.at l.truths)
-    ≡ l.initial.report.items ++ refinement_lines l.refinements l.truths

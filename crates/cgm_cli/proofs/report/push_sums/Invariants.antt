@@ -1,8 +1,0 @@
-use Rattle.std.proofs.Common.{◌≡◌, ◌++◌, drop}
-use Rattle.cgm_cli.specs.Report.{sum_lines}
-use Rattle.cgm_cli.proofs.report.push_sums.Given as goal
-
-abbrev pub invariant-loop-at : goal.invariant-loop-at
-invariant-loop-at l =
-    l.report.items ++ sum_lines (drop l.at l.sums) (drop l.at l.values)
-    ≡ l.initial.report.items ++ sum_lines l.sums l.values

@@ -1,8 +1,0 @@
-use Rattle.std.proofs.Common.{◌≡◌, ◌++◌, drop}
-use Rattle.cgm_cli.specs.Report.{variable_lines}
-use Rattle.cgm_cli.proofs.report.push_variables.Given as goal
-
-abbrev pub invariant-loop-at : goal.invariant-loop-at
-invariant-loop-at l =
-    l.report.items ++ variable_lines (drop l.at l.vars) (drop l.at l.numbers)
-    ≡ l.initial.report.items ++ variable_lines l.vars l.numbers

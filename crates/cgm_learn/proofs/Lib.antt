@@ -2,5 +2,8 @@ pub mod Boxes
 pub mod Changes
 pub mod Following
 pub mod Lessons
+pub mod Needs
 pub mod Negating
 pub mod Pending
+pub mod RowGives
+pub mod RowNeeds

@@ -101,16 +101,7 @@ fn learn_from(
 {
     t.recall_trail();
     let mut used = Used::new(alloc);
-    begin(
-        alloc,
-        p,
-        log,
-        pending,
-        conflict,
-        &place.state,
-        need,
-        &mut used,
-    )?;
+    begin(p, log, pending, conflict, &place.state, need, &mut used)?;
     let found = walk(alloc, p, t, log, pending, base, place, need, &mut used)?;
     conclude(alloc, p, t, log, pending, found, need, used)
 }

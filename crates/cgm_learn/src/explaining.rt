@@ -1,35 +1,78 @@
 //! Why narrowing gave an atom, or conflict: as little of a box as is needed for it.
 ghost use Rattle.std.specs.Prelude.{◌≡◌, ◌<◌, length, false, true, None, OnOk, IsSomeAnd};
-ghost use Rattle.cgm_atom.specs.Bounds.{IsBoxOf};
+ghost use Rattle.cgm_atom.specs.Bounds.{Bounds, IsBoxOf, IsProper};
+ghost use Rattle.cgm_atom.specs.ClauseAtoms.{AreKnown, IsReadable, atoms_of, left_in};
 ghost use Rattle.cgm_atom.specs.Constraints.{left_by};
-ghost use Rattle.cgm_atom.specs.Instance.{var_count};
 ghost use Rattle.cgm_atom.specs.Laws.{IsSmaller};
-ghost use Rattle.cgm_atom.specs.Narrowing.{is_true_in};
+ghost use Rattle.cgm_atom.specs.Limits.{IsBound};
+ghost use Rattle.cgm_atom.specs.Narrowing.{is_false_in, is_true_in, made_true};
 ghost use Rattle.cgm_learn.specs.Walking.{IsExplained, IsLedTo};
+ghost use Rattle.cgm_trail.specs.TrailState.{IsOpenIn};
 ghost use Rattle.cgm_step.specs.Naming.{IsNamedIn, constraint_of};
 
-use cgm_atom::{Atom, BoxState, OutOfMemory, Problem};
+use crate::rows::{explain_row_atom, explain_row_conflict};
+use cgm_atom::{Atom, BoxState, ClauseAtoms, OutOfMemory, Problem, is_false, negated};
 use cgm_step::Named;
 use std::alloc::Global;
 
+/// Adds an atom that is true in the box to the needed bounds.
+pub(crate) fn need_atom(a: Atom, work: &BoxState, need: &mut BoxState)
+    requires known { a.var.0 < length work.now.lower }
+    requires proper { IsProper work.now }
+    requires met { is_true_in work.now a ≡ true }
+    requires inside { IsSmaller work.now need.old }
+    ensures after { need.new ≡ made_true need.old a }
+    ensures explained { (limits : Bounds) → IsBoxOf limits need.old → IsExplained limits work.now need.old need.new }
+{
+    need.assume(a);
+}
+
+/// Adds the negation of an atom where the atom is false in the box.
+fn need_false(a: Atom, work: &BoxState, need: &mut BoxState)
+    requires known { a.var.0 < length work.now.lower }
+    requires proper { IsProper work.now }
+    requires inside { IsSmaller work.now need.old }
+    ensures falsified { is_false_in work.now a ≡ true → is_false_in need.new a ≡ true }
+    ensures explained { (limits : Bounds) → IsBoxOf limits need.old → IsExplained limits work.now need.old need.new }
+{
+    if !is_false(work, a) {
+        return;
+    }
+    match negated(work, a) {
+        None => {}
+        Some(opposite) => need_atom(opposite, work, need),
+    }
+}
+
+/// Adds the negations of those atoms of a clause that are false in the box.
+fn explain_clause(atoms: ClauseAtoms<'_>, work: &BoxState, need: &mut BoxState)
+    requires readable { IsReadable atoms }
+    requires known { AreKnown (length work.now.lower) (atoms_of atoms) }
+    requires proper { IsProper work.now }
+    requires inside { IsSmaller work.now need.old }
+    ensures left { left_in need.new (atoms_of atoms.entry) ≡ left_in work.now (atoms_of atoms.entry) }
+    ensures explained { (limits : Bounds) → IsBoxOf limits need.old → IsExplained limits work.now need.old need.new }
+{
+    for i in 0..atoms.count() {
+        need_false(atoms.atom(i), work, need);
+    }
+}
+
 /// Adds to the needed bounds what the clause or row needs to be in conflict.
-pub(crate) fn explain_conflict(
-    alloc: Global,
-    p: &Problem,
-    by: Named<'_>,
-    work: &BoxState,
-    need: &mut BoxState,
-) -> Result<(), OutOfMemory>
+pub(crate) fn explain_conflict(p: &Problem, by: Named<'_>, work: &BoxState, need: &mut BoxState)
     requires named { IsNamedIn p.now by }
     requires work_limits { IsBoxOf p.now.bounds work.now }
     requires need_limits { IsBoxOf p.now.bounds need.old }
     requires inside { IsSmaller work.now need.old }
     requires conflict { left_by work.now (constraint_of by) ≡ None }
-    ensures conflict { OnOk result (left_by need.new (constraint_of by.entry) ≡ None) }
-    ensures explained { OnOk result (IsExplained p.now.bounds work.now need.old need.new) }
+    ensures conflict { left_by need.new (constraint_of by.entry) ≡ None }
+    ensures explained { IsExplained p.now.bounds work.now need.old need.new }
 {
-    *need = work.copy(alloc)?;
-    Ok(())
+    p.recall_well_formed();
+    match by {
+        Named::Clause(atoms) => explain_clause(atoms, work, need),
+        Named::Row(row) => explain_row_conflict(row, work, need),
+    }
 }
 
 /// Adds to the needed bounds what the clause or row needs to give the atom.
@@ -45,12 +88,18 @@ pub(crate) fn explain_atom(
     requires work_limits { IsBoxOf p.now.bounds work.now }
     requires need_limits { IsBoxOf p.now.bounds need.old }
     requires inside { IsSmaller work.now need.old }
-    requires known { a.var.0 < var_count p.now }
-    requires unmet { is_true_in work.now a ≡ false }
+    requires undecided { IsOpenIn work.now a }
+    requires size { IsBound a.k }
     requires given { IsSomeAnd (left_by work.now (constraint_of by)) (λ left. is_true_in left a ≡ true) }
     ensures led { OnOk result (IsLedTo need.new (constraint_of by.entry) a) }
     ensures explained { OnOk result (IsExplained p.now.bounds work.now need.old need.new) }
 {
-    *need = work.copy(alloc)?;
-    Ok(())
+    p.recall_well_formed();
+    match by {
+        Named::Clause(atoms) => {
+            explain_clause(atoms, work, need);
+            Ok(())
+        }
+        Named::Row(row) => explain_row_atom(alloc, row, a, work, need),
+    }
 }

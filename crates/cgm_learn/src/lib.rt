@@ -9,6 +9,7 @@ mod hints;
 mod learned;
 mod negations;
 mod places;
+mod rows;
 mod turns;
 
 pub use analysis::analyse;

@@ -79,7 +79,6 @@ fn is_enough(p: &Problem, t: &Trail, base: &Place, place: &Place, rest: &BoxStat
 
 /// Begins with what the conflict needs of the last place's box.
 pub(crate) fn begin(
-    alloc: Global,
     p: &Problem,
     log: &IndexedLog<'_>,
     pending: &[Entry],
@@ -100,7 +99,7 @@ pub(crate) fn begin(
     match find_after(p, log, pending, conflict) {
         None => Ok(()),
         Some(found) => {
-            explain_conflict(alloc, p, found.named, work, need)?;
+            explain_conflict(p, found.named, work, need);
             recall_range(*conflict);
             used.add(*conflict, found.carried)?;
             Ok(())

@@ -1,14 +1,8 @@
-//! Worked examples of model texts and of their first faults, as tests.
+//! Worked examples of model texts and what they are read as, as tests.
 #![tactic(auto)]
 
 #[cfg(test)]
 mod attribute_rows;
-#[cfg(test)]
-mod fault_rows;
-#[cfg(test)]
-mod limit_rows;
-#[cfg(test)]
-mod order_rows;
 #[cfg(test)]
 mod reading_rows;
 #[cfg(test)]

@@ -1,7 +1,7 @@
 // Texts that are read, and what stops them.
 use cgm_base::{BadKind, Limit, Which};
 use cgm_text::{Reading, TextStop, read};
-use std::alloc::{AllocError, Global};
+use std::alloc::Global;
 use std::process::Abort;
 use std::test::Fail;
 
@@ -37,34 +37,6 @@ pub(crate) fn is_limit(stop: Option<TextStop>, limit: Limit) -> bool {
         Some(TextStop::Limit(passed)) => passed == limit,
         _ => false,
     }
-}
-
-/// The text, again and again.
-pub(crate) fn repeated(alloc: Global, text: &str, count: u32) -> Result<String, AllocError> {
-    let mut whole = String::new(alloc);
-    for _ in 0..count {
-        whole.push_str(text)?;
-    }
-    Ok(whole)
-}
-
-/// A goal G, so many tasks T1, T2 and so on, and a refinement of G by the tasks and other sources.
-pub(crate) fn text_of_sources(
-    alloc: Global,
-    count: u32,
-    others: &str,
-) -> Result<String, AllocError> {
-    let mut text = String::from_str(alloc, "cgm 1\ngoal G\n")?;
-    let mut sources = String::new(alloc);
-    for number in 1..=count {
-        let task = format!(in alloc; "task T{number}\n")?;
-        text.push_str(task.as_str())?;
-        let source = format!(in alloc; " T{number}")?;
-        sources.push_str(source.as_str())?;
-    }
-    let line = format!(in alloc; "refine R G :{sources}{others}\n")?;
-    text.push_str(line.as_str())?;
-    Ok(text)
 }
 
 /// Asserts that each text has this fault, in the line beside it.

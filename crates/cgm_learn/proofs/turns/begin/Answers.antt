@@ -29,4 +29,4 @@ pub returns-in_ok-add-in-Some : goal.returns-in_ok-add-in-Some
 returns-in_ok-add-in-Some c =
     begun c.args.p.now c.args.log.now c.args.pending.now c.args.work.now c.args.need.now c.explain_conflict.new.need c.args.used.now c.add.new.self c.args.conflict.now (constraint_of c.in-Some.found.named) c.in-Some.found.carried
     c.requires.no_hints c.requires.no_bound c.in_ok-add-in-Some.ensures.hints c.in_ok-add-in-Some.ensures.bound c.in-Some.ensures.2 c.in_ok-add-in-Some.ensures.fits
-    (c.requires.conflict.1.0, c.in-Some.ensures.0) c.recall_range.ensures c.in_ok-explain_conflict-in-Some.ensures.conflict c.in_ok-explain_conflict-in-Some.ensures.explained
+    (c.requires.conflict.1.0, c.in-Some.ensures.0) c.recall_range.ensures c.explain_conflict.ensures.conflict c.explain_conflict.ensures.explained

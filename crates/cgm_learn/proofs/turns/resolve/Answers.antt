@@ -1,4 +1,3 @@
-use Rattle.std.proofs.Common.{arith}
 use Rattle.cgm_step.specs.Naming.{constraint_of}
 use Rattle.cgm_learn.proofs.Following.{cause_of, resolved, some_is_not_none}
 use Rattle.cgm_learn.proofs.turns.resolve.Goals as goal
@@ -15,11 +14,11 @@ explain_atom-requires-clause-need_limits c = c.requires.rest.limits
 pub explain_atom-requires-clause-inside : goal.explain_atom-requires-clause-inside
 explain_atom-requires-clause-inside c = c.requires.rest.inside
 
-pub explain_atom-requires-clause-known : goal.explain_atom-requires-clause-known
-explain_atom-requires-clause-known c = omega (arith, c.requires.rest.undecided.known, c.requires.limits.lower_count)
+pub explain_atom-requires-clause-undecided : goal.explain_atom-requires-clause-undecided
+explain_atom-requires-clause-undecided c = c.requires.rest.undecided
 
-pub explain_atom-requires-clause-unmet : goal.explain_atom-requires-clause-unmet
-explain_atom-requires-clause-unmet c = c.requires.rest.undecided.not_true
+pub explain_atom-requires-clause-size : goal.explain_atom-requires-clause-size
+explain_atom-requires-clause-size c = c.requires.rest.size
 
 pub explain_atom-requires-clause-given : goal.explain_atom-requires-clause-given
 explain_atom-requires-clause-given c =

@@ -12,7 +12,8 @@ use Rattle.cgm_model.specs.declared.lists.Statement.TheVariants as statements
 use Rattle.cgm_model.specs.Lists.{no_lists, added}
 use Rattle.cgm_model.specs.Place.{FirstFailsFrom, FirstFails}
 use Rattle.cgm_text.specs.Text.{LineStatement, all_added, model_of, rule_line, rule_lines, IsReading}
-use Rattle.cgm_cli.specs.Outcome.{Printing, HasNoProblem, TellsOrLacksMemory, row_limit}
+use Rattle.cgm_cli.specs.Effects.{Printing, TellsOrLacksMemory}
+use Rattle.cgm_cli.specs.Inputs.{HasNoProblem, row_limit}
 use Rattle.cgm_cli.specs.FaultLines.{limit_fault}
 
 one_more : (m : Lists) (line : ℕ) (s : Statement) → length (added m s).rules ≡ length m.rules + length (rule_line line s)

@@ -9,7 +9,8 @@ use Rattle.cgm_shelf.specs.Shelf.{Files, MissingOrRose}
 use Rattle.cgm_text.specs.Text.{IsReading, IsTextOf}
 use Rattle.cgm_evolve.specs.Pairs.{Pair}
 use Rattle.cgm_evolve.specs.Text.{IsTextOf as IsEarlierTextOf}
-use Rattle.cgm_cli.specs.Outcome.{Printing, Shelving, shelving, IsEarlierOf, IsFileOf, IsInputOf, IsModelOf, IsReadingOf, HasNoInput, HasNoText, HasNoEarlier, HasEarlierFaultOutcome}
+use Rattle.cgm_cli.specs.Effects.{Printing, Shelving, shelving}
+use Rattle.cgm_cli.specs.Inputs.{HasEarlierFaultOutcome, HasNoEarlier, HasNoInput, HasNoText, IsEarlierOf, IsFileOf, IsInputOf, IsModelOf, IsReadingOf}
 
 rose_from : (before mid now : ℕ) → before ≤ mid → Rose mid now → Rose before now
 rose_from before mid now under rose = omega (arith, clamps, under, rose)

@@ -19,7 +19,9 @@ use Rattle.cgm_report.specs.Answers.{IsReportable, report_of}
 use Rattle.cgm_report.specs.Shown.{IsShowable}
 use Rattle.cgm_report.proofs.Showing.{show_quantities}
 use Rattle.cgm_cli.specs.Answers.{answer_status}
-use Rattle.cgm_cli.specs.Outcome.{Printing, Working, HasSolveOutcome, IsExtended, IsPrinted, IsUnchanged, IsWorkOfSearch, PrintsReportOrLacksMemory}
+use Rattle.cgm_cli.specs.Effects.{IsExtended, IsPrinted, IsUnchanged, Printing, PrintsReportOrLacksMemory, Working}
+use Rattle.cgm_cli.specs.Outcome.{IsWorkOfSearch}
+use Rattle.cgm_cli.specs.SolveOutcome.{HasSolveOutcome}
 
 -- ---- what is found
 

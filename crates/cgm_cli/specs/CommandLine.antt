@@ -27,11 +27,15 @@ options_of word positionals names = record {
   subs = [];
 }
 
--- `solve MODEL --earlier=FILE --workers=N --budget=N --restarts=N --seed=N`
+-- `solve MODEL --earlier=FILE --cert=FILE --workers=N --budget=N --restarts=N --seed=N`
 abbrev pub solve_options : App
 solve_options =
     options_of (codes "solve") (codes "model" ∷ [])
-    (codes "earlier" ∷ codes "workers" ∷ codes "budget" ∷ codes "restarts" ∷ codes "seed" ∷ [])
+    (codes "earlier" ∷ codes "cert" ∷ codes "workers" ∷ codes "budget" ∷ codes "restarts" ∷ codes "seed" ∷ [])
+
+-- `check MODEL CERT --earlier=FILE`
+abbrev pub check_options : App
+check_options = options_of (codes "check") (codes "model" ∷ codes "cert" ∷ []) (codes "earlier" ∷ [])
 
 -- `show MODEL`
 abbrev pub show_options : App
@@ -78,8 +82,10 @@ plan_given rows =
 -- ---- commands
 
 pub data Command : Type 0 where
-  -- `solve`, with the name of the model's file and that of the earlier realization's file, by so many workers with this plan
-  solve : Text → Option Text → ℕ → Plan → Command
+  -- `solve`, with the names of the model's file, of the earlier realization's file and of the certificate's file, by so many workers with this plan
+  solve : Text → Option Text → Option Text → ℕ → Plan → Command
+  -- `check`, with the names of the model's file, of the certificate's file and of the earlier realization's file
+  check : Text → Text → Option Text → Command
   -- `show`, with the name of the model's file
   show : Text → Command
   -- `encode`, with the name of the model's file and that of the earlier realization's file
@@ -89,8 +95,14 @@ abbrev pub solve_with : List Row → Option Command
 solve_with rows =
     option_and_then (λ model.
     option_and_then (λ workers.
-    option_map (λ plan. solve model (first_of (codes "earlier") rows) workers plan)
+    option_map (λ plan. solve model (first_of (codes "earlier") rows) (first_of (codes "cert") rows) workers plan)
     (plan_given rows)) (workers_given rows)) (first_of (codes "model") rows)
+
+abbrev pub check_with : List Row → Option Command
+check_with rows =
+    option_and_then (λ model.
+    option_map (λ cert. check model cert (first_of (codes "earlier") rows))
+    (first_of (codes "cert") rows)) (first_of (codes "model") rows)
 
 abbrev pub show_with : List Row → Option Command
 show_with rows = option_map show (first_of (codes "model") rows)
@@ -102,6 +114,7 @@ encode_with rows = option_map (λ model. encode model (first_of (codes "earlier"
 abbrev pub command_of : Text → List Text → Option Command
 command_of word words =
     if bytes_eq word (codes "solve") then option_and_then solve_with (given solve_options words)
+    else if bytes_eq word (codes "check") then option_and_then check_with (given check_options words)
     else if bytes_eq word (codes "show") then option_and_then show_with (given show_options words)
     else if bytes_eq word (codes "encode") then option_and_then encode_with (given encode_options words)
     else None

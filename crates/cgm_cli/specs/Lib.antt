@@ -1,7 +1,11 @@
 pub mod Answers
+pub mod CheckOutcome
 pub mod CommandLine
 pub mod Commands
+pub mod Effects
 pub mod FaultLines
+pub mod Inputs
 pub mod Numbers
 pub mod Outcome
 pub mod Placed
+pub mod SolveOutcome

@@ -2,11 +2,13 @@ ghost use Rattle.std.specs.Prelude.{◌≡◌, ◌≤◌, IfOk, IfSome, map, opt
 ghost use Rattle.std.specs.String.{string_bytes};
 ghost use Rattle.clap.specs.Words.{found_of, rows_of};
 ghost use Rattle.cgm_search.specs.Searching.{IsPlan};
-ghost use Rattle.cgm_cli.specs.CommandLine.{command_line, command_of, encode_options, encode_with, given, number_given, plan_given, show_options, show_with, solve_options, solve_with, workers_given};
+ghost use Rattle.cgm_cli.specs.CommandLine.{check_options, check_with, command_line, command_of, encode_options, encode_with, given, number_given, plan_given, show_options, show_with, solve_options, solve_with, workers_given};
 ghost use Rattle.cgm_cli.specs.Commands.{HasPlan, told_by};
 
 use crate::numbers::number_or;
-use crate::options::{encode_options, given, show_options, solve_options, text_given};
+use crate::options::{
+    check_options, encode_options, given, show_options, solve_options, text_given,
+};
 use cgm_search::{MAX_BUDGET, MAX_RESTARTS, Plan};
 use clap::ArgMatches;
 use std::alloc::{AllocError, Global};
@@ -29,13 +31,20 @@ const SEED: u64 = 0;
 /// What the words ask for, with names of files.
 #[derive(Clone, Copy)]
 pub(crate) enum Command<'w> {
-    /// `solve MODEL`, with the file of an earlier realization where one is given, by so many workers,
-    /// each with this plan.
+    /// `solve MODEL`, with the file of an earlier realization and that of the certificate where they
+    /// are given, by so many workers, each with this plan.
     Solve {
         model: &'w str,
         earlier: Option<&'w str>,
+        cert: Option<&'w str>,
         workers: u64,
         plan: Plan,
+    },
+    /// `check MODEL CERT`, with the file of an earlier realization where one is given.
+    Check {
+        model: &'w str,
+        cert: &'w str,
+        earlier: Option<&'w str>,
     },
     /// `show MODEL`
     Show {
@@ -75,6 +84,8 @@ fn command_of<'w>(
 {
     if word == "solve" {
         solve_in(alloc, words)
+    } else if word == "check" {
+        check_in(alloc, words)
     } else if word == "show" {
         show_in(alloc, words)
     } else if word == "encode" {
@@ -101,11 +112,13 @@ fn solve_with<'w>(matches: &ArgMatches<'w>) -> Option<Command<'w>>
 {
     let model = text_given(matches, "model")?;
     let earlier = text_given(matches, "earlier");
+    let cert = text_given(matches, "cert");
     let workers = workers_given(matches)?;
     let plan = plan_given(matches)?;
     Some(Command::Solve {
         model,
         earlier,
+        cert,
         workers,
         plan,
     })
@@ -144,6 +157,31 @@ fn plan_given(matches: &ArgMatches<'_>) -> Option<Plan>
         budget,
         restarts: restarts as u32,
         seed,
+    })
+}
+
+fn check_in<'w>(alloc: Global, words: &'w [String]) -> Result<Option<Command<'w>>, AllocError>
+    ensures command { IfOk result (λ found. option_map told_by found ≡ option_and_then check_with (given
+        check_options (map string_bytes words.now))) }
+    ensures plan { IfOk result (λ found. IfSome found HasPlan) }
+{
+    match given(check_options(alloc)?, words)? {
+        None => Ok(None),
+        Some(matches) => Ok(check_with(&matches)),
+    }
+}
+
+fn check_with<'w>(matches: &ArgMatches<'w>) -> Option<Command<'w>>
+    ensures command { option_map told_by result ≡ check_with (rows_of (found_of matches.now)) }
+    ensures plan { IfSome result HasPlan }
+{
+    let model = text_given(matches, "model")?;
+    let cert = text_given(matches, "cert")?;
+    let earlier = text_given(matches, "earlier");
+    Some(Command::Check {
+        model,
+        cert,
+        earlier,
     })
 }
 

@@ -5,10 +5,13 @@ ghost use Rattle.cgm_encode.specs.Encoding.{IsEncodable, IsEncodingOf, number_bo
 ghost use Rattle.cgm_encode.specs.ProblemText.{problem_text};
 ghost use Rattle.cgm_model.specs.Model.{lists_of};
 ghost use Rattle.cgm_model.specs.Place.{FirstFails};
-ghost use Rattle.cgm_cli.specs.Outcome.{printing, HasNoProblem, HasTextOutcome};
+ghost use Rattle.cgm_cli.specs.Effects.{printing};
+ghost use Rattle.cgm_cli.specs.Inputs.{HasNoProblem};
+ghost use Rattle.cgm_cli.specs.Outcome.{HasTextOutcome};
 
+use crate::faults::{PlacedFault, tell_fault};
 use crate::input::Input;
-use crate::print::{PlacedFault, print_report, tell_fault, tell_memory};
+use crate::print::{print_report, tell_memory};
 use cgm_base::{Limit, Status, Which, limits};
 use cgm_encode::{EncodeStop, Encoded, encode, print_problem};
 use cgm_shelf::Sink;

@@ -3,9 +3,11 @@ ghost use Rattle.std.specs.Prelude.{◌≡◌, ◌≤◌, length, IfOk, MatchRes
 ghost use Rattle.cgm_evolve.specs.Text.{IsTextOf as IsEarlierTextOf};
 ghost use Rattle.cgm_model.specs.Model.{lists_of};
 ghost use Rattle.cgm_text.specs.Text.{IsReading};
-ghost use Rattle.cgm_cli.specs.Outcome.{printing, shelving, IsEarlierOf, IsReadingOf, IsTextFile, HasNoEarlier, HasNoModel, HasNoText, HasEarlierFaultOutcome, HasFaultOutcome, most_bytes, text_limit};
+ghost use Rattle.cgm_cli.specs.Effects.{printing, shelving};
+ghost use Rattle.cgm_cli.specs.Inputs.{HasEarlierFaultOutcome, HasFaultOutcome, HasNoEarlier, HasNoModel, HasNoText, IsEarlierOf, IsReadingOf, IsTextFile, most_bytes, text_limit};
 
-use crate::print::{PlacedFault, tell, tell_fault, tell_memory};
+use crate::faults::{PlacedFault, tell_fault};
+use crate::print::{tell, tell_memory};
 use cgm_base::limits::TEXT_BYTES;
 use cgm_base::{Limit, Status, Which};
 use cgm_evolve::{Earlier, EarlierStop, read_earlier};
@@ -136,6 +138,7 @@ pub(crate) fn earlier_of_file<F: Shelf, O: Sink>(
     ensures untouched { OnOk result (out.new ≡ out.old) }
     ensures files { F.files shelf.new ≡ F.files shelf.old }
     ensures writes { F.write_faults shelf.new ≡ F.write_faults shelf.old }
+    ensures later { F.read_faults shelf.old ≤ F.read_faults shelf.new }
 {
     match text_of_file(alloc, name, shelf, out) {
         Ok(text) => earlier_of_text(alloc, text.as_slice(), out),

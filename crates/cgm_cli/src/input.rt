@@ -1,7 +1,8 @@
 // What the files of a command give: a model, and what is known of an earlier realization.
-ghost use Rattle.std.specs.Prelude.{◌≡◌, IfOk, MatchResult, OnOk, length, option_map};
+ghost use Rattle.std.specs.Prelude.{◌≡◌, ◌≤◌, IfOk, MatchResult, OnOk, length, option_map};
 ghost use Rattle.cgm_model.specs.Model.{lists_of};
-ghost use Rattle.cgm_cli.specs.Outcome.{printing, shelving, HasNoInput, IsInputOf};
+ghost use Rattle.cgm_cli.specs.Effects.{printing, shelving};
+ghost use Rattle.cgm_cli.specs.Inputs.{HasNoInput, IsInputOf};
 
 use crate::file::{earlier_of_file, reading_of_file};
 use cgm_base::Status;
@@ -40,6 +41,7 @@ pub(crate) fn input_of_files<F: Shelf, O: Sink>(
     ensures untouched { OnOk result (out.new ≡ out.old) }
     ensures files { F.files shelf.new ≡ F.files shelf.old }
     ensures writes { F.write_faults shelf.new ≡ F.write_faults shelf.old }
+    ensures later { F.read_faults shelf.old ≤ F.read_faults shelf.new }
 {
     let reading = match reading_of_file(alloc, name, shelf, out) {
         Ok(reading) => reading,

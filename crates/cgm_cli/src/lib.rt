@@ -1,8 +1,11 @@
 //! The commands of the program over any shelf of files and any sink.
 #![tactic(auto)]
 
+mod answer;
+mod check;
 mod command;
 mod encoding;
+mod faults;
 mod file;
 mod input;
 mod numbers;

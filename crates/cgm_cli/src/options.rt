@@ -2,7 +2,7 @@
 ghost use Rattle.std.specs.Prelude.{◌≡◌, IfOk, true, map, option_map};
 ghost use Rattle.std.specs.String.{string_bytes};
 ghost use Rattle.clap.specs.Words.{app_of, first_of, found_of, is_simple_and_free, rows_of, with_rule};
-ghost use Rattle.cgm_cli.specs.CommandLine.{encode_options, given, option, positional, show_options, solve_options};
+ghost use Rattle.cgm_cli.specs.CommandLine.{check_options, encode_options, given, option, positional, show_options, solve_options};
 
 use clap::error::ErrorKind;
 use clap::{Arg, ArgMatches, Command, Error};
@@ -30,17 +30,28 @@ fn with_option<'w>(
     options.arg(Arg::new(alloc, name).long(name))
 }
 
-/// `solve MODEL --earlier=FILE --workers=N --budget=N --restarts=N --seed=N`
+/// `solve MODEL --earlier=FILE --cert=FILE --workers=N --budget=N --restarts=N --seed=N`
 pub(crate) fn solve_options<'w>(alloc: Global) -> Result<Command<'w>, AllocError>
     ensures { IfOk result (λ options. app_of options ≡ solve_options) }
 {
     let word = Command::new(alloc, "solve").disable_help_flag(true);
     let with_model = with_positional(alloc, word, "model")?;
     let with_earlier = with_option(alloc, with_model, "earlier")?;
-    let with_workers = with_option(alloc, with_earlier, "workers")?;
+    let with_cert = with_option(alloc, with_earlier, "cert")?;
+    let with_workers = with_option(alloc, with_cert, "workers")?;
     let with_budget = with_option(alloc, with_workers, "budget")?;
     let with_restarts = with_option(alloc, with_budget, "restarts")?;
     with_option(alloc, with_restarts, "seed")
+}
+
+/// `check MODEL CERT --earlier=FILE`
+pub(crate) fn check_options<'w>(alloc: Global) -> Result<Command<'w>, AllocError>
+    ensures { IfOk result (λ options. app_of options ≡ check_options) }
+{
+    let word = Command::new(alloc, "check").disable_help_flag(true);
+    let with_model = with_positional(alloc, word, "model")?;
+    let with_cert = with_positional(alloc, with_model, "cert")?;
+    with_option(alloc, with_cert, "earlier")
 }
 
 /// `show MODEL`

@@ -1,5 +1,6 @@
 ghost use Rattle.cgm_model.specs.Model.{lists_of};
-ghost use Rattle.cgm_cli.specs.Outcome.{printing, HasShowOutcome};
+ghost use Rattle.cgm_cli.specs.Effects.{printing};
+ghost use Rattle.cgm_cli.specs.Outcome.{HasShowOutcome};
 
 use crate::print::{print_report, tell_memory};
 use cgm_base::Status;

@@ -1,67 +1,118 @@
-// A model solved by one worker, and the answer printed.
-ghost use Rattle.std.specs.Prelude.{◌≡◌, length};
+// A model solved by one worker, the certificate written, and the answer printed.
+ghost use Rattle.std.specs.Prelude.{◌≡◌, Some, length, option_map};
+ghost use Rattle.std.specs.List.{All};
+ghost use Rattle.cgm_atom.specs.Ranges.{IsPrintable};
 ghost use Rattle.cgm_model.specs.Model.{lists_of};
 ghost use Rattle.cgm_report.specs.Answers.{IsReportable, report_of};
 ghost use Rattle.cgm_search.specs.Searching.{IsPlan};
-ghost use Rattle.cgm_cli.specs.Answers.{answer_status};
-ghost use Rattle.cgm_cli.specs.Outcome.{printing, working, HasProblemOutcome, HasSolveOutcome, IsWorkOfSearch, PrintsReportOrLacksMemory};
+ghost use Rattle.cgm_cli.specs.Answers.{answer_status, entries_of};
+ghost use Rattle.cgm_cli.specs.Effects.{printing, working, writing};
+ghost use Rattle.cgm_cli.specs.Inputs.{HasProblemOutcome};
+ghost use Rattle.cgm_cli.specs.Outcome.{AreFilesOfSearch, IsWorkOfSearch};
+ghost use Rattle.cgm_cli.specs.SolveOutcome.{HasSolveOutcome, IsDelivered, wanted};
 
+use crate::answer::{entries_of, status_of};
 use crate::encoding::tell_row_limit;
 use crate::input::Input;
-use crate::print::{print_report, tell_memory};
+use crate::print::{print_report, tell, tell_memory};
 use cgm_base::Status;
+use cgm_cert::print_cert;
 use cgm_model::Model;
 use cgm_report::report;
-use cgm_shelf::Sink;
+use cgm_shelf::{Shelf, Sink, write_file};
 use cgm_solve::{Answer, Plan, SolveStop, solve_alone};
 use cgm_trail::Work;
 use std::alloc::Global;
 
-/// Solves a model by one worker with this plan, with what is known of an earlier realization, and
-/// prints the answer, or why there is none.
-pub(crate) fn solve<O: Sink>(
+/// Solves a model by one worker with this plan, with what is known of an earlier realization. Writes
+/// the certificate where a file is named for it, and prints the answer, or why there is none.
+pub(crate) fn solve<F: Shelf, O: Sink>(
     alloc: Global,
     input: &Input,
+    cert: Option<&str>,
     plan: Plan,
+    shelf: &mut F,
     out: &mut O,
     work: &mut Work,
 ) -> Status
     requires lines { length input.now.reading.rule_lines.items ≡ length input.now.reading.model.rules }
     requires plan { IsPlan plan }
-    ensures outcome { HasProblemOutcome (HasSolveOutcome plan (working work.old work.new))
+    ensures outcome { HasProblemOutcome
+        (HasSolveOutcome (wanted plan (option_map (λ file. file.now) cert.entry))
+        (working work.old work.new)
+        (writing (F.files shelf.old) (F.files shelf.new) (F.write_faults shelf.old) (F.write_faults shelf.new)))
         (lists_of input.now.reading.model) input.now.reading.rule_lines.items input.now.earlier.pairs
         (printing (O.written out.old) (O.written out.new) (O.faults out.old) (O.faults out.new))
         result }
     ensures work { IsWorkOfSearch (working work.old work.new) result }
+    ensures files { AreFilesOfSearch (option_map (λ file. file.now) cert.entry)
+        (writing (F.files shelf.old) (F.files shelf.new) (F.write_faults shelf.old) (F.write_faults shelf.new))
+        result }
+    ensures reads { F.read_faults shelf.new ≡ F.read_faults shelf.old }
 {
     let m = &input.reading.model;
     match solve_alone(alloc, m, &input.earlier, plan, work) {
-        Ok(answer) => print_answer(alloc, m, &answer, out),
+        Ok(answer) => deliver(alloc, m, &answer, cert, shelf, out),
         Err(SolveStop::Row { rule }) => tell_row_limit(alloc, input, rule, out),
         Err(SolveStop::Memory) => tell_memory(out),
     }
 }
 
-/// Prints the report of an answer, and answers its status.
-fn print_answer<O: Sink>(alloc: Global, m: &Model, answer: &Answer, out: &mut O) -> Status
-    requires { IsReportable (lists_of m.now) answer.now }
-    ensures { PrintsReportOrLacksMemory
+/// Makes the report of an answer. Then writes the certificate where a file is named for it, and prints
+/// the report.
+fn deliver<F: Shelf, O: Sink>(
+    alloc: Global,
+    m: &Model,
+    answer: &Answer,
+    cert: Option<&str>,
+    shelf: &mut F,
+    out: &mut O,
+) -> Status
+    requires report { IsReportable (lists_of m.now) answer.now }
+    requires entries { All IsPrintable (entries_of answer.now) }
+    ensures outcome { IsDelivered (option_map (λ file. file.now) cert.entry) (entries_of answer.now)
+        (report_of (lists_of m.now) answer.now) (answer_status answer.now)
+        (writing (F.files shelf.old) (F.files shelf.new) (F.write_faults shelf.old) (F.write_faults shelf.new))
         (printing (O.written out.old) (O.written out.new) (O.faults out.old) (O.faults out.new))
-        (report_of (lists_of m.now) answer.now) (answer_status answer.now) result }
+        result }
+    ensures reads { F.read_faults shelf.new ≡ F.read_faults shelf.old }
 {
     match report(alloc, m, answer) {
-        Ok(text) => print_report(out, text.as_slice(), status_of(answer)),
+        Ok(text) => {
+            let report = text.as_slice();
+            match cert {
+                None => print_report(out, report, status_of(answer)),
+                Some(name) => certify(alloc, answer, name, report, shelf, out),
+            }
+        }
         Err(_) => tell_memory(out),
     }
 }
 
-fn status_of(answer: &Answer) -> Status
-    ensures { result ≡ answer_status answer.now }
+/// Makes the certificate of an answer. Then writes it to the named file, and prints the report.
+fn certify<F: Shelf, O: Sink>(
+    alloc: Global,
+    answer: &Answer,
+    name: &str,
+    report: &[u8],
+    shelf: &mut F,
+    out: &mut O,
+) -> Status
+    requires { All IsPrintable (entries_of answer.now) }
+    ensures outcome { IsDelivered (Some name.now) (entries_of answer.now) report.now (answer_status answer.now)
+        (writing (F.files shelf.old) (F.files shelf.new) (F.write_faults shelf.old) (F.write_faults shelf.new))
+        (printing (O.written out.old) (O.written out.new) (O.faults out.old) (O.faults out.new))
+        result }
+    ensures reads { F.read_faults shelf.new ≡ F.read_faults shelf.old }
 {
-    match answer {
-        Answer::Realized { .. } => Status::Done,
-        Answer::Unrealizable { .. } => Status::Unrealizable,
-        Answer::Exhausted { .. } => Status::Open,
-        Answer::Open { .. } => Status::Open,
+    match print_cert(alloc, entries_of(answer)) {
+        Ok(text) => match write_file(shelf, name, text.as_slice()) {
+            Ok(()) => print_report(out, report, status_of(answer)),
+            Err(_) => {
+                tell(out, b"fault write\n");
+                Status::Write
+            }
+        },
+        Err(_) => tell_memory(out),
     }
 }

@@ -12,4 +12,4 @@ mod verifying;
 pub use cgm_encode::{Answer, Found, SolveStop};
 pub use cgm_search::Plan;
 pub use solving::solve_alone;
-pub use verifying::{Verified, verify};
+pub use verifying::{Verified, verify, verify_encoded};

@@ -45,7 +45,10 @@ pub fn verify(
     }
 }
 
-fn verify_encoded(
+/// The same over an encoding that was made before: its model is the one that it was made of.
+///
+/// `Err` is want of memory.
+pub fn verify_encoded(
     alloc: Global,
     encoded: &Encoded,
     entries: &[Entry],

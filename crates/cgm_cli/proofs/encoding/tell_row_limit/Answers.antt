@@ -2,7 +2,8 @@ use Rattle.std.proofs.Common.{◌<◌, length, get_or, subst, sym}
 use Rattle.cgm_base.specs.declared.status.Status.TheVariants as statuses
 use Rattle.cgm_model.specs.Model.{lists_of}
 use Rattle.cgm_cli.specs.FaultLines.{limit_fault}
-use Rattle.cgm_cli.specs.Outcome.{Printing, printing, TellsOrLacksMemory, row_limit}
+use Rattle.cgm_cli.specs.Effects.{Printing, TellsOrLacksMemory, printing}
+use Rattle.cgm_cli.specs.Inputs.{row_limit}
 use Rattle.cgm_cli.proofs.RuleLines.{has_line, no_problem}
 use Rattle.cgm_cli.proofs.encoding.tell_row_limit.Goals as goal
 

@@ -1,6 +1,7 @@
 use Rattle.std.proofs.Common.{◌≡◌, List, ℕ, option_map, Some, Bor, rules, subst, sym}
 use Rattle.cgm_model.specs.Model.{lists_of}
-use Rattle.cgm_cli.specs.Outcome.{Printing, printing, shelving, HasNoEarlier, HasNoInput}
+use Rattle.cgm_cli.specs.Effects.{Printing, printing, shelving}
+use Rattle.cgm_cli.specs.Inputs.{HasNoEarlier, HasNoInput}
 use Rattle.cgm_cli.proofs.Shelves.{no_input}
 use Rattle.cgm_cli.proofs.input.input_of_files.Goals as goal
 

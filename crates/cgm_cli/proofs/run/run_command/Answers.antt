@@ -1,6 +1,7 @@
 use Rattle.std.proofs.Common.{subst, sym}
 use Rattle.cgm_cli.specs.Commands.{told_by}
-use Rattle.cgm_cli.specs.Outcome.{Printing, Shelving, Working, printing, shelving, working, HasCommandOutcome}
+use Rattle.cgm_cli.specs.Effects.{Printing, Shelving, Working, printing, shelving, working}
+use Rattle.cgm_cli.specs.Outcome.{HasCommandOutcome}
 use Rattle.cgm_cli.proofs.run.run_command.Goals as goal
 
 pub returns-in-Solve-clause-outcome : goal.returns-in-Solve-clause-outcome

@@ -1,6 +1,7 @@
 use Rattle.std.proofs.Common.{inr, subst}
 use Rattle.cgm_model.specs.Model.{lists_of}
-use Rattle.cgm_cli.specs.Outcome.{printing, shelving, HasShowOutcome}
+use Rattle.cgm_cli.specs.Effects.{printing, shelving}
+use Rattle.cgm_cli.specs.Outcome.{HasShowOutcome}
 use Rattle.cgm_cli.proofs.Shelves.{model_of_reading}
 use Rattle.cgm_cli.proofs.run.show_file.Goals as goal
 

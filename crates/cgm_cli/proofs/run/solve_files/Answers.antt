@@ -1,6 +1,8 @@
 use Rattle.std.proofs.Common.{inr, subst}
 use Rattle.cgm_model.specs.Model.{lists_of}
-use Rattle.cgm_cli.specs.Outcome.{Working, printing, working, HasProblemOutcome, HasSolveOutcome}
+use Rattle.cgm_cli.specs.Effects.{Working, printing, working}
+use Rattle.cgm_cli.specs.Inputs.{HasProblemOutcome}
+use Rattle.cgm_cli.specs.SolveOutcome.{HasSolveOutcome}
 use Rattle.cgm_cli.proofs.run.solve_files.Goals as goal
 
 -- the files were read without a word to the sink

@@ -1,6 +1,6 @@
 use Rattle.std.proofs.Common.{inr}
 use Rattle.cgm_model.specs.Model.{lists_of}
-use Rattle.cgm_cli.specs.Outcome.{Printing, Working, printing, working}
+use Rattle.cgm_cli.specs.Effects.{Printing, Working, printing, working}
 use Rattle.cgm_cli.proofs.Solving.{outcome, reportable}
 use Rattle.cgm_cli.proofs.solve.solve.Goals as goal
 

@@ -1,5 +1,5 @@
 use Rattle.std.proofs.Common.{append_assoc}
-use Rattle.cgm_cli.proofs.print.text_line.Goals as goal
+use Rattle.cgm_cli.proofs.faults.text_line.Goals as goal
 
 pub returns : goal.returns
 returns c = simp append_assoc (rw (← c.word-word.ensures) c.format.ensures.ok)

@@ -1,6 +1,6 @@
 use Rattle.std.proofs.Common.{inl, subst, ◌∙◌}
-use Rattle.cgm_cli.specs.Outcome.{Printing, IsTold}
-use Rattle.cgm_cli.proofs.print.tell_fault.Goals as goal
+use Rattle.cgm_cli.specs.Effects.{IsTold, Printing}
+use Rattle.cgm_cli.proofs.faults.tell_fault.Goals as goal
 
 pub returns-in-Ok : goal.returns-in-Ok
 returns-in-Ok g c =

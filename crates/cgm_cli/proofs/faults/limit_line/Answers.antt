@@ -1,5 +1,5 @@
 use Rattle.std.proofs.Common.{append_assoc}
-use Rattle.cgm_cli.proofs.print.limit_line.Goals as goal
+use Rattle.cgm_cli.proofs.faults.limit_line.Goals as goal
 
 pub returns : goal.returns
 returns c = simp append_assoc (rw (← c.word-word.ensures, ← c.number-number.ensures) c.format.ensures.ok)

@@ -122,7 +122,7 @@ cut_files (Some name) entries files cut =
 
 untouched_others : (name : List ℕ) (files : Writing) → IsUntouched files → OnlyTouches name files
 untouched_others name files same =
-    part_others files.before files.after name [] files.faults_before files.faults_after (inl same.files)
+    part_others files.before files.after name [] files.faults_before files.faults_after (inl same.same)
 
 pub untouched_files : (cert : Option (List ℕ)) (files : Writing) (status : Status) → IsUntouched files → AreFilesOfSearch cert files status
 untouched_files None files status same = same

@@ -41,8 +41,8 @@ writing before after faults_before faults_after =
 
 -- no file has changed, and the count stays
 pub record IsUntouched (files : Writing) : Type 0 where
-  pub files : files.after ≡ files.before
-  pub faults : files.faults_after ≡ files.faults_before
+  pub same : files.after ≡ files.before
+  pub counted : files.faults_after ≡ files.faults_before
 
 -- the trails of workers that a call finds and leaves
 pub record Working : Type 0 where

@@ -1,3 +1,4 @@
+pub mod Checking
 pub mod Numerals
 pub mod RuleLines
 pub mod Shelves

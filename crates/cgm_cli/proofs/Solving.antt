@@ -33,7 +33,7 @@ vector_length : (m : Lists) (pairs : List Pair) (a : Assignment) → length (vec
 unfolding vector_of
 vector_length m pairs a = length-map m.objectives (objective_number m pairs a)
 
-showable : (m : Lists) (pairs : List Pair) (best : Option (List ℤ)) (found : Option Found) → IsReadingOfBest m pairs best found → IfSome found (IsShowable m)
+pub showable : (m : Lists) (pairs : List Pair) (best : Option (List ℤ)) (found : Option Found) → IsReadingOfBest m pairs best found → IfSome found (IsShowable m)
 showable m pairs best None reading = tt
 showable m pairs None (Some found) reading = absurd reading
 showable m pairs (Some values) (Some found) reading = record {
@@ -41,7 +41,7 @@ showable m pairs (Some values) (Some found) reading = record {
   vector = ap length reading.vector ∙ vector_length m pairs found.assignment;
 }
 
-vector_is : (m : Lists) (pairs : List Pair) (best : Option (List ℤ)) (found : Found) → IsReadingOfBest m pairs best (Some found) → found.vector ≡ vector_of m pairs found.assignment
+pub vector_is : (m : Lists) (pairs : List Pair) (best : Option (List ℤ)) (found : Found) → IsReadingOfBest m pairs best (Some found) → found.vector ≡ vector_of m pairs found.assignment
 vector_is m pairs None found reading = absurd reading
 vector_is m pairs (Some values) found reading = reading.vector
 

@@ -2,6 +2,7 @@
 ghost use Rattle.std.specs.Prelude.{◌≡◌, IfOk, true, map, option_map};
 ghost use Rattle.std.specs.String.{string_bytes};
 ghost use Rattle.clap.specs.Words.{app_of, first_of, found_of, is_simple_and_free, rows_of, with_rule};
+ghost use Rattle.cgm_cli.specs.Adding.{with_numbers};
 ghost use Rattle.cgm_cli.specs.CommandLine.{check_options, encode_options, given, option, positional, show_options, solve_options};
 
 use clap::error::ErrorKind;
@@ -30,6 +31,16 @@ fn with_option<'w>(
     options.arg(Arg::new(alloc, name).long(name))
 }
 
+/// The options with `--workers=N --budget=N --restarts=N --seed=N`.
+fn with_numbers<'w>(alloc: Global, options: Command<'w>) -> Result<Command<'w>, AllocError>
+    ensures { IfOk result (λ more. app_of more ≡ with_numbers (app_of options.entry)) }
+{
+    let with_workers = with_option(alloc, options, "workers")?;
+    let with_budget = with_option(alloc, with_workers, "budget")?;
+    let with_restarts = with_option(alloc, with_budget, "restarts")?;
+    with_option(alloc, with_restarts, "seed")
+}
+
 /// `solve MODEL --earlier=FILE --cert=FILE --workers=N --budget=N --restarts=N --seed=N`
 pub(crate) fn solve_options<'w>(alloc: Global) -> Result<Command<'w>, AllocError>
     ensures { IfOk result (λ options. app_of options ≡ solve_options) }
@@ -38,10 +49,7 @@ pub(crate) fn solve_options<'w>(alloc: Global) -> Result<Command<'w>, AllocError
     let with_model = with_positional(alloc, word, "model")?;
     let with_earlier = with_option(alloc, with_model, "earlier")?;
     let with_cert = with_option(alloc, with_earlier, "cert")?;
-    let with_workers = with_option(alloc, with_cert, "workers")?;
-    let with_budget = with_option(alloc, with_workers, "budget")?;
-    let with_restarts = with_option(alloc, with_budget, "restarts")?;
-    with_option(alloc, with_restarts, "seed")
+    with_numbers(alloc, with_cert)
 }
 
 /// `check MODEL CERT --earlier=FILE`

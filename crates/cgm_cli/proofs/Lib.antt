@@ -1,3 +1,5 @@
+pub mod Completing
+pub mod GoodInputs
 pub mod Numerals
 pub mod RuleLines
 pub mod Shelves

@@ -1,3 +1,4 @@
+pub mod Accepting
 pub mod Completing
 pub mod GoodInputs
 pub mod Numerals

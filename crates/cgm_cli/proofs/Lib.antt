@@ -1,4 +1,7 @@
+pub mod Accepting
 pub mod Checking
+pub mod Completing
+pub mod GoodInputs
 pub mod Numerals
 pub mod RuleLines
 pub mod Shelves

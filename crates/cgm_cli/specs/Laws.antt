@@ -14,7 +14,7 @@ use Rattle.cgm_encode.specs.declared.answer.Found.{Found}
 use Rattle.cgm_encode.specs.Encoding.{IsEncodable}
 use Rattle.cgm_encode.specs.Problem.{problem_of}
 use Rattle.cgm_report.specs.Answers.{exhausted, left_open}
-use Rattle.cgm_cli.specs.CommandLine.{Command, solve, check, show, encode}
+use Rattle.cgm_cli.specs.CommandLine.{solve, check, show, encode}
 use Rattle.cgm_cli.specs.Effects.{Printing, Shelving, Working, Writing, IsPrinted}
 use Rattle.cgm_cli.specs.Inputs.{most_bytes}
 use Rattle.cgm_cli.specs.Outcome.{HasCommandOutcome}
@@ -79,12 +79,12 @@ EncodeCompletes =
     → HasCommandOutcome (encode name file) shelf files sink work status
     → IsOneOf status (Done ∷ Memory ∷ [])
 
--- `show` then prints the model, or wants memory
+-- `show` prints the model, with a problem or without, or wants memory
 abbrev pub ShowCompletes : Type 0
 ShowCompletes =
-    (name : List ℕ) (shelf : Shelving) (files : Writing)
+    (name : List ℕ) (shelf : Shelving) (told : Files) (files : Writing)
     (sink : Printing) (work : Working) (status : Status) (m : Lists)
-    → IsGoodInput shelf name None m [] → NothingFails shelf files sink
+    → shelf.files ≡ Some told → HasModel told name m → NothingFails shelf files sink
     → HasCommandOutcome (show name) shelf files sink work status
     → IsOneOf status (Done ∷ Memory ∷ [])
 

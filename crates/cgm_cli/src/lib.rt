@@ -8,6 +8,7 @@ mod encoding;
 mod faults;
 mod file;
 mod input;
+pub mod laws;
 mod numbers;
 mod options;
 mod print;

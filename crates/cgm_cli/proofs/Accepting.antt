@@ -1,0 +1,288 @@
+-- The certificate that `solve` wrote is accepted by a later `check`, which gives the same answer.
+use Rattle.std.proofs.Common.{◌≡◌, ℕ, zero, suc, ◌≤◌, ◌⊎◌, List, [], ◌∷◌, length, slice_get, take, ℤ, IfSome, IsSome, IsSomeAnd, Option, Some, None, is_some, refl, sym, ap, ap₂, ◌∙◌, subst, inl, inr, ⊎_elim, arith}
+use Rattle.cgm_base.specs.declared.status.Status.{Status}
+use Rattle.cgm_base.specs.declared.status.Status.TheVariants as statuses
+use Rattle.cgm_shelf.specs.Shelf.{Files, Leaves}
+use Rattle.cgm_formula.specs.declared.assignment.Assignment.{Assignment}
+use Rattle.cgm_model.specs.declared.lists.Lists.{Lists}
+use Rattle.cgm_text.specs.Text.{IsTextOf as IsModelTextOf}
+use Rattle.cgm_evolve.specs.Pairs.{Pair}
+use Rattle.cgm_evolve.specs.Text.{IsTextOf as IsEarlierTextOf}
+use Rattle.cgm_obj.specs.Vector.{vector_of}
+use Rattle.cgm_atom.specs.declared.entries.BadStep.{BadStep}
+use Rattle.cgm_atom.specs.declared.entries.Entry.{Entry}
+use Rattle.cgm_atom.specs.Acceptance.{IsAccepted, IsAcceptedAfter, first_fault}
+use Rattle.cgm_atom.specs.Instance.{Instance}
+use Rattle.cgm_atom.specs.LogState.{LogState, empty_state, last_best, state_after, state_of, state_with}
+use Rattle.cgm_cert.specs.Fault.{IsTextOf}
+use Rattle.cgm_cert.proofs.Once.{entries_or_fault, one_list}
+use Rattle.cgm_check.specs.Verdicts.{IsRefusedAt}
+use Rattle.cgm_encode.specs.declared.answer.Found.{Found}
+use Rattle.cgm_encode.specs.Encoding.{IsEncodable}
+use Rattle.cgm_encode.specs.Problem.{problem_of}
+use Rattle.cgm_solve.specs.Answers.{IsReading, IsReadingOfBest, LeavesOpen, ShowsRealized, ShowsUnrealizable}
+use Rattle.cgm_report.specs.Answers.{exhausted, left_open}
+use Rattle.cgm_report.specs.Report.{realized, unrealizable}
+use Rattle.cgm_cli.specs.CheckOutcome.{HasCertificateOutcome, HasCheckOutcome, HasEntriesOutcome, HasNoEntries}
+use Rattle.cgm_cli.specs.Effects.{IsPrinted, Printing, Shelving, Writing}
+use Rattle.cgm_cli.specs.Inputs.{HasEarlierFaultOutcome, HasFaultOutcome, HasInputOutcome, HasNoModel, HasNoProblem, HasNoText, HasNothingKnown, HasProblemOutcome, IsFileOf, IsInputOf, IsKnownOf, most_bytes}
+use Rattle.cgm_cli.specs.Laws.{Agrees, CertificatesAreAccepted, HasEarlier, IsGoodInput, IsLater, IsOneOf, PrintSame, PrintSameBest}
+use Rattle.cgm_cli.specs.SolveOutcome.{HasSolveOutcome, IsCertified, wanted}
+use Rattle.cgm_cli.proofs.Completing.{no_bytes}
+use Rattle.cgm_cli.proofs.GoodInputs.{HasFile, Lacks, both, of_input, where_told}
+use Rattle.cgm_cli.proofs.Shelves.{model_of_reading}
+
+-- ---- the same best is found again
+
+abbrev found_with : Assignment → List ℤ → Found
+found_with assignment vector = record { assignment = assignment; vector = vector }
+
+same_reading : (m : Lists) (pairs : List Pair) (values : List ℤ) (f g : Found) → IsReading m pairs values f → IsReading m pairs values g → f ≡ g
+same_reading m pairs values f g one other =
+    let assignment : f.assignment ≡ g.assignment = one.assignment ∙ sym other.assignment in
+    let vector : f.vector ≡ g.vector = one.vector ∙ (ap (vector_of m pairs) assignment ∙ sym other.vector) in
+    ap₂ found_with assignment vector
+
+same_found : (m : Lists) (pairs : List Pair) (best : Option (List ℤ)) (f g : Found) → IsReadingOfBest m pairs best (Some f) → IsReadingOfBest m pairs best (Some g) → f ≡ g
+same_found m pairs best f g one other =
+    let values = both best (λ values. IsReading m pairs values f) (λ values. IsReading m pairs values g) one other in
+    same_reading m pairs values.0 f g values.1.0 values.1.1
+
+-- a best that is none is read as nothing
+none_read : (m : Lists) (pairs : List Pair) (best : Option (List ℤ)) (f : Found) → best ≡ None → IsReadingOfBest m pairs best (Some f) → ⊥
+none_read m pairs best f none reading = subst (λ b. IsReadingOfBest m pairs b (Some f)) none reading
+
+same_best : (m : Lists) (pairs : List Pair) (best : Option (List ℤ)) (one other : Option Found) → IsReadingOfBest m pairs best one → IsReadingOfBest m pairs best other → one ≡ other
+same_best m pairs best None None one other = refl
+same_best m pairs best None (Some g) one other = absurd (none_read m pairs best g one other)
+same_best m pairs best (Some f) None one other = absurd (none_read m pairs best f other one)
+same_best m pairs best (Some f) (Some g) one other = ap Some (same_found m pairs best f g one other)
+
+-- ---- accepted entries aren't refused
+
+after_refused : (p : Instance) (s : LogState) (entries : List Entry) (i : ℕ) (why : BadStep) → IsAcceptedAfter p s entries → IsSomeAnd (slice_get entries i) (λ e. first_fault p (state_after s (take i entries)) e ≡ Some why) → ⊥
+after_refused p s [] i why accepted refused = refused
+after_refused p s (e ∷ entries) zero why accepted refused =
+    let none : first_fault p s e ≡ None = accepted.0 in
+    let some : first_fault p s e ≡ Some why = refused in
+    let clash : None ≡ Some why = sym none ∙ some in
+    absurd (cc)
+after_refused p s (e ∷ entries) (suc i) why accepted refused =
+    after_refused p (state_with s e) entries i why accepted.1 refused
+
+not_refused : (p : Instance) (entries : List Entry) (step : ℕ) (why : BadStep) → IsAccepted p entries → IsRefusedAt p entries step why → ⊥
+unfolding IsAccepted state_of
+not_refused p entries zero why accepted refused = refused
+not_refused p entries (suc i) why accepted refused = after_refused p empty_state entries i why accepted refused.1
+
+-- ---- what `check` answers for entries that show an answer
+
+abbrev among : Status → Type 0
+among answer = IsOneOf answer (statuses.Read ∷ statuses.Write ∷ statuses.Memory ∷ [])
+
+realized_again : (m : Lists) (earlier : List Pair) (entries : List Entry) (found : Found) (sink again : Printing) (answer : Status) → ShowsRealized m earlier entries found → IsPrinted sink (realized m earlier found.assignment) → HasEntriesOutcome m earlier entries again answer → among answer ⊎ ((answer ≡ statuses.Done) × PrintSame sink again)
+realized_again m earlier entries found sink again statuses.Done shown printed outcome =
+    let same = same_found m earlier (last_best (state_of entries)) outcome.found found outcome.shown.best shown.best in
+    inr (refl, (realized m earlier found.assignment, (printed, subst (λ f. IsPrinted again (realized m earlier f.assignment)) same outcome.printed)))
+realized_again m earlier entries found sink again statuses.Unrealizable shown printed outcome =
+    absurd (none_read m earlier (last_best (state_of entries)) found outcome.0.no_best shown.best)
+realized_again m earlier entries found sink again statuses.Open shown printed outcome =
+    absurd (outcome.open_with.not_closed shown.closed)
+realized_again m earlier entries found sink again statuses.Certificate shown printed outcome =
+    absurd (not_refused (problem_of m earlier) entries outcome.step outcome.why shown.accepted outcome.refused)
+realized_again m earlier entries found sink again statuses.Write shown printed outcome = inl (1, omega arith, refl)
+realized_again m earlier entries found sink again statuses.Memory shown printed outcome = inl (2, omega arith, refl)
+realized_again m earlier entries found sink again answer shown printed outcome = absurd outcome
+
+unrealizable_again : (m : Lists) (earlier : List Pair) (entries : List Entry) (sink again : Printing) (answer : Status) → ShowsUnrealizable m earlier entries → IsPrinted sink unrealizable → HasEntriesOutcome m earlier entries again answer → among answer ⊎ ((answer ≡ statuses.Unrealizable) × PrintSame sink again)
+unrealizable_again m earlier entries sink again statuses.Done shown printed outcome =
+    absurd (none_read m earlier (last_best (state_of entries)) outcome.found shown.no_best outcome.shown.best)
+unrealizable_again m earlier entries sink again statuses.Unrealizable shown printed outcome =
+    inr (refl, (unrealizable, (printed, outcome.1)))
+unrealizable_again m earlier entries sink again statuses.Open shown printed outcome =
+    absurd (outcome.open_with.not_closed shown.closed)
+unrealizable_again m earlier entries sink again statuses.Certificate shown printed outcome =
+    absurd (not_refused (problem_of m earlier) entries outcome.step outcome.why shown.accepted outcome.refused)
+unrealizable_again m earlier entries sink again statuses.Write shown printed outcome = inl (1, omega arith, refl)
+unrealizable_again m earlier entries sink again statuses.Memory shown printed outcome = inl (2, omega arith, refl)
+unrealizable_again m earlier entries sink again answer shown printed outcome = absurd outcome
+
+open_again : (m : Lists) (earlier : List Pair) (entries : List Entry) (best : Option Found) (spent : List ℕ) (sink again : Printing) (answer : Status) → LeavesOpen m earlier entries best → IsPrinted sink (exhausted m best spent) → HasEntriesOutcome m earlier entries again answer → among answer ⊎ ((answer ≡ statuses.Open) × PrintSameBest sink again)
+open_again m earlier entries best spent sink again statuses.Done left printed outcome =
+    absurd (left.not_closed outcome.shown.closed)
+open_again m earlier entries best spent sink again statuses.Unrealizable left printed outcome =
+    absurd (left.not_closed outcome.0.closed)
+open_again m earlier entries best spent sink again statuses.Open left printed outcome =
+    let same = same_best m earlier (last_best (state_of entries)) outcome.best best outcome.open_with.best_is left.best_is in
+    inr (refl, (m, best, spent, (printed, subst (λ b. IsPrinted again (left_open m b)) same outcome.printed)))
+open_again m earlier entries best spent sink again statuses.Certificate left printed outcome =
+    absurd (not_refused (problem_of m earlier) entries outcome.step outcome.why left.accepted outcome.refused)
+open_again m earlier entries best spent sink again statuses.Write left printed outcome = inl (1, omega arith, refl)
+open_again m earlier entries best spent sink again statuses.Memory left printed outcome = inl (2, omega arith, refl)
+open_again m earlier entries best spent sink again answer left printed outcome = absurd outcome
+
+-- ---- where `solve` answers, its files were read and have a problem
+
+abbrev IsAnswer : Status → Type 0
+IsAnswer statuses.Done = Unit {0}
+IsAnswer statuses.Unrealizable = Unit {0}
+IsAnswer statuses.Open = Unit {0}
+IsAnswer status = ⊥
+
+-- what is no outcome of an answer
+no_answer : (P : Status → Type 0) (status : Status) → (P statuses.Done → ⊥) → (P statuses.Unrealizable → ⊥) → (P statuses.Open → ⊥) → IsAnswer status → P status → ⊥
+no_answer P statuses.Done done none left answers is = done is
+no_answer P statuses.Unrealizable done none left answers is = none is
+no_answer P statuses.Open done none left answers is = left is
+no_answer P status done none left answers is = answers
+
+no_text : (shelf : Shelving) (name : List ℕ) (sink : Printing) (status : Status) → IsAnswer status → HasNoText name shelf sink status → ⊥
+no_text shelf name sink status answers gone =
+    no_answer (λ s. HasNoText name shelf sink s) status (λ x. x) (λ x. x) (λ x. x) answers gone
+
+no_model : (shelf : Shelving) (name : List ℕ) (sink : Printing) (status : Status) → IsAnswer status → HasNoModel name shelf sink status → ⊥
+no_model shelf name sink status answers (inl gone) = no_text shelf name sink status answers gone
+no_model shelf name sink status answers (inr file) =
+    no_answer (λ s. HasFaultOutcome file.0 sink s) status (λ x. x) (λ x. x) (λ x. x) answers file.1.1
+
+nothing_known : (shelf : Shelving) (file : Option (List ℕ)) (sink : Printing) (status : Status) → IsAnswer status → HasNothingKnown file shelf sink status → ⊥
+nothing_known shelf None sink status answers gone = gone
+nothing_known shelf (Some name) sink status answers (inl gone) = no_text shelf name sink status answers gone
+nothing_known shelf (Some name) sink status answers (inr file) =
+    no_answer (λ s. HasEarlierFaultOutcome file.0 sink s) status (λ x. x) (λ x. x) (λ x. x) answers file.1.1
+
+-- the files give a model that has a problem, and P holds of it
+record IsAnswered (shelf : Shelving) (name : List ℕ) (file : Option (List ℕ)) (P : Lists → List Pair → Type 0) : Type 0 where
+  m : Lists
+  lines : List ℕ
+  earlier : List Pair
+  input : IsInputOf shelf name file m lines earlier
+  encodable : IsEncodable m
+  outcome : P m earlier
+
+with_problem : (P : Lists → List Pair → Printing → Status → Type 0) (shelf : Shelving) (name : List ℕ) (file : Option (List ℕ)) (m : Lists) (lines : List ℕ) (earlier : List Pair) (sink : Printing) (status : Status) → IsAnswer status → IsInputOf shelf name file m lines earlier → HasProblemOutcome P m lines earlier sink status → IsAnswered shelf name file (λ m earlier. P m earlier sink status)
+with_problem P shelf name file m lines earlier sink status answers input (inl none) =
+    absurd (no_answer (λ s. HasNoProblem m lines sink s) status (λ x. x) (λ x. x) (λ x. x) answers none)
+with_problem P shelf name file m lines earlier sink status answers input (inr is) =
+    record { m = m; lines = lines; earlier = earlier; input = input; encodable = is.0; outcome = is.1 }
+
+answered : (P : Lists → List Pair → Printing → Status → Type 0) (shelf : Shelving) (name : List ℕ) (file : Option (List ℕ)) (sink : Printing) (status : Status) → IsAnswer status → HasInputOutcome (HasProblemOutcome P) name file shelf sink status → IsAnswered shelf name file (λ m earlier. P m earlier sink status)
+answered P shelf name file sink status answers (inl (inl gone)) = absurd (no_model shelf name sink status answers gone)
+answered P shelf name file sink status answers (inl (inr gone)) = absurd (nothing_known shelf file sink status answers gone.1)
+answered P shelf name file sink status answers (inr read) =
+    with_problem P shelf name file read.0 read.1 read.2 sink status answers read.3.0 read.3.1
+
+-- ---- what a later `check` finds
+
+read_as : (o : Option (List ℕ)) (P : List ℕ → Type 0) (text : List ℕ) → IsSomeAnd o (λ file. text ≡ file) → P text → IsSomeAnd o P
+read_as None P text is holds = absurd is
+read_as (Some file) P text is holds = subst P is holds
+
+-- a file that was read has its text still
+kept_file : (shelf : Shelving) (before now : Files) (name : List ℕ) (P : List ℕ → Type 0) → shelf.files ≡ Some before → now name ≡ before name → IsFileOf shelf name P → HasFile now name P
+kept_file shelf before now name P found same file =
+    let here : IsSomeAnd (before name) (λ text. file.0 ≡ text) = where_told shelf.files before name (λ text. file.0 ≡ text) found file.1.0.told in
+    subst (λ o. IsSomeAnd o (λ text. P text × (length text ≤ most_bytes))) (sym same)
+    (read_as (before name) (λ text. P text × (length text ≤ most_bytes)) file.0 here (file.1.1, file.1.0.short))
+
+kept_earlier : (shelf : Shelving) (before now : Files) (file : Option (List ℕ)) (earlier : List Pair) → shelf.files ≡ Some before → IfSome file (λ e. now e ≡ before e) → IsKnownOf shelf file earlier → HasEarlier now file earlier
+kept_earlier shelf before now None earlier found same known = known
+kept_earlier shelf before now (Some name) earlier found same known =
+    kept_file shelf before now name (λ text. IsEarlierTextOf text earlier) found same known
+
+-- the input of `solve` is good still
+good_still : (name cert : List ℕ) (file : Option (List ℕ)) (shelf later : Shelving) (files : Writing) (m : Lists) (lines : List ℕ) (earlier : List Pair) → IsLater name file cert shelf files later → IsInputOf shelf name file m lines earlier → IsEncodable m → IsGoodInput later name file m earlier
+good_still name cert file shelf later files m lines earlier is input encodable = record {
+  files = is.now;
+  told = is.told;
+  model = kept_file shelf is.before is.now name (λ text. IsModelTextOf text m) is.found is.model (model_of_reading shelf name m lines input.model);
+  known = kept_earlier shelf is.before is.now file earlier is.found is.known input.known;
+  encodable = encodable;
+}
+
+-- a file that was written holds what was written
+written : (old : Option Files) (after : Files) (name bytes : List ℕ) → Leaves old (Some after) name bytes → after name ≡ Some bytes
+written None after name bytes left = let clash : Some after ≡ None = left in absurd (cc)
+written (Some before) after name bytes left = left.named
+
+-- the certificate's text, in the file that is named for it
+record IsWritten (now : Files) (cert : List ℕ) (entries : List Entry) : Type 0 where
+  text : List ℕ
+  here : now cert ≡ Some text
+  text_is : IsTextOf text entries
+
+certificate_written : (name cert : List ℕ) (file : Option (List ℕ)) (shelf later : Shelving) (files : Writing) (entries : List Entry) (is : IsLater name file cert shelf files later) → IsCertified (Some cert) entries files → IsWritten is.now cert entries
+certificate_written name cert file shelf later files entries is certified =
+    let left : Leaves files.before (Some is.after) cert certified.0 = subst (λ new. Leaves files.before new cert certified.0) is.left certified.1.1 in
+    record { text = certified.0; here = is.certificate ∙ written files.before is.after cert certified.0 left; text_is = certified.1.0 }
+
+no_entries : (entries : List Entry) (text : List ℕ) (sink : Printing) (status : Status) → IsTextOf text entries → HasNoEntries text sink status → status ≡ statuses.Memory
+no_entries entries text sink statuses.Certificate is fault =
+    absurd (entries_or_fault text entries fault.line fault.kind is fault.fault)
+no_entries entries text sink statuses.Memory is fault = refl
+no_entries entries text sink status is fault = absurd fault
+
+-- of a text that is the certificate of these entries
+of_text : (later : Shelving) (m : Lists) (earlier : List Pair) (entries : List Entry) (text : List ℕ) (again : Printing) (answer : Status) → IsTextOf text entries → HasCertificateOutcome m earlier text again answer → Lacks later answer ⊎ HasEntriesOutcome m earlier entries again answer
+of_text later m earlier entries text again answer is (inl none) = inl (inr (no_entries entries text again answer is none))
+of_text later m earlier entries text again answer is (inr read) =
+    inr (subst (λ e. HasEntriesOutcome m earlier e again answer) (one_list text read.entries entries read.text_is is) read.outcome)
+
+same_bytes : (o : Option (List ℕ)) (text read : List ℕ) → o ≡ Some text → IsSomeAnd o (λ file. read ≡ file) → read ≡ text
+same_bytes o text read here is = subst (λ x. IsSomeAnd x (λ file. read ≡ file)) here is
+
+of_check : (later : Shelving) (now : Files) (cert : List ℕ) (m : Lists) (earlier : List Pair) (entries : List Entry) (again : Printing) (answer : Status) → later.files ≡ Some now → IsWritten now cert entries → HasCheckOutcome cert later m earlier again answer → Lacks later answer ⊎ HasEntriesOutcome m earlier entries again answer
+of_check later now cert m earlier entries again answer told is (inl gone) =
+    let there : IsSome (now cert) = ap is_some is.here in
+    inl (no_bytes cert later now again answer told there gone)
+of_check later now cert m earlier entries again answer told is (inr read) =
+    let same = same_bytes (now cert) is.text read.0 is.here (where_told later.files now cert (λ file. read.0 ≡ file) told read.1.0) in
+    of_text later m earlier entries is.text again answer is.text_is (subst (λ text. HasCertificateOutcome m earlier text again answer) same read.1.1)
+
+lacking : (later : Shelving) (answer : Status) → Lacks later answer → among answer
+lacking later answer (inl failed) = subst among (sym failed.0) (0, omega arith, refl)
+lacking later answer (inr memory) = subst among (sym memory) (2, omega arith, refl)
+
+entries_found : (later : Shelving) (now : Files) (cert : List ℕ) (m : Lists) (earlier : List Pair) (entries : List Entry) (again : Printing) (answer : Status) → later.files ≡ Some now → IsWritten now cert entries → Lacks later answer ⊎ HasCheckOutcome cert later m earlier again answer → Lacks later answer ⊎ HasEntriesOutcome m earlier entries again answer
+entries_found later now cert m earlier entries again answer told is (inl lacks) = inl lacks
+entries_found later now cert m earlier entries again answer told is (inr outcome) =
+    of_check later now cert m earlier entries again answer told is outcome
+
+-- what comes of the entries that were written, unless `check` lacks something before it has them
+later_entries : (name cert : List ℕ) (file : Option (List ℕ)) (shelf later : Shelving) (files : Writing) (m : Lists) (lines : List ℕ) (earlier : List Pair) (entries : List Entry) (again : Printing) (answer : Status) → IsLater name file cert shelf files later → IsInputOf shelf name file m lines earlier → IsEncodable m → IsCertified (Some cert) entries files → HasInputOutcome (HasProblemOutcome (HasCheckOutcome cert later)) name file later again answer → among answer ⊎ HasEntriesOutcome m earlier entries again answer
+later_entries name cert file shelf later files m lines earlier entries again answer is input encodable certified outcome =
+    let good = good_still name cert file shelf later files m lines earlier is input encodable in
+    let here = certificate_written name cert file shelf later files entries is certified in
+    ⊎_elim
+    (λ lacks. inl (lacking later answer lacks))
+    (λ found. inr found)
+    (entries_found later is.now cert m earlier entries again answer is.told here
+    (of_input (HasCheckOutcome cert later) later name file m earlier again answer good outcome))
+
+-- ---- the law
+
+-- an answer is given again, or `check` lacks something
+given_again : {X : Type 0} (answer : Status) (A : Type 0) → (X → among answer ⊎ A) → among answer ⊎ X → among answer ⊎ A
+given_again answer A gives (inl lacks) = inl lacks
+given_again answer A gives (inr found) = gives found
+
+pub certificates_are_accepted : CertificatesAreAccepted
+certificates_are_accepted name cert file workers plan shelf later files kept sink again work idle statuses.Done answer outcome is checked =
+    let own = answered (HasSolveOutcome (wanted plan (Some cert)) work files) shelf name file sink statuses.Done tt outcome in
+    let printed = own.outcome in
+    given_again answer (Agrees statuses.Done sink answer again)
+    (realized_again own.m own.earlier printed.entries printed.found sink again answer printed.shown printed.printed)
+    (later_entries name cert file shelf later files own.m own.lines own.earlier printed.entries again answer is own.input own.encodable printed.certified checked)
+certificates_are_accepted name cert file workers plan shelf later files kept sink again work idle statuses.Unrealizable answer outcome is checked =
+    let own = answered (HasSolveOutcome (wanted plan (Some cert)) work files) shelf name file sink statuses.Unrealizable tt outcome in
+    let printed = own.outcome in
+    given_again answer (Agrees statuses.Unrealizable sink answer again)
+    (unrealizable_again own.m own.earlier printed.entries sink again answer printed.shown printed.printed)
+    (later_entries name cert file shelf later files own.m own.lines own.earlier printed.entries again answer is own.input own.encodable printed.certified checked)
+certificates_are_accepted name cert file workers plan shelf later files kept sink again work idle statuses.Open answer outcome is checked =
+    let own = answered (HasSolveOutcome (wanted plan (Some cert)) work files) shelf name file sink statuses.Open tt outcome in
+    let printed = own.outcome in
+    given_again answer (Agrees statuses.Open sink answer again)
+    (open_again own.m own.earlier printed.entries printed.best printed.spent sink again answer printed.solved.0 printed.printed)
+    (later_entries name cert file shelf later files own.m own.lines own.earlier printed.entries again answer is own.input own.encodable printed.certified checked)
+certificates_are_accepted name cert file workers plan shelf later files kept sink again work idle status answer outcome is checked = inr tt

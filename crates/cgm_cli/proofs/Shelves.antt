@@ -10,7 +10,8 @@ use Rattle.cgm_text.specs.Text.{IsReading, IsTextOf}
 use Rattle.cgm_evolve.specs.Pairs.{Pair}
 use Rattle.cgm_evolve.specs.Text.{IsTextOf as IsEarlierTextOf}
 use Rattle.cgm_cli.specs.Effects.{Printing, Shelving, shelving}
-use Rattle.cgm_cli.specs.Inputs.{HasEarlierFaultOutcome, HasNoEarlier, HasNoInput, HasNoText, IsEarlierOf, IsFileOf, IsInputOf, IsModelOf, IsReadingOf}
+use Rattle.cgm_cli.specs.CheckOutcome.{HasCheckOutcome, HasNoBytes}
+use Rattle.cgm_cli.specs.Inputs.{HasInputOutcome, HasProblemOutcome, HasEarlierFaultOutcome, HasNoEarlier, HasNoInput, HasNoText, IsEarlierOf, IsFileOf, IsInputOf, IsModelOf, IsReadingOf}
 
 rose_from : (before mid now : ℕ) → before ≤ mid → Rose mid now → Rose before now
 rose_from before mid now under rose = omega (arith, clamps, under, rose)
@@ -62,3 +63,42 @@ input_of name file told told_then before mid now m lines pairs same reading earl
   model = file_of told name (λ text. IsReading text m lines) before mid before now reading;
   known = file_of told file (λ text. IsEarlierTextOf text pairs) mid now before now (subst (λ files. IsEarlierOf (shelving files mid now) file pairs) same earlier);
 }
+
+-- the same input whatever was read after it
+input_then : (told : Option Files) (name : List ℕ) (file : Option (List ℕ)) (before mid now : ℕ) (m : Lists) (lines : List ℕ) (pairs : List Pair) → IsInputOf (shelving told before mid) name file m lines pairs → IsInputOf (shelving told before now) name file m lines pairs
+input_then told name None before mid now m lines pairs input = record {
+  model = file_of told name (λ text. IsReading text m lines) before mid before now input.model;
+  known = input.known;
+}
+input_then told name (Some file) before mid now m lines pairs input = record {
+  model = file_of told name (λ text. IsReading text m lines) before mid before now input.model;
+  known = file_of told file (λ text. IsEarlierTextOf text pairs) before mid before now input.known;
+}
+
+-- an input was read, and then this came of it
+pub after_input : (HasModelOutcome : Lists → List ℕ → List Pair → Printing → Status → Type 0) (told : Option Files) (name : List ℕ) (file : Option (List ℕ)) (before mid now : ℕ) (m : Lists) (lines : List ℕ) (pairs : List Pair) (sink : Printing) (status : Status) → IsInputOf (shelving told before mid) name file m lines pairs → HasModelOutcome m lines pairs sink status → HasInputOutcome HasModelOutcome name file (shelving told before now) sink status
+after_input HasModelOutcome told name file before mid now m lines pairs sink status input outcome =
+    inr (m, lines, pairs, (input_then told name file before mid now m lines pairs input, outcome))
+
+no_bytes : (told : Option Files) (name : List ℕ) (before mid now : ℕ) (sink : Printing) (status : Status) → before ≤ mid → HasNoBytes name (shelving told mid now) sink status → HasNoBytes name (shelving told before now) sink status
+no_bytes told name before mid now sink statuses.Read under gone = (missing_or_rose told name before mid now under gone.0, gone.1)
+no_bytes told name before mid now sink statuses.Memory under gone = gone
+no_bytes told name before mid now sink statuses.Limit under gone = gone
+no_bytes told name before mid now sink statuses.Done under gone = gone
+no_bytes told name before mid now sink statuses.Unrealizable under gone = gone
+no_bytes told name before mid now sink statuses.Usage under gone = gone
+no_bytes told name before mid now sink statuses.Text under gone = gone
+no_bytes told name before mid now sink statuses.Earlier under gone = gone
+no_bytes told name before mid now sink statuses.Certificate under gone = gone
+no_bytes told name before mid now sink statuses.Open under gone = gone
+no_bytes told name before mid now sink statuses.Write under gone = gone
+
+-- a certificate was looked for after other reads
+checked_then : (told : Option Files) (cert : List ℕ) (before mid now : ℕ) (m : Lists) (pairs : List Pair) (sink : Printing) (status : Status) → before ≤ mid → HasCheckOutcome cert (shelving told mid now) m pairs sink status → HasCheckOutcome cert (shelving told before now) m pairs sink status
+checked_then told cert before mid now m pairs sink status under (inl gone) = inl (no_bytes told cert before mid now sink status under gone)
+checked_then told cert before mid now m pairs sink status under (inr found) = inr found
+
+pub problem_checked_then : (told : Option Files) (cert : List ℕ) (before mid now : ℕ) (m : Lists) (lines : List ℕ) (pairs : List Pair) (sink : Printing) (status : Status) → before ≤ mid → HasProblemOutcome (HasCheckOutcome cert (shelving told mid now)) m lines pairs sink status → HasProblemOutcome (HasCheckOutcome cert (shelving told before now)) m lines pairs sink status
+problem_checked_then told cert before mid now m lines pairs sink status under (inl none) = inl none
+problem_checked_then told cert before mid now m lines pairs sink status under (inr some) =
+    inr (some.0, checked_then told cert before mid now m pairs sink status under some.1)

@@ -5,6 +5,7 @@ pub mod Commands
 pub mod Effects
 pub mod FaultLines
 pub mod Inputs
+pub mod Laws
 pub mod Numbers
 pub mod Outcome
 pub mod Placed

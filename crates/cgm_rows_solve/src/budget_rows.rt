@@ -33,3 +33,34 @@ fn enough(rt: HostRuntime) -> Result<(), Fail> {
     assert!(rt; has_answered(&ended, Status::Done, FIRST_REPORT));
     Ok(())
 }
+
+// Three clauses fix one variable each, and a move must be left to end with the best that they give.
+#[test]
+fn too_small_by_one_and_more(rt: HostRuntime) -> Result<(), Fail> {
+    let rows = [
+        ("--budget=1", "exhausted\nspent 0 1\nbest none\n"),
+        ("--budget=2", "exhausted\nspent 0 2\nbest none\n"),
+        (
+            "--budget=3",
+            "exhausted\nspent 0 3\nbest\ngoal G true\ntask T true\nrefine R true\n",
+        ),
+    ];
+    for (budget, report) in rows {
+        let ended = run_words(rt.alloc(), &["solve", "model.cgm", budget], FIRST)?;
+        assert_eq!(rt; ended.status, Status::Open);
+        assert!(rt; ended.sink.written() == report.as_bytes(), "at {budget}");
+    }
+    Ok(())
+}
+
+#[test]
+fn enough_and_one_more(rt: HostRuntime) -> Result<(), Fail> {
+    for budget in ["--budget=4", "--budget=5"] {
+        let ended = run_words(rt.alloc(), &["solve", "model.cgm", budget], FIRST)?;
+        assert!(rt;
+            has_answered(&ended, Status::Done, FIRST_REPORT),
+            "at {budget}"
+        );
+    }
+    Ok(())
+}

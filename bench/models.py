@@ -1,5 +1,7 @@
 """Models near the limits, and how a run of the program is measured. The scripts beside it use both."""
 import os
+import random
+import subprocess
 
 DIGITS = "0123456789abcdefghijklmnopqrstuvwxyz"
 
@@ -97,12 +99,114 @@ def earlier(count):
         yield f"T{i} {'true' if i % 4 else 'false'}"
 
 
+class Draws:
+    """Numbers from 1 to 100, by the generator that the program's own `trial` is to use."""
+
+    def __init__(self, seed):
+        self.mask = (1 << 64) - 1
+        self.increment = 3
+        self.state = (seed + self.increment) & self.mask
+        self.step()
+
+    def step(self):
+        self.state = (self.state * 6364136223846793005 + self.increment) & self.mask
+
+    def draw(self):
+        state = self.state
+        self.step()
+        word = (((state >> 18) ^ state) >> 27) & 0xFFFFFFFF
+        turn = state >> 59
+        word = ((word >> turn) | (word << (-turn & 31))) & 0xFFFFFFFF
+        return 1 + word % 100
+
+
+def generated(n):
+    """Goals with two ways each; the first eight ways have costs, the others cost nothing one way."""
+    draws = Draws(n)
+    costs = []
+    for i in range(1, n + 1):
+        first = draws.draw() if i <= 8 else 0
+        costs.append((first, draws.draw()))
+    for i in range(1, n + 1):
+        yield f"goal G{i} must"
+        yield f"task B{i}"
+        yield f"task A{i}"
+        yield f"refine R{i} G{i} : A{i}"
+        yield f"refine S{i} G{i} : B{i}"
+    yield "sum cost"
+    for i, (first, second) in enumerate(costs, 1):
+        yield f"value cost A{i} {first}"
+        yield f"value cost B{i} {second}"
+    for i in range(9, n):
+        yield f"contrib B{i} B{i + 1}"
+    yield "require (<= cost 800)"
+    yield "objective min cost"
+
+
+def scheduler(goals, number):
+    """Goals under one root, each with two or three ways of one or two tasks."""
+    dice = random.Random(goals * 100 + number)
+    yield "goal Root must"
+    for g in range(goals):
+        yield f"goal G{g}"
+    ways = {g: dice.choice((2, 3)) for g in range(goals)}
+    tasks = [(g, w) for g in range(goals) for w in range(ways[g])]
+    for g, w in tasks:
+        yield f"task T{g}_{w}"
+    for q in range(3):
+        yield f"goal Quality{q}"
+    yield "refine All Root : " + " ".join(f"G{g}" for g in range(goals))
+    for g, w in tasks:
+        yield f"refine R{g}_{w} G{g} : T{g}_{w}"
+    yield "sum cost"
+    yield "sum time"
+    for _ in range(goals // 2):
+        (g, w), (h, v) = dice.sample(tasks, 2)
+        if g != h:
+            yield f"conflict T{g}_{w} T{h}_{v}"
+    for _ in range(goals // 4):
+        (g, w), (h, v) = dice.sample(tasks, 2)
+        if g != h:
+            yield f"contrib T{g}_{w} T{h}_{v}"
+    yield "bind R0_0 R1_0"
+    for g, w in tasks:
+        yield f"value cost T{g}_{w} {dice.randint(1, 100)}"
+        yield f"value time T{g}_{w} {dice.randint(1, 20)}"
+    for q in range(3):
+        yield f"reward Quality{q} {dice.randint(5, 30)}"
+    yield f"pre+ Quality0 (<= cost {40 * goals})"
+    yield f"pre+ Quality1 (<= time {9 * goals})"
+    yield "pre+ Quality2 (and T0_0 T1_0)"
+    for quantity in ("weight", "time", "cost")[: 1 + number % 3]:
+        yield f"objective min {quantity}"
+
+
+def solved_models():
+    """The models that bench/solving and bench/checking run on: kind, size and lines of each."""
+    for size in (20, 200, 2_000):
+        yield "generated", size, generated(size)
+    for size in (10, 20, 40):
+        for number in range(5):
+            yield "scheduler", size, scheduler(size, number)
+
+
 def write_text(path, header, lines):
     """Writes a text of these lines, and answers its count of bytes."""
     with open(path, "w") as file:
         file.write(f"{header}\n")
         file.writelines(f"{line}\n" for line in lines)
     return os.path.getsize(path)
+
+
+def counts(path):
+    """How many entries a certificate has, and how many of them are lemmas: one for each conflict."""
+    entries = lemmas = 0
+    with open(path) as file:
+        next(file, None)
+        for line in file:
+            entries += 1
+            lemmas += line.startswith("lemma ")
+    return entries, lemmas
 
 
 def run(program, words):
@@ -113,6 +217,11 @@ def run(program, words):
         os.execv(program, [program, *words])
     _, status, usage = os.wait4(child, 0)
     return usage.ru_utime + usage.ru_stime, usage.ru_maxrss * 1024, os.waitstatus_to_exitcode(status)
+
+
+def printed(program, words):
+    """What the program prints."""
+    return subprocess.run([program, *words], stdout=subprocess.PIPE, check=False).stdout.decode()
 
 
 def shortest(program, words, repeats=5):

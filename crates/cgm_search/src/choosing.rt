@@ -1,15 +1,14 @@
 //! What to decide next.
 ghost use Rattle.std.specs.Prelude.{◌≡◌, ◌+◌, ◌<◌, ◌≤◌, ◌↔◌, length, IsNone, IfOk, IfSome};
-ghost use Rattle.cgm_atom.specs.ClauseAtoms.{AreKnown};
 ghost use Rattle.cgm_atom.specs.Instance.{var_count};
 ghost use Rattle.cgm_search.specs.Choosing.{IsChoiceOf};
 ghost use Rattle.cgm_split.specs.Halving.{IsLowerHalf, IsPoint};
 ghost use Rattle.cgm_trail.specs.TrailState.{IsOpenIn, box_of};
 
 use crate::plans::Plan;
-use cgm_atom::{Atom, BoxState, OutOfMemory, Problem};
+use cgm_atom::{Atom, BoxState, Hint, OutOfMemory, Problem};
 use cgm_split::{Activity, Order, next};
-use cgm_trail::Trail;
+use cgm_trail::{Change, Reason, Trail};
 use std::alloc::Global;
 
 /// The order of decisions before the first restart, and the one after it.
@@ -59,13 +58,47 @@ fn half_of(choice: &mut Choice, restarts: u32, b: &BoxState) -> Option<Atom>
     choice.activity.next(b)
 }
 
-/// Makes the variable of each atom heavier in the order after the first restart.
-pub(crate) fn raise_each(choice: &mut Choice, atoms: &[Atom])
-    requires { AreKnown (length choice.old.activity.weights) atoms.now }
+/// Makes the variable of each change that was resolved on heavier in the order after the first restart.
+/// The hints are those of what was learned from a conflict, in the order of the trail: those of the
+/// changes, and then that of the conflict.
+pub(crate) fn raise_resolved(choice: &mut Choice, t: &Trail, hints: &[Hint])
+    requires { length choice.old.activity.weights ≡ var_count t.now.problem }
     ensures order { choice.new.order ≡ choice.old.order }
     ensures count { length choice.new.activity.weights ≡ length choice.old.activity.weights }
 {
-    for a in atoms {
-        choice.activity.raise(a.var);
+    let mut left = all_but_last(hints);
+    let mut place = t.changes();
+    while place > 0 {
+        place -= 1;
+        if is_made_by_last(t.change(place), left) {
+            raise_changed(choice, t, place);
+            left = all_but_last(left);
+        }
+    }
+}
+
+/// Makes the variable of a change heavier.
+fn raise_changed(choice: &mut Choice, t: &Trail, place: u64)
+    requires place { place < length t.now.changes }
+    requires count { length choice.old.activity.weights ≡ var_count t.now.problem }
+    ensures order { choice.new.order ≡ choice.old.order }
+    ensures count { length choice.new.activity.weights ≡ length choice.old.activity.weights }
+{
+    let change = t.change(place);
+    choice.activity.raise(change.atom.var);
+}
+
+/// Whether the last of the hints is the reason of the change.
+fn is_made_by_last(change: &Change, hints: &[Hint]) -> bool {
+    match (change.reason, hints) {
+        (Reason::By(by), [.., last]) => by == *last,
+        _ => false,
+    }
+}
+
+fn all_but_last(hints: &[Hint]) -> &[Hint] {
+    match hints {
+        [] => hints,
+        [rest @ .., _] => rest,
     }
 }

@@ -13,7 +13,7 @@ ghost use Rattle.cgm_search.specs.Trading.{HasTradedAtMost, IsLonger};
 ghost use Rattle.cgm_trail.specs.TrailState.{IsOpenIn, box_of, cut_trail, level_of};
 
 use crate::batching::lemma_batch;
-use crate::choosing::raise_each;
+use crate::choosing::raise_resolved;
 use crate::exchanging::exchange;
 use crate::gates::Gate;
 use crate::knowing::Known;
@@ -76,7 +76,7 @@ fn resolve<T: Trader, G: Gate>(
         level,
     } = learned;
     let last = last_atom(clause.atoms.as_slice());
-    raise_each(&mut s.choice, clause.atoms.as_slice());
+    raise_resolved(&mut s.choice, &s.trail, hints.as_slice());
     trade_lemma(
         s.alloc,
         &mut s.known,

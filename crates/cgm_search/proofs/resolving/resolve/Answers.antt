@@ -5,8 +5,8 @@ use Rattle.cgm_search.proofs.resolving.resolve.Goals as goal
 
 pub jump-requires-clause-ready : goal.jump-requires-clause-ready
 jump-requires-clause-ready g c =
-    ready_traded (record c.args.s.now { choice = c.raise_each.new.choice }) _
-    (ready_raised c.args.s.now c.raise_each.new.choice c.requires.ready c.raise_each.ensures.order c.raise_each.ensures.count)
+    ready_traded (record c.args.s.now { choice = c.raise_resolved.new.choice }) _
+    (ready_raised c.args.s.now c.raise_resolved.new.choice c.requires.ready c.raise_resolved.ensures.order c.raise_resolved.ensures.count)
     (record { problem = c.trade_lemma.ensures.same_problem; trail = refl; choice = refl; plan = refl; worker = refl })
     c.in_ok-trade_lemma.ensures.known (sym c.is_closed.ensures ∙ c.if-is_closed.false) c.in_ok-trade_lemma.ensures.longer
 

@@ -1,7 +1,12 @@
 """Models near the limits, and how a run of the program is measured. The scripts beside it use both."""
 import os
 import random
+import resource
+import signal
 import subprocess
+
+# Statuses of a run that was ended for its processor time.
+GIVEN_UP = (-signal.SIGXCPU, -signal.SIGKILL)
 
 DIGITS = "0123456789abcdefghijklmnopqrstuvwxyz"
 
@@ -209,11 +214,17 @@ def counts(path):
     return entries, lemmas
 
 
-def run(program, words):
-    """Runs the program, and answers processor seconds, peak memory in bytes and the exit status."""
+def run(program, words, output=os.devnull, most=None):
+    """Runs the program, and answers processor seconds, peak memory in bytes and the exit status.
+
+    What it prints goes to the file `output`. After `most` seconds of processor time it is ended by a signal,
+    which the status tells as a negative number.
+    """
     child = os.fork()
     if child == 0:
-        os.dup2(os.open(os.devnull, os.O_WRONLY), 1)
+        os.dup2(os.open(output, os.O_WRONLY | os.O_CREAT | os.O_TRUNC, 0o644), 1)
+        if most:
+            resource.setrlimit(resource.RLIMIT_CPU, (most, most + 1))
         os.execv(program, [program, *words])
     _, status, usage = os.wait4(child, 0)
     return usage.ru_utime + usage.ru_stime, usage.ru_maxrss * 1024, os.waitstatus_to_exitcode(status)

@@ -1,38 +1,53 @@
 // Which file gets the certificate, when it is written, and what stands where a write fails.
 use crate::runs::{
-    FIRST, FIRST_REPORT, has_answered, run_printing, run_words, shelf_of, shows_first,
+    Ended, FIRST, FIRST_REPORT, has_answered, run_printing, run_words, shelf_of, shows_first,
 };
 use cgm_base::Status;
 use cgm_shelf::{MemShelf, MemSink};
+use std::alloc::{AllocError, Global};
 use std::test::Fail;
 
-// In pieces of four bytes: the start fails, and then the first, second and third append.
+/// How `solve` with a certificate ends on a shelf of which this start or append fails, and what is left
+/// there. A piece has four bytes.
+fn run_failing(alloc: Global, number: u64) -> Result<(Ended, MemShelf), AllocError> {
+    let failing = vec![in alloc; number]?;
+    let mut shelf = MemShelf::new(alloc, 4, Vec::new(alloc), failing);
+    shelf.put("first.cgm", FIRST.as_bytes())?;
+    let words = ["solve", "first.cgm", "--workers=1", "--cert=c.txt"];
+    let ended = run_words(alloc, &words, &mut shelf)?;
+    Ok((ended, shelf))
+}
+
+fn has_failed(ended: &Ended, shelf: &MemShelf) -> bool {
+    ended.status.code() == 9
+        && has_answered(ended, Status::Write, "fault write\n")
+        && shelf.write_faults() == 1
+}
+
+/// Whether the certificate's file holds this text.
+fn has_written(shelf: &MemShelf, text: &str) -> bool {
+    match shelf.bytes("c.txt") {
+        None => false,
+        Some(bytes) => bytes == text.as_bytes(),
+    }
+}
+
+// The first, second or third append fails.
 #[test]
 fn certificate_write_fails(rt: HostRuntime) -> Result<(), Fail> {
-    let alloc = rt.alloc();
-    let rows = [
-        (1, None),
-        (2, Some("")),
-        (3, Some("cgm-")),
-        (4, Some("cgm-cert")),
-    ];
-    for (number, held) in rows {
-        let failing = vec![in alloc; number]?;
-        let mut shelf = MemShelf::new(alloc, 4, Vec::new(alloc), failing);
-        shelf.put("first.cgm", FIRST.as_bytes())?;
-        let words = ["solve", "first.cgm", "--workers=1", "--cert=c.txt"];
-        let ended = run_words(alloc, &words, &mut shelf)?;
-        assert!(rt;
-            has_answered(&ended, Status::Write, "fault write\n"),
-            "at {number}"
-        );
-        assert_eq!(rt; ended.status.code(), 9);
-        assert_eq!(rt; shelf.write_faults(), 1);
-        match held {
-            Some(text) => assert_eq!(rt; shelf.bytes("c.txt"), Some(text.as_bytes())),
-            None => assert_eq!(rt; shelf.bytes("c.txt"), None),
-        }
+    for (number, held) in [(2, ""), (3, "cgm-"), (4, "cgm-cert")] {
+        let (ended, shelf) = run_failing(rt.alloc(), number)?;
+        assert!(rt; has_failed(&ended, &shelf), "at {number}");
+        assert!(rt; has_written(&shelf, held), "at {number}");
     }
+    Ok(())
+}
+
+#[test]
+fn certificate_start_fails(rt: HostRuntime) -> Result<(), Fail> {
+    let (ended, shelf) = run_failing(rt.alloc(), 1)?;
+    assert!(rt; has_failed(&ended, &shelf));
+    assert!(rt; shelf.bytes("c.txt").is_none());
     Ok(())
 }
 

@@ -4,7 +4,6 @@ use Rattle.cgm_base.specs.declared.fault.BadKind.{BadKind}
 use Rattle.cgm_base.specs.declared.fault.BadKind.TheVariants as kinds
 use Rattle.cgm_base.specs.declared.limit.Which.{Which}
 use Rattle.cgm_base.specs.declared.limit.Which.TheVariants as limits
-use Rattle.cgm_base.specs.declared.limits.TheConstants.{TEXT_BYTES, NAME_BYTES, STATEMENTS, ELEMENTS, REFINEMENTS, SOURCES, FORMULA_NODES, FORMULA_DEPTH, OBJECTIVES, COEFFICIENT, VARIABLE_BOUND, ROW, TRIAL}
 
 abbrev pub kind_word : BadKind → List ℕ
 kind_word kinds.BadByte = codes "bad-byte"
@@ -40,16 +39,16 @@ limit_word limits.Row = codes "row"
 limit_word limits.Trial = codes "trial"
 
 abbrev pub limit_number : Which → ℕ
-limit_number limits.TextBytes = TEXT_BYTES
-limit_number limits.NameBytes = NAME_BYTES
-limit_number limits.Statements = STATEMENTS
-limit_number limits.Elements = ELEMENTS
-limit_number limits.Refinements = REFINEMENTS
-limit_number limits.Sources = SOURCES
-limit_number limits.FormulaNodes = FORMULA_NODES
-limit_number limits.FormulaDepth = FORMULA_DEPTH
-limit_number limits.Objectives = OBJECTIVES
-limit_number limits.Coefficient = COEFFICIENT
-limit_number limits.VariableBound = VARIABLE_BOUND
-limit_number limits.Row = ROW
-limit_number limits.Trial = TRIAL
+limit_number limits.TextBytes = 16777216
+limit_number limits.NameBytes = 64
+limit_number limits.Statements = 1000000
+limit_number limits.Elements = 20000
+limit_number limits.Refinements = 20000
+limit_number limits.Sources = 256
+limit_number limits.FormulaNodes = 200000
+limit_number limits.FormulaDepth = 200
+limit_number limits.Objectives = 8
+limit_number limits.Coefficient = 1000000
+limit_number limits.VariableBound = 1000000000
+limit_number limits.Row = 4000000000000000000
+limit_number limits.Trial = 2000

@@ -1,145 +1,254 @@
-// Each limit at its number and one past it.
-use crate::texts::{
-    all_limited, all_read, all_refused, is_limit, reading_of, repeated, stop_of, text_of_sources,
-};
-use cgm_base::{BadKind, Limit, Which};
+// Each limit that only a long text meets, at its number and one past it.
+use crate::runs::prints;
+use crate::texts::{padded, push_all_numbered, push_numbered, repeated};
+use cgm_base::Status;
 use std::alloc::{AllocError, Global};
+use std::process::Abort;
 use std::test::Fail;
 
-#[test]
-fn length_of_a_name(rt: HostRuntime) -> Result<(), Fail> {
-    let alloc = rt.alloc();
-    let longest = repeated(alloc, "n", 64)?;
-    let task = format!(in alloc; "task {longest}")?;
-    let var = format!(in alloc; "var {longest} 0 1")?;
-    let refine = format!(in alloc; "refine {longest} G : A")?;
-    let lines = [task.as_str(), var.as_str(), refine.as_str()];
-    all_read(&rt, alloc, &lines)?;
-    let task = format!(in alloc; "task {longest}n")?;
-    let goal = format!(in alloc; "goal {longest}n must")?;
-    let var = format!(in alloc; "var {longest}n 0 1")?;
-    let refine = format!(in alloc; "refine {longest}n G : A")?;
-    let lines = [task.as_str(), goal.as_str(), var.as_str(), refine.as_str()];
-    all_limited(&rt, alloc, Which::NameBytes, 64, &lines)
-}
-
-#[test]
-fn coefficients(rt: HostRuntime) -> Result<(), Fail> {
-    let read = [
-        "require (<= (* 1000000 X) 0)",
-        "require (<= (* -1000000 X) 0)",
-        "require (<= (* 0001000000 X) 0)",
-        "require (<= X 9223372036854775807)",
-        "require (>= X -9223372036854775808)",
-    ];
-    all_read(&rt, rt.alloc(), &read)?;
-    let limited = [
-        "require (<= (* 1000001 X) 0)",
-        "require (<= (* -1000001 X) 0)",
-        "require (= (* 9223372036854775807 X) 0)",
-        "require (= (* -9223372036854775808 X) 0)",
-        "pre+ G (not (or H (>= (+ (* 1000001 X)) 0)))",
-    ];
-    all_limited(&rt, rt.alloc(), Which::Coefficient, 1_000_000, &limited)
-}
-
-#[test]
-fn bounds_of_a_variable(rt: HostRuntime) -> Result<(), Fail> {
-    let read = [
-        "var Y -1000000000 1000000000",
-        "var Y 1000000000 1000000000",
-        "var Y -1000000000 -0001000000000",
-    ];
-    all_read(&rt, rt.alloc(), &read)?;
-    let limited = [
-        "var Y 0 1000000001",
-        "var Y -1000000001 0",
-        "var Y -1000000001 1000000001",
-        "var Y 0 9223372036854775807",
-        "var Y -9223372036854775808 0",
-    ];
-    all_limited(
-        &rt,
-        rt.alloc(),
-        Which::VariableBound,
-        1_000_000_000,
-        &limited,
+/// Asserts that `show` of the model ends with the status and prints these bytes.
+fn shows(
+    rt: &impl Abort,
+    alloc: Global,
+    model: &[u8],
+    printed: (Status, &[u8]),
+) -> Result<(), Fail> {
+    prints(
+        rt,
+        alloc,
+        &["show", "model.cgm"],
+        model,
+        ("old.txt", b""),
+        printed,
     )
 }
 
-/// A requirement with this many brackets open at once.
-fn nested(alloc: Global, depth: u32) -> Result<String, AllocError> {
-    let opening = repeated(alloc, "(not ", depth)?;
-    let closing = repeated(alloc, ")", depth)?;
-    format!(in alloc; "require {opening}G{closing}")
-}
+/// A front, a line behind it, how often it stands there at most, and the fault of one more.
+const REPEATED: [(&str, &str, u32, &str); 2] = [
+    (
+        "cgm 1\ngoal G\ntask T\nrefine R G : T\n",
+        "bind R R\n",
+        999_997,
+        "fault limit statements 1000000 1000002\n",
+    ),
+    (
+        "cgm 1\ntask T\n",
+        "require T\n",
+        200_000,
+        "fault limit formula-nodes 200000 200003\n",
+    ),
+];
 
+// As many lines as there may be are printed as they are; one more is told.
 #[test]
-fn brackets_that_are_open_at_once(rt: HostRuntime) -> Result<(), Fail> {
+fn statements_and_formula_nodes(rt: HostRuntime) -> Result<(), Fail> {
     let alloc = rt.alloc();
-    let deep = nested(alloc, 200)?;
-    all_read(&rt, alloc, &[deep.as_str()])?;
-    let deeper = nested(alloc, 201)?;
-    all_limited(&rt, alloc, Which::FormulaDepth, 200, &[deeper.as_str()])
-}
-
-// A bracket that closes nothing leaves the count at 0.
-#[test]
-fn brackets_that_close_nothing(rt: HostRuntime) -> Result<(), Fail> {
-    let alloc = rt.alloc();
-    let brackets = repeated(alloc, "(", 200)?;
-    let deep = format!(in alloc; "require ) ) {brackets}")?;
-    all_refused(&rt, alloc, BadKind::Form, &[deep.as_str()])?;
-    let deeper = format!(in alloc; "require ) ) {brackets}(")?;
-    all_limited(&rt, alloc, Which::FormulaDepth, 200, &[deeper.as_str()])
-}
-
-// The limit is on brackets that are open at once, and not on those of the line.
-#[test]
-fn many_brackets_side_by_side(rt: HostRuntime) -> Result<(), Fail> {
-    let alloc = rt.alloc();
-    let parts = repeated(alloc, " (not G)", 1000)?;
-    let line = format!(in alloc; "require (and{parts})")?;
-    all_read(&rt, alloc, &[line.as_str()])
-}
-
-#[test]
-fn sources_of_a_refinement(rt: HostRuntime) -> Result<(), Fail> {
-    let alloc = rt.alloc();
-    let reading = reading_of(alloc, text_of_sources(alloc, 256, "")?.as_bytes())?;
-    let refinements = reading.model.refinements.as_slice();
-    assert_eq!(rt; refinements.len(), 1);
-    assert_eq!(rt; refinements[0].sources.as_slice().len(), 256);
-    assert_eq!(rt; refinements[0].sources.as_slice()[255], 256);
-    let limit = Limit {
-        which: Which::Sources,
-        number: 256,
-        line: 260,
-    };
-    let stop = stop_of(alloc, text_of_sources(alloc, 257, "")?.as_bytes());
-    assert!(rt; is_limit(stop, limit));
+    for (front, line, most, fault) in REPEATED {
+        let mut text = repeated(alloc, front, line, most)?;
+        shows(&rt, alloc, text.as_slice(), (Status::Done, text.as_slice()))?;
+        text.extend_from_slice(line.as_bytes())?;
+        shows(
+            &rt,
+            alloc,
+            text.as_slice(),
+            (Status::Limit, fault.as_bytes()),
+        )?;
+    }
     Ok(())
 }
 
-/// A text with this many tasks.
-fn text_of_tasks(alloc: Global, count: u32) -> Result<String, AllocError> {
-    let mut text = String::from_str(alloc, "cgm 1\n")?;
-    for number in 1..=count {
-        let line = format!(in alloc; "task TaskOfManyTasks{number}\n")?;
-        text.push_str(line.as_str())?;
+/// A front, what stands around the number of each line, and the fault of line number 20,001.
+const NUMBERED: [(&str, (&str, &str), &str); 2] = [
+    (
+        "cgm 1\n",
+        ("task TaskOfManyTasks", "\n"),
+        "fault limit elements 20000 20002\n",
+    ),
+    (
+        "cgm 1\ngoal G\ntask T\n",
+        ("refine R", " G : T\n"),
+        "fault limit refinements 20000 20004\n",
+    ),
+];
+
+#[test]
+fn elements_and_refinements(rt: HostRuntime) -> Result<(), Fail> {
+    let alloc = rt.alloc();
+    for (front, around, fault) in NUMBERED {
+        let mut text = Vec::from_slice(alloc, front.as_bytes())?;
+        push_all_numbered(alloc, &mut text, around, 20_000)?;
+        shows(&rt, alloc, text.as_slice(), (Status::Done, text.as_slice()))?;
+        push_numbered(alloc, &mut text, around, 20_000)?;
+        shows(
+            &rt,
+            alloc,
+            text.as_slice(),
+            (Status::Limit, fault.as_bytes()),
+        )?;
     }
+    Ok(())
+}
+
+/// A front of a text of comments, its bytes, and what `show` says.
+const COMMENTS: [(&str, usize, Status, &str); 3] = [
+    ("cgm 1\n", 16_777_210, Status::Done, "cgm 1\n"),
+    (
+        "cgm 1\n",
+        16_777_211,
+        Status::Limit,
+        "fault limit text-bytes 16777216 0\n",
+    ),
+    ("", 16_777_216, Status::Text, "fault text 1 header\n"),
+];
+
+#[test]
+fn bytes_of_a_model(rt: HostRuntime) -> Result<(), Fail> {
+    let alloc = rt.alloc();
+    for (front, count, status, printed) in COMMENTS {
+        let text = padded(alloc, front, b'#', count)?;
+        shows(&rt, alloc, text.as_slice(), (status, printed.as_bytes()))?;
+    }
+    Ok(())
+}
+
+#[test]
+fn bytes_of_an_earlier_text(rt: HostRuntime) -> Result<(), Fail> {
+    let alloc = rt.alloc();
+    let words = ["solve", "model.cgm", "--earlier=old.txt"];
+    let rows = [
+        (16_777_206_usize, Status::Done, "realized\n"),
+        (
+            16_777_207,
+            Status::Limit,
+            "fault limit text-bytes 16777216 0\n",
+        ),
+    ];
+    for (count, status, printed) in rows {
+        let old = padded(alloc, "earlier 1\n", b'#', count)?;
+        let printed = (status, printed.as_bytes());
+        prints(
+            &rt,
+            alloc,
+            &words,
+            b"cgm 1\n",
+            ("old.txt", old.as_slice()),
+            printed,
+        )?;
+    }
+    Ok(())
+}
+
+/// The front of a certificate, the byte that follows, how often, and the fault that is told.
+const NO_CERTIFICATES: [(&str, u8, usize, &str); 5] = [
+    ("", b'x', 1_000_000, "fault certificate line 1 unfinished\n"),
+    ("", b'\n', 1_000_000, "fault certificate line 1 header\n"),
+    (
+        "cgm-cert 1\nbest 0 ",
+        b'1',
+        1_000_000,
+        "fault certificate line 2 unfinished\n",
+    ),
+    (
+        "cgm-cert 1\n",
+        b'\n',
+        1_000_000,
+        "fault certificate line 2 entry\n",
+    ),
+    (
+        "",
+        b'x',
+        16_777_217,
+        "fault certificate line 1 unfinished\n",
+    ),
+];
+
+// The limit on the bytes of other texts is none of a certificate's.
+#[test]
+fn long_files_that_are_no_certificate(rt: HostRuntime) -> Result<(), Fail> {
+    let alloc = rt.alloc();
+    let words = ["check", "model.cgm", "c.txt"];
+    for (front, byte, count, fault) in NO_CERTIFICATES {
+        let cert = padded(alloc, front, byte, count)?;
+        let printed = (Status::Certificate, fault.as_bytes());
+        prints(
+            &rt,
+            alloc,
+            &words,
+            b"cgm 1\ntask T\n",
+            ("c.txt", cert.as_slice()),
+            printed,
+        )?;
+    }
+    Ok(())
+}
+
+/// The header, 4,000 variables on the lines 2 to 4001, and a rule whose measure is 4·10^18 and the
+/// size of `most`.
+fn big_model(alloc: Global, most: i64) -> Result<Vec<u8>, AllocError> {
+    let mut text = Vec::from_slice(alloc, b"cgm 1\n")?;
+    push_all_numbered(
+        alloc,
+        &mut text,
+        ("var x", " -1000000000 1000000000\n"),
+        4_000,
+    )?;
+    text.extend_from_slice(b"require (<= (+")?;
+    push_all_numbered(alloc, &mut text, (" (* 1000000 x", ")"), 4_000)?;
+    let end = format!(in alloc; ") {most})\n")?;
+    text.extend_from_slice(end.as_bytes())?;
     Ok(text)
 }
 
-// A text of more than 64 KiB is read like a short one.
+/// The text of the problem of that model with the most value 0.
+fn big_problem(alloc: Global) -> Result<Vec<u8>, AllocError> {
+    let mut text = Vec::from_slice(alloc, b"cgm-problem 1\n")?;
+    push_all_numbered(
+        alloc,
+        &mut text,
+        ("var ", " -1000000000 1000000000\n"),
+        4_000,
+    )?;
+    text.extend_from_slice(b"var 4000 0 1\nclause 0 4000>=1\nrow 0 4000>=1 0")?;
+    push_all_numbered(alloc, &mut text, (" -1000000*", ""), 4_000)?;
+    text.extend_from_slice(b"\nrow 1 4000<=0 1")?;
+    push_all_numbered(alloc, &mut text, (" 1000000*", ""), 4_000)?;
+    text.extend_from_slice(b"\n")?;
+    Ok(text)
+}
+
 #[test]
-fn long_text(rt: HostRuntime) -> Result<(), Fail> {
+fn row_limit_met(rt: HostRuntime) -> Result<(), Fail> {
     let alloc = rt.alloc();
-    let text = text_of_tasks(alloc, 5000)?;
-    assert!(rt; text.len() > 65_536);
-    let reading = reading_of(alloc, text.as_bytes())?;
-    let elements = reading.model.elements.as_slice();
-    assert_eq!(rt; elements.len(), 5000);
-    assert!(rt; elements[4999].name.is(b"TaskOfManyTasks5000"));
+    let model = big_model(alloc, 0)?;
+    let problem = big_problem(alloc)?;
+    let printed = (Status::Done, problem.as_slice());
+    let words = ["encode", "model.cgm"];
+    prints(
+        &rt,
+        alloc,
+        &words,
+        model.as_slice(),
+        ("old.txt", b""),
+        printed,
+    )
+}
+
+#[test]
+fn row_limit_passed_by_one(rt: HostRuntime) -> Result<(), Fail> {
+    let alloc = rt.alloc();
+    let model = big_model(alloc, 1)?;
+    let fault = "fault limit row 4000000000000000000 4002\n";
+    for command in ["encode", "solve"] {
+        let printed = (Status::Limit, fault.as_bytes());
+        let words = [command, "model.cgm"];
+        prints(
+            &rt,
+            alloc,
+            &words,
+            model.as_slice(),
+            ("old.txt", b""),
+            printed,
+        )?;
+    }
     Ok(())
 }

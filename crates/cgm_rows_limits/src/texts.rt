@@ -1,114 +1,53 @@
-// Texts that are read, and what stops them.
-use cgm_base::{BadKind, Limit, Which};
-use cgm_text::{Reading, TextStop, read};
+// Texts that are long because a line of them repeats.
 use std::alloc::{AllocError, Global};
-use std::process::Abort;
-use std::test::Fail;
 
-/// Eight lines that declare a name of each kind.
-const DECLARED: &str =
-    "cgm 1\ngoal G\ngoal H\ntask T\nassume A\nvar X 0 9\nrefine R G : T\nsum Cost\n";
-
-/// What the text is read as.
-pub(crate) fn reading_of(alloc: Global, text: &[u8]) -> Result<Reading, Fail> {
-    if text.len() > 16_777_216 {
-        return Err(Fail::new("the text is too long"));
-    }
-    Ok(read(alloc, text)?)
-}
-
-/// Why the text isn't read, where it isn't.
-pub(crate) fn stop_of(alloc: Global, text: &[u8]) -> Option<TextStop> {
-    if text.len() > 16_777_216 {
-        return None;
-    }
-    read(alloc, text).err()
-}
-
-pub(crate) fn is_bad(stop: Option<TextStop>, at: u32, what: BadKind) -> bool {
-    match stop {
-        Some(TextStop::Bad { line, kind }) => line == at && kind == what,
-        _ => false,
-    }
-}
-
-pub(crate) fn is_limit(stop: Option<TextStop>, limit: Limit) -> bool {
-    match stop {
-        Some(TextStop::Limit(passed)) => passed == limit,
-        _ => false,
-    }
-}
-
-/// The text, again and again.
-pub(crate) fn repeated(alloc: Global, text: &str, count: u32) -> Result<String, AllocError> {
-    let mut whole = String::new(alloc);
-    for _ in 0..count {
-        whole.push_str(text)?;
-    }
-    Ok(whole)
-}
-
-/// A goal G, so many tasks T1, T2 and so on, and a refinement of G by the tasks and other sources.
-pub(crate) fn text_of_sources(
+/// The front, and behind it the line, again and again.
+pub(crate) fn repeated(
     alloc: Global,
+    front: &str,
+    line: &str,
     count: u32,
-    others: &str,
-) -> Result<String, AllocError> {
-    let mut text = String::from_str(alloc, "cgm 1\ngoal G\n")?;
-    let mut sources = String::new(alloc);
-    for number in 1..=count {
-        let task = format!(in alloc; "task T{number}\n")?;
-        text.push_str(task.as_str())?;
-        let source = format!(in alloc; " T{number}")?;
-        sources.push_str(source.as_str())?;
+) -> Result<Vec<u8>, AllocError> {
+    let mut text = Vec::from_slice(alloc, front.as_bytes())?;
+    for _ in 0..count {
+        text.extend_from_slice(line.as_bytes())?;
     }
-    let line = format!(in alloc; "refine R G :{sources}{others}\n")?;
-    text.push_str(line.as_str())?;
     Ok(text)
 }
 
-/// Asserts that each line has this fault, after eight that declare a name of each kind.
-pub(crate) fn all_refused(
-    rt: &impl Abort,
+/// Adds a number with what stands before and behind it.
+pub(crate) fn push_numbered(
     alloc: Global,
-    kind: BadKind,
-    lines: &[&str],
-) -> Result<(), Fail> {
-    for line in lines {
-        let text = format!(in alloc; "{DECLARED}{line}\n")?;
-        let stop = stop_of(alloc, text.as_bytes());
-        assert!(rt; is_bad(stop, 9, kind), "at {line}");
+    text: &mut Vec<u8>,
+    (head, tail): (&str, &str),
+    number: u32,
+) -> Result<(), AllocError> {
+    let line = format!(in alloc; "{head}{number}{tail}")?;
+    text.extend_from_slice(line.as_bytes())
+}
+
+/// Adds the numbers from 0 on, each with what stands before and behind it.
+pub(crate) fn push_all_numbered(
+    alloc: Global,
+    text: &mut Vec<u8>,
+    around: (&str, &str),
+    count: u32,
+) -> Result<(), AllocError> {
+    for number in 0..count {
+        push_numbered(alloc, text, around, number)?;
     }
     Ok(())
 }
 
-/// Asserts that each line passes this limit, after eight that declare a name of each kind.
-pub(crate) fn all_limited(
-    rt: &impl Abort,
+/// The front, and behind it so many bytes, each the same.
+pub(crate) fn padded(
     alloc: Global,
-    which: Which,
-    number: u64,
-    lines: &[&str],
-) -> Result<(), Fail> {
-    let limit = Limit {
-        which,
-        number,
-        line: 9,
-    };
-    for line in lines {
-        let text = format!(in alloc; "{DECLARED}{line}\n")?;
-        let stop = stop_of(alloc, text.as_bytes());
-        assert!(rt; is_limit(stop, limit), "at {line}");
-    }
-    Ok(())
-}
-
-/// Asserts that each line is read, after eight that declare a name of each kind.
-pub(crate) fn all_read(rt: &impl Abort, alloc: Global, lines: &[&str]) -> Result<(), Fail> {
-    for line in lines {
-        let text = format!(in alloc; "{DECLARED}{line}\n")?;
-        let stop = stop_of(alloc, text.as_bytes());
-        assert!(rt; stop.is_none(), "at {line}");
-    }
-    Ok(())
+    front: &str,
+    byte: u8,
+    count: usize,
+) -> Result<Vec<u8>, AllocError> {
+    let mut text = Vec::from_slice(alloc, front.as_bytes())?;
+    let rest = vec![in alloc; byte; count]?;
+    text.extend_from_slice(rest.as_slice())?;
+    Ok(text)
 }

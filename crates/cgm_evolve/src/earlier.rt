@@ -8,7 +8,7 @@ use std::alloc::Global;
 
 /// An earlier realization: names, each with the truth that it had. The names are distinct, each is
 /// spelled as a name, a reserved word too, and has at most 64 bytes.
-#[derive(Debug, Drop)]
+#[derive(Drop)]
 pub struct Earlier {
     /// The names with their truths, in the order of the text.
     pub pairs: Parts<(Name, bool)>,

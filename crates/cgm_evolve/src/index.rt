@@ -7,7 +7,7 @@ use indexmap::IndexMap;
 use std::alloc::Global;
 
 /// The truth of each name.
-#[derive(Debug, Drop)]
+#[derive(Drop)]
 pub(crate) struct Index {
     entries: IndexMap<Vec<u8>, bool>,
 }

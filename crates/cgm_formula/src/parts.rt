@@ -4,7 +4,7 @@ use std::alloc::AllocFailed;
 use std::marker::Model;
 
 /// A `Vec` that contracts see as the list of its items.
-#[derive(Debug, Drop)]
+#[derive(Drop)]
 pub struct Parts<T> {
     items: Vec<T>,
 }

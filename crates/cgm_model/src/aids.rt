@@ -3,7 +3,7 @@ use crate::names::NameTable;
 use std::alloc::Global;
 
 /// What serves to find names, cycles, interest lines and counts fast.
-#[derive(Debug, Drop)]
+#[derive(Drop)]
 pub(crate) struct Aids {
     pub(crate) alloc: Global,
     pub(crate) names: NameTable,

@@ -20,7 +20,7 @@ use std::alloc::Global;
 use std::marker;
 
 /// A model that is being built, statement by statement; contracts see it as the lists so far.
-#[derive(Debug, Drop)]
+#[derive(Drop)]
 pub struct ModelBuilder {
     lists: Lists,
     aids: Aids,

@@ -14,7 +14,7 @@ use indexmap::IndexSet;
 use std::alloc::Global;
 
 /// The variables and sums that were met.
-#[derive(Debug, Drop)]
+#[derive(Drop)]
 struct Met {
     vars: IndexSet<u32>,
     sums: IndexSet<u32>,

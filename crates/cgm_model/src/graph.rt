@@ -11,7 +11,7 @@ use sqlite_items::{Items, at};
 use std::alloc::Global;
 
 /// The graph from targets to sources, with room to search it for a cycle without taking memory.
-#[derive(Debug, Drop)]
+#[derive(Drop)]
 pub(crate) struct Graph {
     /// For each element the numbers of the refinements that have it as target, and maybe others.
     by_target: Vec<Items<u32>>,

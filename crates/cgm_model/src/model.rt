@@ -8,7 +8,7 @@ use crate::lists::{
 use cgm_formula::Parts;
 
 /// A well-formed model: its statements by group, each group in order.
-#[derive(Debug, Drop)]
+#[derive(Drop)]
 pub struct Model {
     pub elements: Parts<Element>,
     pub refinements: Parts<Refinement>,

@@ -15,7 +15,7 @@ use sqlite_items::at;
 use std::alloc::Global;
 
 /// What each name stands for. An entry may be left over from a statement that wasn't added.
-#[derive(Debug, Drop)]
+#[derive(Drop)]
 pub(crate) struct NameTable {
     entries: IndexMap<Vec<u8>, Thing>,
 }

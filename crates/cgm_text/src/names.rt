@@ -13,7 +13,7 @@ use cgm_base::BadKind;
 use cgm_model::{ModelBuilder, Thing};
 
 /// What the place of a name wants.
-#[derive(Clone, Copy, Debug)]
+#[derive(Clone, Copy)]
 pub(crate) enum Wanted {
     Element,
     Refinement,

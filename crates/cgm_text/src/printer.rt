@@ -7,7 +7,7 @@ use itoa::Buffer;
 use std::alloc::{AllocError as OutOfMemory, Global};
 
 /// A text that is being written, token by token.
-#[derive(Debug, Drop)]
+#[derive(Drop)]
 pub(crate) struct Printer {
     pub(crate) text: Vec<u8>,
     /// Whether a space comes before the next token, if that one doesn't close.

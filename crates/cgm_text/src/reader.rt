@@ -11,7 +11,7 @@ use cgm_model::Model;
 use std::alloc::Global;
 
 /// A model that was read from a text.
-#[derive(Debug, Drop)]
+#[derive(Drop)]
 pub struct Reading {
     pub model: Model,
     /// The line of each rule, numbered from 1, in the order of the rules.

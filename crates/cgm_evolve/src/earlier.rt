@@ -1,3 +1,4 @@
+//! An earlier realization.
 ghost use Rattle.std.specs.Prelude.{◌≡◌, []};
 ghost use Rattle.cgm_evolve.specs.Index.{Indexes};
 ghost use Rattle.cgm_evolve.specs.Pairs.{ArePairs, truth_in};

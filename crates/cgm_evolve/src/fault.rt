@@ -1,3 +1,4 @@
+//! Why a line of an earlier text isn't taken.
 use cgm_base::{BadKind, Which};
 
 /// What is wrong with a line of an earlier text.

@@ -1,3 +1,4 @@
+//! An assignment: truth values and numbers.
 use crate::parts::Parts;
 
 /// A truth value for each element and each refinement, and a number for each variable, by number.

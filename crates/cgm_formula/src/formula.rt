@@ -1,3 +1,4 @@
+//! Formulas and linear expressions.
 ghost use Rattle.std.specs.Prelude.{◌≡◌, IfOk};
 
 use crate::parts::Parts;

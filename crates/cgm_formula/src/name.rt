@@ -1,3 +1,4 @@
+//! A text that contracts see as its bytes.
 ghost use Rattle.std.specs.Prelude.{◌≡◌, ◌++◌, ◌↔◌, IsTrue, encode_utf8, is_ok, if◌then◌else◌};
 ghost use Rattle.std.specs.String.{string_bytes};
 

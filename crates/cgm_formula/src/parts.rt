@@ -1,3 +1,4 @@
+//! A list that contracts see as its items.
 ghost use Rattle.std.specs.Prelude.{◌≡◌, [], ◌∷◌, ◌++◌, IfErr, is_ok, if◌then◌else◌};
 
 use std::alloc::AllocFailed;

@@ -1,3 +1,4 @@
+//! What a builder keeps to find names, cycles and counts fast.
 use crate::graph::Graph;
 use crate::names::NameTable;
 use std::alloc::Global;

@@ -1,3 +1,4 @@
+//! Whether the graph of targets and sources has a cycle.
 ghost use Rattle.std.specs.Prelude.{◌≡◌, ◌+◌, ◌<◌, ◌≤◌, ◌++◌, ◌∷◌, [], ◌==◌, ◌↔◌, ℕ, false, List, IsTrue, All, length, slice_index_or, OnOk};
 ghost use Rattle.std.specs.List.{list_any};
 ghost use Rattle.cgm_model.specs.declared.lists.Refinement.{Refinement};

@@ -1,3 +1,4 @@
+//! Statements, and the lists of a model.
 use cgm_formula::{Formula, Name, Parts, Truth};
 
 /// What an element is.

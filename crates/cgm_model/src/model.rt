@@ -1,3 +1,4 @@
+//! A well-formed model.
 ghost use Rattle.cgm_model.specs.Lists.{lists};
 ghost use Rattle.cgm_model.specs.WellFormed.{IsWellFormed};
 

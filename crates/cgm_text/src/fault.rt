@@ -1,3 +1,4 @@
+//! Why a line of a model text isn't taken.
 ghost use Rattle.std.specs.Prelude.{◌≡◌};
 ghost use Rattle.cgm_text.specs.Line.{refusal_kind};
 

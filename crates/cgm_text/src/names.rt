@@ -1,3 +1,4 @@
+//! What is wrong with the first name that a statement may not use.
 ghost use Rattle.std.specs.Prelude.{◌≡◌, List, [], ◌∷◌, map};
 ghost use Rattle.std.specs.Option.{option_or};
 ghost use Rattle.cgm_model.specs.Named.{thing_named};

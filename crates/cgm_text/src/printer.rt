@@ -1,3 +1,4 @@
+//! A text that is written token by token.
 ghost use Rattle.std.specs.Prelude.{◌≡◌, ◌∷◌, [], ◌++◌, if◌then◌else◌, codes, List, OnOk};
 ghost use Rattle.cgm_lex.specs.Lexemes.{Lexeme, opening, closing, colon, number, word};
 ghost use Rattle.cgm_lex.specs.Spelling.{spelled_line};

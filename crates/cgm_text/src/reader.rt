@@ -1,3 +1,4 @@
+//! The reader of a model text.
 ghost use Rattle.std.specs.Prelude.{◌≡◌, ◌≤◌, length, None, IfOk, IfErr, OnOk};
 ghost use Rattle.cgm_model.specs.Model.{lists_of};
 ghost use Rattle.cgm_text.specs.Progress.{IsDraft, IsReadWhole, stop_at};

@@ -1,3 +1,4 @@
+//! Statements as they are written, with names as words.
 use sqlite_items::{Boxed, Items};
 
 /// Why tokens make no part of a statement.

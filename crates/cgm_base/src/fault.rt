@@ -1,3 +1,4 @@
+//! The kinds of fault that a line of a text may have.
 ghost use Rattle.std.specs.Prelude.{◌≡◌};
 ghost use Rattle.cgm_base.specs.Words.{kind_word};
 

@@ -1,3 +1,4 @@
+//! The quantities that are limited, and a limit that was passed.
 ghost use Rattle.std.specs.Prelude.{◌≡◌};
 ghost use Rattle.cgm_base.specs.Words.{limit_word, limit_number};
 

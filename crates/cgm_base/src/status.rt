@@ -1,3 +1,4 @@
+//! How a command ends.
 ghost use Rattle.std.specs.Prelude.{◌≡◌};
 ghost use Rattle.cgm_base.specs.Status.{code_of};
 

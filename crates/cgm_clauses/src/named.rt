@@ -7,7 +7,7 @@ use cgm_atom::{Clause, Hint, OutOfMemory, Problem};
 use cgm_trail::landed;
 use std::alloc::Global;
 
-#[derive(Debug, Drop)]
+#[derive(Drop)]
 pub(crate) struct Named {
     pub(crate) clause: Clause,
     pub(crate) name: Hint,

@@ -5,7 +5,7 @@ ghost use Rattle.cgm_clauses.specs.Standing.{IsStanding};
 
 use cgm_atom::{Atom, BoxState, Clause, is_false, is_true};
 
-#[derive(Clone, Copy, Debug, PartialEq, Eq)]
+#[derive(Clone, Copy, PartialEq, Eq)]
 pub(crate) enum Standing {
     /// It leaves the box as it is.
     Quiet,

@@ -14,7 +14,7 @@ use std::alloc::Global;
 use std::marker::Model;
 
 /// The clauses of a problem, and others that were added, each with the hint that names it.
-#[derive(Debug, Drop)]
+#[derive(Drop)]
 pub struct ClauseStore {
     vars: u32,
     clauses: Vec<Named>,

@@ -5,7 +5,7 @@ ghost use Rattle.cgm_enc_formula.specs.Literals.{atom_of, opposite as opposite_o
 use cgm_atom::{Atom, Var};
 
 /// A variable of 0 or 1, or its negation.
-#[derive(Clone, Copy, Debug)]
+#[derive(Clone, Copy)]
 pub(crate) struct Literal {
     pub(crate) variable: u32,
     pub(crate) is_positive: bool,

@@ -4,7 +4,7 @@ use cgm_model::Assignment;
 
 /// The problem of a model and an earlier realization, and how many of its first variables stand for
 /// elements, then for refinements, then for the model's variables.
-#[derive(Debug, Drop)]
+#[derive(Drop)]
 pub struct Encoded {
     pub problem: Problem,
     pub elements: u32,
@@ -13,7 +13,7 @@ pub struct Encoded {
 }
 
 /// A realization with its vector.
-#[derive(Debug, Drop)]
+#[derive(Drop)]
 pub struct Found {
     pub assignment: Assignment,
     /// One number for each objective, in order.
@@ -21,7 +21,7 @@ pub struct Found {
 }
 
 /// What a reasoner answers of a model. Entries are those of the log of the model's problem.
-#[derive(Debug, Drop)]
+#[derive(Drop)]
 pub enum Answer {
     /// A least realization was found, and the entries show that it is least.
     Realized {

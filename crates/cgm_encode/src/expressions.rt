@@ -12,7 +12,7 @@ use std::alloc::Global;
 use std::collections::BTreeMap;
 
 /// Terms by ascending variable, none of which has the coefficient 0, and a constant.
-#[derive(Debug, Drop)]
+#[derive(Drop)]
 pub(crate) struct Expression {
     pub(crate) terms: Seq<(i64, Var)>,
     pub(crate) constant: i64,

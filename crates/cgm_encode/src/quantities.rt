@@ -21,7 +21,7 @@ use cgm_model::{Model, Objective, Quantity, Weighing};
 use std::alloc::Global;
 
 /// Numbers for variables and a constant, which are to be added up.
-#[derive(Debug, Drop)]
+#[derive(Drop)]
 pub(crate) struct Summands {
     pub(crate) shares: Seq<(i64, u32)>,
     pub(crate) constant: i64,

@@ -1,3 +1,4 @@
+//! Familiarity and effort: what a realization changes of an earlier one, and what is new work.
 ghost use Rattle.std.specs.Prelude.{◌≡◌, ◌≤◌, [], pos, length, count_by};
 ghost use Rattle.std.specs.List.{slice_index_or};
 ghost use Rattle.cgm_base.specs.declared.limit.Which.TheVariants as limits;

@@ -1,3 +1,4 @@
+//! The pairs of the lines that were read so far.
 ghost use Rattle.std.specs.Prelude.{◌≡◌, ◌≢◌, ◌≤◌, ℕ, List, Option, true, IsTrue, IfOk, IfErr, OnOk, length, map};
 ghost use Rattle.cgm_base.specs.declared.fault.BadKind.TheVariants.{Header};
 ghost use Rattle.cgm_lex.specs.Lexemes.{IsLineStop, line_lexemes, seen};

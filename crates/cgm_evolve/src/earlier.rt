@@ -1,3 +1,4 @@
+//! An earlier realization.
 ghost use Rattle.std.specs.Prelude.{◌≡◌, []};
 ghost use Rattle.cgm_evolve.specs.Index.{Indexes};
 ghost use Rattle.cgm_evolve.specs.Pairs.{ArePairs, truth_in};
@@ -8,7 +9,7 @@ use std::alloc::Global;
 
 /// An earlier realization: names, each with the truth that it had. The names are distinct, each is
 /// spelled as a name, a reserved word too, and has at most 64 bytes.
-#[derive(Debug, Drop)]
+#[derive(Drop)]
 pub struct Earlier {
     /// The names with their truths, in the order of the text.
     pub pairs: Parts<(Name, bool)>,

@@ -1,7 +1,8 @@
+//! Why a line of an earlier text isn't taken.
 use cgm_base::{BadKind, Which};
 
 /// What is wrong with a line of an earlier text.
-#[derive(Clone, Copy, Debug, PartialEq, Eq)]
+#[derive(Clone, Copy, PartialEq, Eq)]
 pub enum LineFault {
     /// A fault of this kind.
     Bad(BadKind),
@@ -10,7 +11,7 @@ pub enum LineFault {
 }
 
 /// Why a line isn't added to those before it.
-#[derive(Clone, Copy, Debug)]
+#[derive(Clone, Copy)]
 pub(crate) enum LineStop {
     Faulty(LineFault),
     /// There is no memory for it.

@@ -1,3 +1,4 @@
+//! The forms of a line of an earlier text.
 ghost use Rattle.std.specs.Prelude.{◌≡◌, ◌≢◌, ◌↔◌, ℕ, ℤ, Bool, List, [], ◌∷◌, map, IsTrue, IfSome, IfNone};
 ghost use Rattle.cgm_lex.specs.Lexemes.{Lexeme, number, seen, word};
 ghost use Rattle.cgm_evolve.specs.Line.{SayPair, header_tokens, truth_word};

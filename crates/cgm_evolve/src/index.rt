@@ -1,3 +1,4 @@
+//! The truths of an earlier realization, found by name.
 ghost use Rattle.std.specs.Prelude.{◌≡◌, List, ℕ, OnOk, if◌then◌else◌};
 ghost use Rattle.std.specs.Str.{bytes_eq};
 ghost use Rattle.cgm_evolve.specs.Index.{found};
@@ -7,7 +8,7 @@ use indexmap::IndexMap;
 use std::alloc::Global;
 
 /// The truth of each name.
-#[derive(Debug, Drop)]
+#[derive(Drop)]
 pub(crate) struct Index {
     entries: IndexMap<Vec<u8>, bool>,
 }

@@ -1,3 +1,4 @@
+//! Laws of the earlier text.
 ghost use Rattle.std.specs.Prelude.{◌≡◌, ℕ, List};
 ghost use Rattle.cgm_evolve.specs.declared.fault.LineFault.{LineFault};
 ghost use Rattle.cgm_evolve.specs.Pairs.{ArePairs, Pair};

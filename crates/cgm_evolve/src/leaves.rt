@@ -1,3 +1,4 @@
+//! Leaf tasks.
 ghost use Rattle.std.specs.Prelude.{◌≡◌, ◌==◌, map, slice_get};
 ghost use Rattle.std.specs.List.{list_any};
 ghost use Rattle.cgm_model.specs.Model.{lists_of};

@@ -1,3 +1,4 @@
+//! The canonical text of an earlier realization.
 ghost use Rattle.std.specs.Prelude.{◌≡◌, ◌++◌, IfOk, OnOk};
 ghost use Rattle.cgm_evolve.specs.Line.{truth_word as word_of};
 ghost use Rattle.cgm_evolve.specs.Text.{canonical_text, pair_line};

@@ -1,3 +1,4 @@
+//! The reader of an earlier text.
 ghost use Rattle.std.specs.Prelude.{◌≡◌, ◌≤◌, length, IfOk, IfErr};
 ghost use Rattle.cgm_evolve.specs.Progress.{stop_at};
 ghost use Rattle.cgm_evolve.specs.Text.{IsTextOf, IsNotRead};

@@ -1,3 +1,4 @@
+//! The spelling of a name in an earlier text.
 ghost use Rattle.std.specs.Prelude.{◌≡◌};
 ghost use Rattle.std.specs.List.{list_all};
 ghost use Rattle.cgm_model.specs.Name as spelling;

@@ -1,3 +1,4 @@
+//! Formulas and linear expressions.
 ghost use Rattle.std.specs.Prelude.{◌≡◌, IfOk};
 
 use crate::parts::Parts;
@@ -5,21 +6,21 @@ use sqlite_items::Boxed;
 use std::alloc::{AllocError as OutOfMemory, Global};
 
 /// An element or a refinement, by its number.
-#[derive(Clone, Copy, Debug, PartialEq, Eq)]
+#[derive(Clone, Copy, PartialEq, Eq)]
 pub enum Truth {
     Element(u32),
     Refinement(u32),
 }
 
 /// A variable or a sum, by its number.
-#[derive(Clone, Copy, Debug, PartialEq, Eq)]
+#[derive(Clone, Copy, PartialEq, Eq)]
 pub enum Number {
     Var(u32),
     Sum(u32),
 }
 
 /// A linear expression: the total of coefficient times number over its terms.
-#[derive(Debug, Drop)]
+#[derive(Drop)]
 pub struct Linear {
     pub terms: Parts<(i64, Number)>,
 }
@@ -37,7 +38,7 @@ impl Linear {
 }
 
 /// A formula over elements, refinements and numbers.
-#[derive(Debug, Drop)]
+#[derive(Drop)]
 pub enum Formula {
     /// The element or refinement is true.
     Name(Truth),

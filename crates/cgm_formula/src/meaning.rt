@@ -1,3 +1,4 @@
+//! Truth of a formula, and value of a linear expression.
 ghost use Rattle.std.specs.Prelude.{◌≡◌, ◌+◌, ◌*◌, ◌^◌, ◌<◌, ◌&&◌, pos, false, ◌+ℤ◌, ◌*ℤ◌, int_le, unsigned_abs, slice_index_or, All};
 ghost use Rattle.std.specs.List.{list_all, list_any};
 ghost use Rattle.cgm_formula.specs.Reading.{name_in, number_in};

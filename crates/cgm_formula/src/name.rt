@@ -1,3 +1,4 @@
+//! A text that contracts see as its bytes.
 ghost use Rattle.std.specs.Prelude.{◌≡◌, ◌++◌, ◌↔◌, IsTrue, encode_utf8, is_ok, if◌then◌else◌};
 ghost use Rattle.std.specs.String.{string_bytes};
 
@@ -5,7 +6,7 @@ use std::alloc::AllocError;
 use std::marker::Model;
 
 /// A `String` that contracts see as the list of its bytes.
-#[derive(Debug, Drop)]
+#[derive(Drop)]
 pub struct Name {
     text: String,
 }

@@ -1,10 +1,11 @@
+//! A list that contracts see as its items.
 ghost use Rattle.std.specs.Prelude.{◌≡◌, [], ◌∷◌, ◌++◌, IfErr, is_ok, if◌then◌else◌};
 
 use std::alloc::AllocFailed;
 use std::marker::Model;
 
 /// A `Vec` that contracts see as the list of its items.
-#[derive(Debug, Drop)]
+#[derive(Drop)]
 pub struct Parts<T> {
     items: Vec<T>,
 }

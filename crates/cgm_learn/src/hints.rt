@@ -6,7 +6,7 @@ use cgm_atom::{Hint, OutOfMemory};
 use std::alloc::Global;
 
 /// Hints, the last one of the replay first, and the greatest ordinal that they carry.
-#[derive(Debug, Drop)]
+#[derive(Drop)]
 pub(crate) struct Used {
     pub(crate) hints: Vec<Hint>,
     pub(crate) bound: u64,

@@ -3,7 +3,7 @@
 use cgm_atom::{Clause, Hint, Seq};
 
 /// A lemma, and where it is unit.
-#[derive(Debug, Drop)]
+#[derive(Drop)]
 pub struct Learned {
     /// The clause. Its last atom is the one that is open after a cut to `level`.
     pub clause: Clause,

@@ -10,7 +10,7 @@ use cgm_trail::{Change, Reason, Trail};
 use std::alloc::Global;
 
 /// The first `at` changes of a trail, the level that they lead to, and the box after them.
-#[derive(Debug, Drop)]
+#[derive(Drop)]
 pub(crate) struct Place {
     pub(crate) at: u64,
     pub(crate) level: u64,

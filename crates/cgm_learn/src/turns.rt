@@ -17,7 +17,7 @@ use cgm_trail::{Reason, Trail};
 use std::alloc::Global;
 
 /// Where a walk turns: the atom from which the rest leads to conflict, and an earlier place in whose box the rest holds.
-#[derive(Debug, Drop)]
+#[derive(Drop)]
 pub(crate) struct Turn {
     pub(crate) atom: Atom,
     pub(crate) base: Place,

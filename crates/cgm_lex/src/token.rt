@@ -2,7 +2,7 @@ ghost use Rattle.std.specs.Prelude.{◌≡◌};
 ghost use Rattle.cgm_lex.specs.Lexemes.{fault_at, token_bytes};
 
 /// What a token is.
-#[derive(Clone, Copy, Debug, PartialEq, Eq)]
+#[derive(Clone, Copy, PartialEq, Eq)]
 pub enum Kind {
     /// `(`
     Open,
@@ -17,7 +17,7 @@ pub enum Kind {
 }
 
 /// A token of a text: its line, numbered from 1, and the bytes from place `from` to before place `to`.
-#[derive(Clone, Copy, Debug, PartialEq, Eq)]
+#[derive(Clone, Copy, PartialEq, Eq)]
 pub struct Token {
     pub line: u32,
     pub from: u32,
@@ -53,7 +53,7 @@ pub enum LexStop {
 }
 
 /// The tokens of the lines before the first faulty one, and its fault; all tokens, where no line is faulty.
-#[derive(Debug, Drop)]
+#[derive(Drop)]
 pub struct Lexed {
     pub tokens: Vec<Token>,
     pub fault: Option<LexFault>,

@@ -13,7 +13,7 @@ use cgm_step::{IndexedLog, is_less};
 use std::alloc::Global;
 
 /// What becomes of a candidate, and the entry that it is where it is kept.
-#[derive(Debug, Drop)]
+#[derive(Drop)]
 pub(crate) struct Judged {
     pub(crate) fate: Option<Fate>,
     pub(crate) kept: Vec<Entry>,

@@ -1,3 +1,4 @@
+//! The tests that a statement has to pass, in their order.
 ghost use Rattle.std.specs.Prelude.{◌≡◌, false, length, map, slice_get, slice_index_or, option_to_list, option_copied};
 ghost use Rattle.cgm_model.specs.declared.lists.Lists.{Lists};
 ghost use Rattle.std.specs.List.{list_all};

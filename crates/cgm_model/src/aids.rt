@@ -1,9 +1,10 @@
+//! What a builder keeps to find names, cycles and counts fast.
 use crate::graph::Graph;
 use crate::names::NameTable;
 use std::alloc::Global;
 
 /// What serves to find names, cycles, interest lines and counts fast.
-#[derive(Debug, Drop)]
+#[derive(Drop)]
 pub(crate) struct Aids {
     pub(crate) alloc: Global,
     pub(crate) names: NameTable,

@@ -1,3 +1,4 @@
+//! Whether an assignment fits a model.
 ghost use Rattle.std.specs.Prelude.{◌↔◌, ◌≡◌, ◌<◌, length, IsTrue};
 ghost use Rattle.cgm_model.specs.Assignment.{Fits, IsWithin};
 ghost use Rattle.cgm_model.specs.Model.{lists_of};

@@ -1,3 +1,4 @@
+//! A model that is made statement by statement.
 ghost use Rattle.std.specs.Prelude.{◌≡◌, ◌↔◌, ◌+◌, if◌then◌else◌, length, is_ok, IsTrue, OnOk, OnErr, IfErr};
 ghost use Rattle.cgm_model.specs.Graph.{IsAcyclic};
 ghost use Rattle.cgm_model.specs.declared.lists.Lists.{Lists};
@@ -20,7 +21,7 @@ use std::alloc::Global;
 use std::marker;
 
 /// A model that is being built, statement by statement; contracts see it as the lists so far.
-#[derive(Debug, Drop)]
+#[derive(Drop)]
 pub struct ModelBuilder {
     lists: Lists,
     aids: Aids,

@@ -1,3 +1,4 @@
+//! What stands in a formula.
 ghost use Rattle.std.specs.Prelude.{◌≡◌, ◌+◌, ◌<◌, nat_le, length, map, sum, unsigned_abs, IfSome, MatchOption};
 ghost use Rattle.std.specs.List.{list_all, list_any};
 ghost use Rattle.cgm_base.specs.declared.limit.Which.TheVariants as limits;
@@ -14,7 +15,7 @@ use indexmap::IndexSet;
 use std::alloc::Global;
 
 /// The variables and sums that were met.
-#[derive(Debug, Drop)]
+#[derive(Drop)]
 struct Met {
     vars: IndexSet<u32>,
     sums: IndexSet<u32>,

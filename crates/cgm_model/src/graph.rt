@@ -1,3 +1,4 @@
+//! Whether the graph of targets and sources has a cycle.
 ghost use Rattle.std.specs.Prelude.{◌≡◌, ◌+◌, ◌<◌, ◌≤◌, ◌++◌, ◌∷◌, [], ◌==◌, ◌↔◌, ℕ, false, List, IsTrue, All, length, slice_index_or, OnOk};
 ghost use Rattle.std.specs.List.{list_any};
 ghost use Rattle.cgm_model.specs.declared.lists.Refinement.{Refinement};
@@ -11,7 +12,7 @@ use sqlite_items::{Items, at};
 use std::alloc::Global;
 
 /// The graph from targets to sources, with room to search it for a cycle without taking memory.
-#[derive(Debug, Drop)]
+#[derive(Drop)]
 pub(crate) struct Graph {
     /// For each element the numbers of the refinements that have it as target, and maybe others.
     by_target: Vec<Items<u32>>,

@@ -1,7 +1,8 @@
+//! Statements, and the lists of a model.
 use cgm_formula::{Formula, Name, Parts, Truth};
 
 /// What an element is.
-#[derive(Clone, Copy, Debug, PartialEq, Eq)]
+#[derive(Clone, Copy, PartialEq, Eq)]
 pub enum ElementKind {
     Goal,
     Task,
@@ -10,7 +11,7 @@ pub enum ElementKind {
 }
 
 /// An element of the goal graph.
-#[derive(Debug, Drop)]
+#[derive(Drop)]
 pub struct Element {
     pub name: Name,
     pub kind: ElementKind,
@@ -19,7 +20,7 @@ pub struct Element {
 }
 
 /// A way to reach a target: all of its sources.
-#[derive(Debug, Drop)]
+#[derive(Drop)]
 pub struct Refinement {
     pub name: Name,
     /// The number of the element that is refined.
@@ -29,7 +30,7 @@ pub struct Refinement {
 }
 
 /// A whole number with its least and its greatest value.
-#[derive(Debug, Drop)]
+#[derive(Drop)]
 pub struct Variable {
     pub name: Name,
     pub lo: i64,
@@ -37,20 +38,20 @@ pub struct Variable {
 }
 
 /// A number that is added up from the value lines of what is true.
-#[derive(Debug, Drop)]
+#[derive(Drop)]
 pub struct Sum {
     pub name: Name,
 }
 
 /// Two elements, or two refinements, by number.
-#[derive(Clone, Copy, Debug)]
+#[derive(Clone, Copy)]
 pub struct Edge {
     pub from: u32,
     pub to: u32,
 }
 
 /// A user's word that an element is true, or that it is false.
-#[derive(Clone, Copy, Debug)]
+#[derive(Clone, Copy)]
 pub struct Assertion {
     /// The number of the element.
     pub element: u32,
@@ -58,7 +59,7 @@ pub struct Assertion {
 }
 
 /// What an element or refinement adds to a sum where it is true.
-#[derive(Clone, Copy, Debug)]
+#[derive(Clone, Copy)]
 pub struct SumValue {
     /// The number of the sum.
     pub sum: u32,
@@ -69,7 +70,7 @@ pub struct SumValue {
 }
 
 /// What an element takes off the weight, as a reward, or adds to it, as a penalty, where it is true.
-#[derive(Clone, Copy, Debug)]
+#[derive(Clone, Copy)]
 pub struct Weighing {
     /// The number of the element.
     pub element: u32,
@@ -78,14 +79,14 @@ pub struct Weighing {
 }
 
 /// A wish that the first is true or the second is false.
-#[derive(Clone, Copy, Debug)]
+#[derive(Clone, Copy)]
 pub struct Preference {
     pub better: Truth,
     pub worse: Truth,
 }
 
 /// What an objective makes least or greatest.
-#[derive(Clone, Copy, Debug, PartialEq, Eq)]
+#[derive(Clone, Copy, PartialEq, Eq)]
 pub enum Quantity {
     /// The variable with this number.
     Var(u32),
@@ -106,7 +107,7 @@ pub enum Quantity {
 }
 
 /// A quantity to make least or greatest.
-#[derive(Clone, Copy, Debug)]
+#[derive(Clone, Copy)]
 pub struct Objective {
     /// Whether it is made greatest.
     pub max: bool,
@@ -115,7 +116,7 @@ pub struct Objective {
 }
 
 /// A formula that holds in each realization, always or on a condition.
-#[derive(Debug, Drop)]
+#[derive(Drop)]
 pub enum Rule {
     /// Where the element or refinement is true.
     Positive(Truth, Formula),
@@ -125,7 +126,7 @@ pub enum Rule {
 }
 
 /// One statement of a model.
-#[derive(Debug, Drop)]
+#[derive(Drop)]
 pub enum Statement {
     Element(Element),
     Refine(Refinement),
@@ -149,7 +150,7 @@ pub enum Statement {
 }
 
 /// What a name stands for, by its number.
-#[derive(Clone, Copy, Debug, PartialEq, Eq)]
+#[derive(Clone, Copy, PartialEq, Eq)]
 pub enum Thing {
     Element(u32),
     Refinement(u32),
@@ -158,7 +159,7 @@ pub enum Thing {
 }
 
 /// Statements by group, each group in order.
-#[derive(Debug, Drop)]
+#[derive(Drop)]
 pub struct Lists {
     pub elements: Parts<Element>,
     pub refinements: Parts<Refinement>,

@@ -1,3 +1,4 @@
+//! A well-formed model.
 ghost use Rattle.cgm_model.specs.Lists.{lists};
 ghost use Rattle.cgm_model.specs.WellFormed.{IsWellFormed};
 
@@ -8,7 +9,7 @@ use crate::lists::{
 use cgm_formula::Parts;
 
 /// A well-formed model: its statements by group, each group in order.
-#[derive(Debug, Drop)]
+#[derive(Drop)]
 pub struct Model {
     pub elements: Parts<Element>,
     pub refinements: Parts<Refinement>,

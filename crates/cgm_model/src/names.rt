@@ -1,3 +1,4 @@
+//! Names, found by their bytes.
 ghost use Rattle.std.specs.Prelude.{◌≡◌, ◌↔◌, List, ℕ, IsTrue, IfErr, OnOk, OnErr, if◌then◌else◌};
 ghost use Rattle.std.specs.Str.{bytes_eq};
 ghost use Rattle.cgm_model.specs.Keeping.{AreFor};
@@ -15,7 +16,7 @@ use sqlite_items::at;
 use std::alloc::Global;
 
 /// What each name stands for. An entry may be left over from a statement that wasn't added.
-#[derive(Debug, Drop)]
+#[derive(Drop)]
 pub(crate) struct NameTable {
     entries: IndexMap<Vec<u8>, Thing>,
 }

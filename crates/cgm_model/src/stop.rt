@@ -1,3 +1,4 @@
+//! Why a statement isn't added.
 use cgm_base::Which;
 
 /// Why a statement doesn't fit those before it.

@@ -1,3 +1,4 @@
+//! The values of sums.
 ghost use Rattle.std.specs.Prelude.{◌≡◌, ℕ, pos, ◌+ℤ◌, ◌+◌, ◌^◌, ◌<◌, ◌≤◌, length, unsigned_abs, slice_index_or, All, IfOk};
 ghost use Rattle.cgm_base.specs.declared.limit.Which.TheVariants as limits;
 ghost use Rattle.cgm_base.specs.Words.{limit_number};

@@ -1,3 +1,4 @@
+//! Counts of preferences, requirements and tasks.
 ghost use Rattle.std.specs.Prelude.{◌≡◌, ◌&&◌, ℕ, IfOk, ◌≤◌, not, false, pos, count_by, length, slice_get, slice_index_or};
 ghost use Rattle.cgm_base.specs.declared.limit.Which.TheVariants as limits;
 ghost use Rattle.cgm_base.specs.Words.{limit_number};

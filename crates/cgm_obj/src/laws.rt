@@ -1,3 +1,4 @@
+//! Laws of vectors.
 ghost use Rattle.std.specs.Prelude.{◌≡◌, ◌≤◌, All, List, length, unsigned_abs};
 ghost use Rattle.cgm_formula.specs.declared.assignment.Assignment.{Assignment};
 ghost use Rattle.cgm_model.specs.declared.lists.Lists.{Lists};

@@ -1,3 +1,4 @@
+//! The lexicographic order of vectors.
 ghost use Rattle.std.specs.Prelude.{◌≡◌, ◌↔◌, IsTrue, length};
 ghost use Rattle.cgm_obj.specs.Order.{IsLess};
 

@@ -1,3 +1,4 @@
+//! The value of a quantity.
 ghost use Rattle.std.specs.Prelude.{◌≡◌, pos, IfOk, slice_index_or};
 ghost use Rattle.cgm_model.specs.Assignment.{Fits};
 ghost use Rattle.cgm_model.specs.Model.{lists_of};

@@ -1,3 +1,4 @@
+//! Which elements are sources.
 ghost use Rattle.std.specs.Prelude.{◌≡◌, ◌==◌, ◌||◌, ◌<◌, ℕ, false, true, All, IfOk, length, slice_index_or};
 ghost use Rattle.std.specs.List.{list_any};
 ghost use Rattle.cgm_model.specs.Model.{lists_of};

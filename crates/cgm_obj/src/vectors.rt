@@ -1,3 +1,4 @@
+//! The vector of an assignment.
 ghost use Rattle.std.specs.Prelude.{◌≡◌, ◌≤◌, unsigned_abs, neg_ℤ, IfOk};
 ghost use Rattle.cgm_model.specs.Assignment.{Fits};
 ghost use Rattle.cgm_model.specs.Model.{lists_of};

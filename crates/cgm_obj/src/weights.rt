@@ -1,3 +1,4 @@
+//! Penalties minus rewards.
 ghost use Rattle.std.specs.Prelude.{◌≡◌, ◌+◌, ◌*◌, ◌^◌, ◌<◌, ◌≤◌, ◌+ℤ◌, ◌-ℤ◌, All, length, unsigned_abs};
 ghost use Rattle.cgm_base.specs.declared.limit.Which.TheVariants as limits;
 ghost use Rattle.cgm_base.specs.Words.{limit_number};

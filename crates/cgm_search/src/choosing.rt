@@ -12,7 +12,7 @@ use cgm_trail::{Change, Reason, Trail};
 use std::alloc::Global;
 
 /// The order of decisions before the first restart, and the one after it.
-#[derive(Debug, Drop)]
+#[derive(Drop)]
 pub(crate) struct Choice {
     pub(crate) order: Order,
     pub(crate) activity: Activity,

@@ -19,7 +19,7 @@ const SHORT_LENGTH: usize = 8;
 const KEPT_ENTRIES: usize = 1_000;
 
 /// A copy of the problem, the entries of the log that were seen, and the store of clauses.
-#[derive(Debug, Drop)]
+#[derive(Drop)]
 pub(crate) struct Known {
     pub(crate) problem: Problem,
     pub(crate) entries: Vec<Entry>,

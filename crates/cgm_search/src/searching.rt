@@ -16,7 +16,7 @@ use std::alloc::Global;
 const FIRST_RESTART: u64 = 100;
 
 /// A search: what it knows, its trail, and how it goes on.
-#[derive(Debug, Drop)]
+#[derive(Drop)]
 pub(crate) struct Search {
     pub(crate) alloc: Global,
     pub(crate) by: u32,

@@ -16,7 +16,7 @@ use cgm_model::Model;
 use std::alloc::Global;
 
 /// What entries show of a model.
-#[derive(Debug, Drop)]
+#[derive(Drop)]
 pub enum Verified {
     /// All entries are accepted, and this is what they show: `Realized`, `Unrealizable` or `Open`.
     Shown(Answer),

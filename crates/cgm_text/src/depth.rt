@@ -1,3 +1,4 @@
+//! How many brackets are open at once.
 ghost use Rattle.std.specs.Prelude.{◌≡◌, ℕ, ◌<◌, List};
 ghost use Rattle.cgm_text.specs.Trees.{count_after, is_deeper, seen_all};
 ghost use Rattle.cgm_lex.specs.Lexemes.{lexeme_with};

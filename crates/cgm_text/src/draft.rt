@@ -1,3 +1,4 @@
+//! The model of the lines that were read so far.
 ghost use Rattle.std.specs.Prelude.{◌≡◌, ◌↔◌, ◌≤◌, ℕ, List, [], ◌∷◌, true, false, if◌then◌else◌, length, All, Option, None, Some, IsTrue, IfOk, IfErr, OnOk};
 ghost use Rattle.cgm_lex.specs.Lexemes.{IsLineStop};
 ghost use Rattle.cgm_lex.specs.Spelling.{IsPlain};

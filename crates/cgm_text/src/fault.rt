@@ -1,3 +1,4 @@
+//! Why a line of a model text isn't taken.
 ghost use Rattle.std.specs.Prelude.{◌≡◌};
 ghost use Rattle.cgm_text.specs.Line.{refusal_kind};
 
@@ -5,7 +6,7 @@ use cgm_base::{BadKind, Which};
 use cgm_model::Fault;
 
 /// What is wrong with a line.
-#[derive(Clone, Copy, Debug, PartialEq, Eq)]
+#[derive(Clone, Copy, PartialEq, Eq)]
 pub enum LineFault {
     Bad(BadKind),
     /// A quantity that passes its limit.
@@ -13,7 +14,7 @@ pub enum LineFault {
 }
 
 /// Why a line isn't added to those before it.
-#[derive(Clone, Copy, Debug)]
+#[derive(Clone, Copy)]
 pub(crate) enum LineStop {
     Faulty(LineFault),
     /// There is no memory for it.

@@ -1,3 +1,4 @@
+//! The form of each statement after its word.
 ghost use Rattle.std.specs.Prelude.{◌≡◌, ◌≢◌, [], IfOk, IfErr};
 ghost use Rattle.cgm_text.specs.Statements.{IsBody, IsNoBody};
 ghost use Rattle.cgm_text.specs.Trees.{IsFor, formula_in, seen_all};

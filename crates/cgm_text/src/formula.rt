@@ -1,3 +1,4 @@
+//! The form of a formula.
 ghost use Rattle.std.specs.Prelude.{◌≡◌, ◌≢◌, ◌<◌, ℕ, List, [], ◌∷◌, ◌++◌, codes, length, map, IfSome, IfNone, IfOk, IfErr, OnOk};
 ghost use Rattle.cgm_lex.specs.Lexemes.{Lexeme, opening, word};
 ghost use Rattle.cgm_text.specs.declared.written.Connective.{Connective};

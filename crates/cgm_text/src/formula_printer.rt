@@ -1,3 +1,4 @@
+//! Formulas as they are printed.
 ghost use Rattle.std.specs.Prelude.{◌≡◌, map, OnOk};
 ghost use Rattle.cgm_model.specs.Model.{lists_of};
 ghost use Rattle.cgm_text.specs.Canonical.{element_name as name_of_element, joined_with, number_name as name_of_number, refinement_name as name_of_refinement, sum_name as name_of_sum, truth_name as name_of_truth, variable_name as name_of_variable, written_formula, written_linear, written_term};

@@ -1,3 +1,4 @@
+//! The statement that the tokens of a line make.
 ghost use Rattle.std.specs.Prelude.{◌≡◌, ◌∷◌, All, IfOk, IfErr};
 ghost use Rattle.cgm_lex.specs.Lexemes.{word};
 ghost use Rattle.cgm_lex.specs.Spelling.{IsPlain};

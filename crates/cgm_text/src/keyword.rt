@@ -1,3 +1,4 @@
+//! The words of statements, connectives and quantities.
 ghost use Rattle.std.specs.Prelude.{◌≡◌, ◌≢◌, Bool, IfSome, IfNone};
 ghost use Rattle.std.specs.Str.{bytes_eq};
 ghost use Rattle.cgm_text.specs.declared.written.ConditionWord.{ConditionWord};

@@ -1,3 +1,4 @@
+//! Laws of the text form.
 ghost use Rattle.std.specs.Prelude.{◌≡◌, ℕ, List};
 ghost use Rattle.cgm_model.specs.declared.lists.Lists.{Lists};
 ghost use Rattle.cgm_text.specs.declared.fault.LineFault.{LineFault};

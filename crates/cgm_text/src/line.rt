@@ -1,3 +1,4 @@
+//! The first line of a text.
 ghost use Rattle.std.specs.Prelude.{◌≡◌, ◌==◌, ◌+◌, ◌<◌, [], ◌∷◌, length, position, MatchOption};
 ghost use Rattle.cgm_lex.specs.Lines.{lines};
 

@@ -1,3 +1,4 @@
+//! The form of a linear expression.
 ghost use Rattle.std.specs.Prelude.{◌≡◌, ◌≢◌, ◌<◌, List, ◌∷◌, codes, length, IfSome, IfNone, IfOk, IfErr, OnOk, [], ◌++◌};
 ghost use Rattle.cgm_lex.specs.Lexemes.{Lexeme, opening, word};
 ghost use Rattle.cgm_text.specs.Trees.{IsFor, linear_in, seen_all, term_in};

@@ -1,3 +1,4 @@
+//! What a written statement says after those before it.
 ghost use Rattle.std.specs.Prelude.{◌≡◌, ◌∷◌, map, All, IfOk};
 ghost use Rattle.std.specs.Str.{IsUtf8};
 ghost use Rattle.cgm_text.specs.Meaning.{compared_as, condition_of, declared_words, each_formula_of, element_named, formula_of, is_max, joined_as, linear_of, named_of, number_named, pair_of, paired_as, quantity_of, refinement_named, statement_of, sum_named, term_of, truth_named, weight_of};

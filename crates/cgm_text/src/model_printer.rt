@@ -1,3 +1,4 @@
+//! The canonical text of a model, group by group.
 ghost use Rattle.std.specs.Prelude.{◌≡◌, ◌++◌, map, IfOk, OnOk};
 ghost use Rattle.cgm_model.specs.Model.{lists_of};
 ghost use Rattle.cgm_model.specs.declared.lists.Statement.TheVariants as Statement;

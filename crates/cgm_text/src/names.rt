@@ -1,3 +1,4 @@
+//! What is wrong with the first name that a statement may not use.
 ghost use Rattle.std.specs.Prelude.{◌≡◌, List, [], ◌∷◌, map};
 ghost use Rattle.std.specs.Option.{option_or};
 ghost use Rattle.cgm_model.specs.Named.{thing_named};
@@ -13,7 +14,7 @@ use cgm_base::BadKind;
 use cgm_model::{ModelBuilder, Thing};
 
 /// What the place of a name wants.
-#[derive(Clone, Copy, Debug)]
+#[derive(Clone, Copy)]
 pub(crate) enum Wanted {
     Element,
     Refinement,

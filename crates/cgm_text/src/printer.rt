@@ -1,3 +1,4 @@
+//! A text that is written token by token.
 ghost use Rattle.std.specs.Prelude.{◌≡◌, ◌∷◌, [], ◌++◌, if◌then◌else◌, codes, List, OnOk};
 ghost use Rattle.cgm_lex.specs.Lexemes.{Lexeme, opening, closing, colon, number, word};
 ghost use Rattle.cgm_lex.specs.Spelling.{spelled_line};
@@ -7,7 +8,7 @@ use itoa::Buffer;
 use std::alloc::{AllocError as OutOfMemory, Global};
 
 /// A text that is being written, token by token.
-#[derive(Debug, Drop)]
+#[derive(Drop)]
 pub(crate) struct Printer {
     pub(crate) text: Vec<u8>,
     /// Whether a space comes before the next token, if that one doesn't close.

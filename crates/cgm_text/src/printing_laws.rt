@@ -1,3 +1,4 @@
+//! Laws of printing: what is printed is read back.
 ghost use Rattle.cgm_formula.specs.declared.formula.Formula.{Formula};
 ghost use Rattle.cgm_model.specs.declared.lists.Lists.{Lists};
 ghost use Rattle.cgm_model.specs.declared.lists.Statement.{Statement};

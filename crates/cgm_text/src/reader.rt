@@ -1,3 +1,4 @@
+//! The reader of a model text.
 ghost use Rattle.std.specs.Prelude.{◌≡◌, ◌≤◌, length, None, IfOk, IfErr, OnOk};
 ghost use Rattle.cgm_model.specs.Model.{lists_of};
 ghost use Rattle.cgm_text.specs.Progress.{IsDraft, IsReadWhole, stop_at};
@@ -11,7 +12,7 @@ use cgm_model::Model;
 use std::alloc::Global;
 
 /// A model that was read from a text.
-#[derive(Debug, Drop)]
+#[derive(Drop)]
 pub struct Reading {
     pub model: Model,
     /// The line of each rule, numbered from 1, in the order of the rules.

@@ -1,3 +1,4 @@
+//! Lines of a word or two and a number.
 ghost use Rattle.std.specs.Prelude.{◌≡◌, ◌≢◌, ◌↔◌, ℕ, ℤ, Bool, List, [], ◌∷◌, ◌++◌, map, IsTrue, IfSome, IfNone, IfOk, IfErr, OnOk};
 ghost use Rattle.cgm_lex.specs.Lexemes.{number, word};
 ghost use Rattle.cgm_text.specs.declared.written.Direction.{Direction};

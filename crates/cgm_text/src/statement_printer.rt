@@ -1,3 +1,4 @@
+//! The line of each statement.
 ghost use Rattle.std.specs.Prelude.{◌≡◌, ◌∷◌, [], codes, map, OnOk};
 ghost use Rattle.cgm_lex.specs.Lexemes.{number, word};
 ghost use Rattle.cgm_model.specs.Model.{lists_of};

@@ -1,3 +1,4 @@
+//! Taking the first token off.
 ghost use Rattle.std.specs.Prelude.{◌≡◌, ◌≢◌, ℕ, ℤ, ◌<◌, List, ◌∷◌, length, IfSome, IfNone};
 ghost use Rattle.cgm_lex.specs.Lexemes.{Lexeme, opening, closing, colon, number, word};
 ghost use Rattle.cgm_text.specs.Trees.{seen_all, word_in};

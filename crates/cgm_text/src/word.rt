@@ -1,3 +1,4 @@
+//! A word of a line as a name.
 ghost use Rattle.std.specs.Prelude.{◌≡◌, ◌↔◌, IsTrue, IfOk};
 ghost use Rattle.std.specs.Str.{IsUtf8};
 

@@ -1,7 +1,8 @@
+//! Statements as they are written, with names as words.
 use sqlite_items::{Boxed, Items};
 
 /// Why tokens make no part of a statement.
-#[derive(Clone, Copy, Debug)]
+#[derive(Clone, Copy)]
 pub(crate) enum FormStop {
     /// They don't have the form.
     Form,
@@ -10,28 +11,28 @@ pub(crate) enum FormStop {
 }
 
 /// The places of a word in its line.
-#[derive(Clone, Copy, Debug)]
+#[derive(Clone, Copy)]
 pub(crate) struct Word {
     pub(crate) from: u32,
     pub(crate) to: u32,
 }
 
 /// A word that takes one or more formulas.
-#[derive(Clone, Copy, Debug)]
+#[derive(Clone, Copy)]
 pub(crate) enum Joint {
     And,
     Or,
 }
 
 /// A word that takes two formulas.
-#[derive(Clone, Copy, Debug)]
+#[derive(Clone, Copy)]
 pub(crate) enum Pairing {
     Implies,
     Iff,
 }
 
 /// A word that takes a linear expression and a number.
-#[derive(Clone, Copy, Debug)]
+#[derive(Clone, Copy)]
 pub(crate) enum Comparison {
     AtMost,
     AtLeast,
@@ -39,7 +40,7 @@ pub(crate) enum Comparison {
 }
 
 /// The first word in the brackets of a formula.
-#[derive(Clone, Copy, Debug)]
+#[derive(Clone, Copy)]
 pub(crate) enum Connective {
     Not,
     Join(Joint),
@@ -48,7 +49,7 @@ pub(crate) enum Connective {
 }
 
 /// A term of a linear expression.
-#[derive(Clone, Copy, Debug)]
+#[derive(Clone, Copy)]
 pub(crate) enum Term {
     /// A name alone.
     Plain(Word),
@@ -57,7 +58,7 @@ pub(crate) enum Term {
 }
 
 /// A linear expression.
-#[derive(Debug, Drop)]
+#[derive(Drop)]
 pub(crate) enum Linear {
     /// A term alone.
     Single(Term),
@@ -66,7 +67,7 @@ pub(crate) enum Linear {
 }
 
 /// A formula.
-#[derive(Debug, Drop)]
+#[derive(Drop)]
 pub(crate) enum Tree {
     Name(Word),
     Not(Boxed<Tree>),
@@ -76,7 +77,7 @@ pub(crate) enum Tree {
 }
 
 /// A statement word that takes one name and nothing else.
-#[derive(Clone, Copy, Debug)]
+#[derive(Clone, Copy)]
 pub(crate) enum NameWord {
     Task,
     Assume,
@@ -85,7 +86,7 @@ pub(crate) enum NameWord {
 }
 
 /// A statement word that takes two names.
-#[derive(Clone, Copy, Debug)]
+#[derive(Clone, Copy)]
 pub(crate) enum PairWord {
     Contrib,
     Conflict,
@@ -94,21 +95,21 @@ pub(crate) enum PairWord {
 }
 
 /// A statement word that takes a name and a number.
-#[derive(Clone, Copy, Debug)]
+#[derive(Clone, Copy)]
 pub(crate) enum WeightWord {
     Reward,
     Penalty,
 }
 
 /// A statement word that takes a name and a formula.
-#[derive(Clone, Copy, Debug)]
+#[derive(Clone, Copy)]
 pub(crate) enum ConditionWord {
     Positive,
     Negative,
 }
 
 /// A statement word.
-#[derive(Clone, Copy, Debug)]
+#[derive(Clone, Copy)]
 pub(crate) enum Sort {
     Goal,
     Name(NameWord),
@@ -124,14 +125,14 @@ pub(crate) enum Sort {
 }
 
 /// Which vectors an objective prefers.
-#[derive(Clone, Copy, Debug)]
+#[derive(Clone, Copy)]
 pub(crate) enum Direction {
     Min,
     Max,
 }
 
 /// A statement as it is written.
-#[derive(Debug, Drop)]
+#[derive(Drop)]
 pub(crate) enum Written {
     Goal {
         name: Word,

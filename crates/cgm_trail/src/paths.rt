@@ -11,7 +11,7 @@ use cgm_atom::{Atom, BoxState, Hint, OutOfMemory, Problem};
 use std::alloc::Global;
 use std::marker::Model;
 
-#[derive(Debug, Drop)]
+#[derive(Drop)]
 pub(crate) struct Path {
     problem: Problem,
     state: BoxState,

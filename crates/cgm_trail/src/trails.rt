@@ -12,7 +12,7 @@ use std::marker::Model;
 
 /// The changes of a search over a problem, level by level, and the box that they lead to.
 /// A trail keeps a copy of its problem, begins with that problem's bounds, and counts its moves.
-#[derive(Debug, Drop)]
+#[derive(Drop)]
 pub struct Trail {
     path: Path,
     moves: u64,

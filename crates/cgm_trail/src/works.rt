@@ -7,7 +7,7 @@ use std::alloc::Global;
 use std::marker::Model;
 
 /// A list of trails, which shows how many moves were made.
-#[derive(Debug, Drop)]
+#[derive(Drop)]
 pub struct Work {
     trails: Vec<Trail>,
 }

@@ -1,3 +1,5 @@
+//! Why a certificate isn't read.
+
 /// What is wrong with a line of a certificate.
 #[derive(Clone, Copy, Debug, PartialEq, Eq)]
 pub enum CertKind {

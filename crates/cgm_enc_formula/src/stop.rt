@@ -1,3 +1,5 @@
+//! Why rules aren't encoded.
+
 /// Why rules aren't encoded.
 #[derive(Clone, Copy, Debug, PartialEq, Eq)]
 pub enum EncodeStop {

@@ -1,3 +1,5 @@
+//! The limits of a model as sizes.
+
 /// Bytes of a name.
 pub(crate) const NAME_BYTES: usize = 64;
 /// Statements after the header.

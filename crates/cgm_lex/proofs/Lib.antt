@@ -6,4 +6,5 @@ pub mod Passing
 pub mod Places
 pub mod Plain
 pub mod Printing
+pub mod Spanning
 pub mod Splits

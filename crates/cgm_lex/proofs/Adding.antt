@@ -106,7 +106,7 @@ going_none text words line start old =
     let e : start + 0 ≡ start = omega arith in
     record {
       have = [];
-      added = record { same = sym (append-nil (map (placed text) old)); within = λ known. known; };
+      added = record { same = sym (append-nil (map (placed text) old)); within = λ known. known };
       front = take_all (length old) old (omega arith);
       count = omega arith;
       rest = onto_none (all_lexemes (pieces words));
@@ -114,7 +114,3 @@ going_none text words line start old =
       order = λ before. rw e before;
       spans = ap (λ at. map span_of old ++ spans_at at words) e;
     }
-
--- where the loop is past the last piece, all spans of the line are there
-pub spans_end : (text words : List ℕ) (line start at : ℕ) (old new : List Token) → Going text words line start at old new → spans_after start at words ≡ [] → map span_of new ≡ map span_of old ++ spans_at start words
-spans_end text words line start at old new g none = sym (append-nil (map span_of new)) ∙ ap (λ back. map span_of new ++ back) (sym none) ∙ g.spans

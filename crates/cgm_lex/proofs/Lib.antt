@@ -2,6 +2,7 @@ pub mod Adding
 pub mod Contents
 pub mod Cutting
 pub mod Numbering
+pub mod Parts
 pub mod Passing
 pub mod Places
 pub mod Plain

@@ -1,5 +1,6 @@
 -- Where each piece of a line stands: its longest runs, and each other byte that is no blank by itself.
 use Rattle.std.specs.Prelude.{ℕ, ◌+◌, nat_lt, List, [], ◌∷◌, ◌++◌, Result, Ok, Err, length, drop, if◌then◌else◌}
+use Rattle.std.specs.List.{slice_range}
 use Rattle.cgm_lex.specs.declared.token.Flaw.{Flaw}
 use Rattle.cgm_lex.specs.declared.token.Token.{Token}
 use Rattle.cgm_lex.specs.Lexemes.{Lexeme, line_lexemes}
@@ -13,6 +14,10 @@ pub record Span : Type 0 where
 
 abbrev pub span_from : ℕ → ℕ → Span
 span_from from to = record { from = from; to = to }
+
+-- the bytes of a span
+abbrev pub part_of : List ℕ → Span → List ℕ
+part_of bytes span = slice_range bytes span.from span.to
 
 -- the span of a token
 abbrev pub span_of : Token → Span

@@ -1,7 +1,7 @@
 use Rattle.std.proofs.Common.{◌+◌, ◌≤◌, ◌-◌, ◌≡◌, length, slice_range, subst, sym, arith}
 use Rattle.std.proofs.lemmas.List.Edits.{length-between}
 use Rattle.cgm_lex.specs.Lexemes.{StandInOrder}
-use Rattle.cgm_lex.proofs.Adding.{going_none, going_on, order_wider, spans_end}
+use Rattle.cgm_lex.proofs.Adding.{going_none, going_on, order_wider}
 use Rattle.cgm_lex.proofs.lexer.add_tokens.Goals as goal
 
 pub loop-piece-init : goal.loop-piece-init

@@ -31,9 +31,9 @@ HasKnownNumbers m f = All (λ c. All (λ t. IsKnownNumber m t.1) c.0.terms) (com
 abbrev pub IsWithinMeasure : Lists → Bounds → ℕ → Rule → Type 0
 IsWithinMeasure m b place r = has_small_measures m b (formula_of r) ≡ true
 
--- the part of the rules is added; or this is the first rule with a measure past the limit, by its number
+-- the part of the rules is added; or this is the first rule with a measure past the limit, by its number, and nothing is added
 abbrev pub IsRulesAnswer : Lists → Instance → Instance → Result (Unit {0}) EncodeStop → Type 0
 IsRulesAnswer m old new (Ok _) =
     Each (IsWithinMeasure m old.bounds) m.rules × (new ≡ with_part old (rules_part m (var_count old) m.rules))
-IsRulesAnswer m old new (Err (stops.Row rule)) = FirstFails (IsWithinMeasure m old.bounds) m.rules rule
+IsRulesAnswer m old new (Err (stops.Row rule)) = FirstFails (IsWithinMeasure m old.bounds) m.rules rule × (new ≡ old)
 IsRulesAnswer m old new (Err stops.Memory) = Each (IsWithinMeasure m old.bounds) m.rules

@@ -31,7 +31,8 @@ use std::alloc::Global;
 /// Terms stand by ascending variable, those with the coefficient 0 are dropped. A later equal atom of
 /// a clause is dropped. `Row` is the first rule with a comparison whose measure passes 4·10^18: the
 /// size of its number and, over its terms, coefficient size times the greatest size of the bounds
-/// that the builder has for the variable or sum. After want of memory the builder is given up.
+/// that the builder has for the variable or sum. After it the builder is as it was. After want of
+/// memory the builder is given up.
 ///
 /// Condition: the builder has the variables of elements, refinements, variables and sums, in this
 /// order, and not more than 2^31 variables, clauses and rows so far. The rules add less than 2^20 of

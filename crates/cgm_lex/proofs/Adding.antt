@@ -1,5 +1,5 @@
 -- One more token of a line.
-use Rattle.std.proofs.Common.{◌≡◌, ℕ, ◌+◌, ◌<◌, ◌≤◌, List, [], ◌∷◌, ◌++◌, length, map, take, drop, slice_range, Result, Ok, Err, refl, ap, ◌∙◌, sym, arith, append_assoc}
+use Rattle.std.proofs.Common.{◌≡◌, ℕ, ◌+◌, ◌<◌, ◌≤◌, List, [], ◌∷◌, ◌++◌, length, map, take, take_all, drop, slice_range, Result, Ok, Err, refl, ap, ◌∙◌, sym, arith, append_assoc, append-nil}
 use Rattle.std.proofs.lemmas.List.{map-append, take-append-le, length-append}
 use Rattle.std.proofs.lemmas.List.Elements.{All-push}
 use Rattle.cgm_lex.specs.declared.token.Flaw.{Flaw}
@@ -8,6 +8,7 @@ use Rattle.cgm_lex.specs.declared.token.Token.{Token}
 use Rattle.cgm_lex.specs.Lexemes.{Lexeme, IsAdded, IsWithin, StandInOrder, all_lexemes, joined, lexeme_of, lexeme_with, placed, placed_at, seen, token_bytes}
 use Rattle.cgm_lex.specs.Lines.{content}
 use Rattle.cgm_lex.specs.Pieces.{pieces}
+use Rattle.cgm_lex.specs.Spans.{span_from, span_of, spans_after, spans_at}
 use Rattle.cgm_lex.proofs.Places.{part_is}
 
 -- these before the others
@@ -32,6 +33,7 @@ pub record Going (text words : List ℕ) (line start at : ℕ) (old new : List T
   pub rest : all_lexemes (pieces words) ≡ onto have (all_lexemes (pieces (drop at words)))
   pub inside : at ≤ length words
   pub order : StandInOrder text 0 start old → StandInOrder text 0 (start + at) new
+  pub spans : map span_of new ++ spans_after start at words ≡ map span_of old ++ spans_at start words
 
 -- a token of a piece of the line that begins at `start`
 pub record IsTokenOf (line start from to : ℕ) (kind : Kind) (token : Token) : Type 0 where
@@ -73,8 +75,17 @@ rest_more words at from to kind have piece says =
     ap (λ ps. onto have (all_lexemes ps)) piece ∙ ap (λ r. onto have (joined r (all_lexemes (pieces (drop to words))))) says
     ∙ onto_more have (lexeme_with (slice_range words from to) kind) (all_lexemes (pieces (drop to words)))
 
-pub going_on : (text words : List ℕ) (line start end at from to : ℕ) (kind : Kind) (old new : List Token) (token : Token) → Going text words line start at old new → IsTokenOf line start from to kind token → words ≡ content (slice_range text start end) → start ≤ end → end ≤ length text → length words ≤ length (slice_range text start end) → start + length words ≤ length text → at ≤ from → from < to → to ≤ length words → pieces (drop at words) ≡ slice_range words from to ∷ pieces (drop to words) → lexeme_of (slice_range words from to) ≡ Ok (lexeme_with (slice_range words from to) kind) → Going text words line start to old (new ++ token ∷ [])
-going_on text words line start end at from to kind old new token g is e order inside short fits after order' h piece says =
+spans_more : (words : List ℕ) (start at from to : ℕ) (old new : List Token) (token : Token) → map span_of new ++ spans_after start at words ≡ map span_of old ++ spans_at start words → span_of token ≡ span_from (start + from) (start + to) → spans_after start at words ≡ span_from (start + from) (start + to) ∷ spans_after start to words → map span_of (new ++ token ∷ []) ++ spans_after start to words ≡ map span_of old ++ spans_at start words
+spans_more words start at from to old new token so_far here next =
+    let rest = spans_after start to words in
+    ap (λ front. front ++ rest) (map-append span_of new (token ∷ [])) ∙ append_assoc (map span_of new) (span_of token ∷ []) rest
+    ∙ ap (λ one. map span_of new ++ one ∷ rest) here ∙ ap (λ back. map span_of new ++ back) (sym next) ∙ so_far
+
+token_span : (start from to line : ℕ) (kind : Kind) (token : Token) → IsTokenOf line start from to kind token → span_of token ≡ span_from (start + from) (start + to)
+token_span start from to line kind token is = rw is.from_is (rw is.to_is refl)
+
+pub going_on : (text words : List ℕ) (line start end at from to : ℕ) (kind : Kind) (old new : List Token) (token : Token) → Going text words line start at old new → IsTokenOf line start from to kind token → words ≡ content (slice_range text start end) → start ≤ end → end ≤ length text → length words ≤ length (slice_range text start end) → start + length words ≤ length text → at ≤ from → from < to → to ≤ length words → pieces (drop at words) ≡ slice_range words from to ∷ pieces (drop to words) → lexeme_of (slice_range words from to) ≡ Ok (lexeme_with (slice_range words from to) kind) → spans_after start at words ≡ span_from (start + from) (start + to) ∷ spans_after start to words → Going text words line start to old (new ++ token ∷ [])
+going_on text words line start end at from to kind old new token g is e order inside short fits after order' h piece says next =
     let one = lexeme_with (slice_range words from to) kind in
     let from_is = is.from_is in
     let to_is = is.to_is in
@@ -86,4 +97,20 @@ going_on text words line start end at from to kind old new token g is e order in
       rest = g.rest ∙ rest_more words at from to kind g.have piece says;
       inside = h;
       order = λ before. order_more text 0 (start + at) (start + to) new token (g.order before) (omega arith) (spelled_is text words line start end from to kind token is e order inside order' h says) (omega arith);
+      spans = spans_more words start at from to old new token g.spans (token_span start from to line kind token is) next;
+    }
+
+-- the loop begins before the first piece
+pub going_none : (text words : List ℕ) (line start : ℕ) (old : List Token) → Going text words line start 0 old old
+going_none text words line start old =
+    let e : start + 0 ≡ start = omega arith in
+    record {
+      have = [];
+      added = record { same = sym (append-nil (map (placed text) old)); within = λ known. known };
+      front = take_all (length old) old (omega arith);
+      count = omega arith;
+      rest = onto_none (all_lexemes (pieces words));
+      inside = omega arith;
+      order = λ before. rw e before;
+      spans = ap (λ at. map span_of old ++ spans_at at words) e;
     }

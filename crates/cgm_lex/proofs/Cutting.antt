@@ -31,10 +31,10 @@ pub run_piece : (bs : List ℕ) (from to : ℕ) (others : List (List ℕ)) → f
 run_piece bs from to others order h =
     closed_is (slice_range bs from to) others (omega (arith, length-between bs from to h))
 
-no_bytes : (bs : List ℕ) (from : ℕ) → slice_range bs from from ≡ []
+pub no_bytes : (bs : List ℕ) (from : ℕ) → slice_range bs from from ≡ []
 no_bytes bs from = let e : from - from ≡ 0 = omega arith in rw e refl
 
-single_byte : (bs : List ℕ) (from : ℕ) → from < length bs → slice_range bs from (from + 1) ≡ get_or bs from 0 ∷ []
+pub single_byte : (bs : List ℕ) (from : ℕ) → from < length bs → slice_range bs from (from + 1) ≡ get_or bs from 0 ∷ []
 single_byte bs from h =
     between_more bs from from 0 (omega arith) h ∙ ap (λ front. front ++ get_or bs from 0 ∷ []) (no_bytes bs from)
 

@@ -2,8 +2,10 @@ pub mod Adding
 pub mod Contents
 pub mod Cutting
 pub mod Numbering
+pub mod Parts
 pub mod Passing
 pub mod Places
 pub mod Plain
 pub mod Printing
+pub mod Spanning
 pub mod Splits

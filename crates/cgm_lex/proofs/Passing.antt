@@ -2,16 +2,20 @@
 use Rattle.std.proofs.Common.{◌≡◌, ℕ, zero, suc, ◌+◌, ◌<◌, ◌≤◌, min, List, [], ◌∷◌, ◌++◌, length, map, drop, All, slice_range, None, Some, Ok, refl, ap, ◌∙◌, sym, arith, inl, inr, append_assoc, append-nil, drop_of_length-le}
 use Rattle.std.proofs.lemmas.Bool.{cases_lt}
 use Rattle.std.proofs.lemmas.List.{take_rest}
+use Rattle.std.proofs.lemmas.List.Edits.{length-between}
 use Rattle.cgm_lex.specs.declared.token.LexFault.{LexFault}
 use Rattle.cgm_lex.specs.declared.token.Token.{Token}
 use Rattle.cgm_lex.specs.Lexemes.{Lexeme, IsAdded, IsFaultOf, IsWithin, StandInOrder, before, fault_or, first_fault, line_lexemes, placed, placed_at, seen, text_lexemes}
 use Rattle.cgm_lex.specs.Lines.{lines}
+use Rattle.cgm_lex.specs.Spans.{line_spans, span_of, spans_before, text_spans}
 use Rattle.cgm_lex.proofs.Adding.{order_wider}
+use Rattle.cgm_lex.proofs.Spanning.{no_run_before}
 
 -- the line from one place to another, and what its tokens are followed by
 pub record IsLineAt (text : List ℕ) (at end next : ℕ) : Type 0 where
   pub tokens : (n : ℕ) → text_lexemes n (lines (drop at text)) ≡ before n (line_lexemes (slice_range text at end)) (text_lexemes (n + 1) (lines (drop next text)))
   pub fault : (n : ℕ) → first_fault n (lines (drop at text)) ≡ fault_or n (line_lexemes (slice_range text at end)) (first_fault (n + 1) (lines (drop next text)))
+  pub spans : text_spans at (lines (drop at text)) ≡ spans_before (line_lexemes (slice_range text at end)) (line_spans at (slice_range text at end)) (text_spans next (lines (drop next text)))
 
 past : (text : List ℕ) → drop (length text) text ≡ []
 past text = drop_of_length-le text {i = length text} (omega arith)
@@ -22,14 +26,31 @@ no_tokens_left text n at h = rw (drop_of_length-le text {i = at} h) refl
 pub no_fault_left : (text : List ℕ) (n at : ℕ) → length text ≤ at → first_fault n (lines (drop at text)) ≡ None
 no_fault_left text n at h = rw (drop_of_length-le text {i = at} h) refl
 
-pub line_at : (text : List ℕ) (at end : ℕ) → end ≤ length text → (end ≡ length text → lines (drop at text) ≡ drop at text ∷ []) → (end < length text → lines (drop at text) ≡ slice_range text at end ∷ lines (drop (end + 1) text)) → IsLineAt text at end (min (end + 1) (length text))
-line_at text at end h last more =
+pub no_spans_left : (text : List ℕ) (n at : ℕ) → length text ≤ at → text_spans n (lines (drop at text)) ≡ []
+no_spans_left text n at h = rw (drop_of_length-le text {i = at} h) (ap (λ spans. spans ++ []) (no_run_before n []))
+
+-- the line after this one begins past its line feed
+next_begins : (text : List ℕ) (at end : ℕ) → at ≤ end → end ≤ length text → at + length (slice_range text at end) + 1 ≡ end + 1
+next_begins text at end order inside = let size = length-between text at end inside in omega (arith, size)
+
+spans_of_line : (text : List ℕ) (at end : ℕ) → at ≤ end → end ≤ length text → lines (drop at text) ≡ slice_range text at end ∷ lines (drop (end + 1) text) → text_spans at (lines (drop at text)) ≡ spans_before (line_lexemes (slice_range text at end)) (line_spans at (slice_range text at end)) (text_spans (end + 1) (lines (drop (end + 1) text)))
+spans_of_line text at end order inside more =
+    let line = slice_range text at end in
+    ap (text_spans at) more ∙ ap (λ n. spans_before (line_lexemes line) (line_spans at line) (text_spans n (lines (drop (end + 1) text)))) (next_begins text at end order inside)
+
+spans_of_last : (text : List ℕ) (at : ℕ) → lines (drop at text) ≡ drop at text ∷ [] → text_spans at (lines (drop at text)) ≡ spans_before (line_lexemes (drop at text)) (line_spans at (drop at text)) (text_spans (length text) (lines (drop (length text) text)))
+spans_of_last text at last =
+    ap (text_spans at) last ∙ ap (spans_before (line_lexemes (drop at text)) (line_spans at (drop at text))) (sym (no_spans_left text (length text) (length text) (omega arith)))
+
+pub line_at : (text : List ℕ) (at end : ℕ) → at ≤ end → end ≤ length text → (end ≡ length text → lines (drop at text) ≡ drop at text ∷ []) → (end < length text → lines (drop at text) ≡ slice_range text at end ∷ lines (drop (end + 1) text)) → IsLineAt text at end (min (end + 1) (length text))
+line_at text at end order h last more =
     elim (cases_lt end (length text)) [
       | inl less ↦
           let next : min (end + 1) (length text) ≡ end + 1 = omega arith in
           record {
             tokens = λ n. rw next (ap (text_lexemes n) (more less));
             fault = λ n. rw next (ap (first_fault n) (more less));
+            spans = rw next (spans_of_line text at end order h (more less));
           }
       | inr not_less ↦
           let whole : end ≡ length text = omega arith in
@@ -38,6 +59,7 @@ line_at text at end h last more =
           record {
             tokens = λ n. rw next (ap (text_lexemes n) (last whole) ∙ rw rest (ap (before n (line_lexemes (drop at text))) (sym (no_tokens_left text (n + 1) (length text) (omega arith)))));
             fault = λ n. rw next (ap (first_fault n) (last whole) ∙ rw rest (ap (fault_or n (line_lexemes (drop at text))) (sym (no_fault_left text (n + 1) (length text) (omega arith)))));
+            spans = rw next (rw rest (spans_of_last text at (last whole)));
           }
     ]
 
@@ -49,6 +71,7 @@ pub record Passed (text : List ℕ) (line at : ℕ) (tokens : List Token) : Type
   pub inside : at ≤ length text
   pub few : line ≤ at + 1
   pub order : StandInOrder text 0 at tokens
+  pub spans : text_spans 0 (lines text) ≡ map span_of tokens ++ text_spans at (lines (drop at text))
 
 pub passed_none : (text : List ℕ) (tokens : List Token) → tokens ≡ [] → Passed text 1 0 tokens
 passed_none text tokens none = record {
@@ -58,10 +81,11 @@ passed_none text tokens none = record {
   inside = omega arith;
   few = omega arith;
   order = rw none (omega arith);
+  spans = rw none refl;
 }
 
-pub passed_more : (text : List ℕ) (line at end : ℕ) (old new : List Token) → Passed text line at old → at < length text → at ≤ end → IsLineAt text at end (min (end + 1) (length text)) → (lexemes : List Lexeme) × (line_lexemes (slice_range text at end) ≡ Ok lexemes × IsAdded text line old new lexemes) → end ≤ length text → (StandInOrder text 0 at old → StandInOrder text 0 end new) → Passed text (line + 1) (min (end + 1) (length text)) new
-passed_more text line at end old new p some order here added inside placed_after =
+pub passed_more : (text : List ℕ) (line at end : ℕ) (old new : List Token) → Passed text line at old → at < length text → at ≤ end → IsLineAt text at end (min (end + 1) (length text)) → (lexemes : List Lexeme) × (line_lexemes (slice_range text at end) ≡ Ok lexemes × IsAdded text line old new lexemes) → end ≤ length text → (StandInOrder text 0 at old → StandInOrder text 0 end new) → map span_of new ≡ map span_of old ++ line_spans at (slice_range text at end) → Passed text (line + 1) (min (end + 1) (length text)) new
+passed_more text line at end old new p some order here added inside placed_after spans =
     let next = min (end + 1) (length text) in
     let few = p.few in
     record {
@@ -74,11 +98,18 @@ passed_more text line at end old new p some order here added inside placed_after
       inside = omega arith;
       few = omega arith;
       order = order_wider text 0 end next new (placed_after p.order) (omega arith);
+      spans =
+          p.spans ∙ ap (λ ss. map span_of old ++ ss) (here.spans ∙ ap (λ r. spans_before r (line_spans at (slice_range text at end)) (text_spans next (lines (drop next text)))) added.1.0)
+          ∙ sym (append_assoc (map span_of old) (line_spans at (slice_range text at end)) (text_spans next (lines (drop next text))))
+          ∙ ap (λ ss. ss ++ text_spans next (lines (drop next text))) (sym spans);
     }
 
 pub all_said : (text : List ℕ) (line at : ℕ) (tokens : List Token) → Passed text line at tokens → length text ≤ at → map (placed text) tokens ≡ text_lexemes 1 (lines text)
 all_said text line at tokens p h =
     sym (p.said ∙ ap (λ ts. map (placed text) tokens ++ ts) (no_tokens_left text line at h) ∙ append-nil (map (placed text) tokens))
+
+pub all_spans : (text : List ℕ) (line at : ℕ) (tokens : List Token) → Passed text line at tokens → length text ≤ at → map span_of tokens ≡ text_spans 0 (lines text)
+all_spans text line at tokens p h = sym (p.spans ∙ ap (λ ss. map span_of tokens ++ ss) (no_spans_left text at at h) ∙ append-nil (map span_of tokens))
 
 pub no_fault : (text : List ℕ) (line at : ℕ) (tokens : List Token) → Passed text line at tokens → length text ≤ at → None ≡ first_fault 1 (lines text)
 no_fault text line at tokens p h = sym (p.fault ∙ no_fault_left text line at h)
@@ -86,6 +117,10 @@ no_fault text line at tokens p h = sym (p.fault ∙ no_fault_left text line at h
 pub said_before : (text : List ℕ) (line at end next : ℕ) (tokens : List Token) (fault : LexFault) → Passed text line at tokens → IsLineAt text at end next → IsFaultOf line (slice_range text at end) fault → map (placed text) tokens ≡ text_lexemes 1 (lines text)
 said_before text line at end next tokens fault p here faulty =
     sym (p.said ∙ ap (λ ts. map (placed text) tokens ++ ts) (here.tokens line ∙ ap (λ r. before line r (text_lexemes (line + 1) (lines (drop next text)))) faulty.1.0) ∙ append-nil (map (placed text) tokens))
+
+pub spans_before_fault : (text : List ℕ) (line at end next : ℕ) (tokens : List Token) (fault : LexFault) → Passed text line at tokens → IsLineAt text at end next → IsFaultOf line (slice_range text at end) fault → map span_of tokens ≡ text_spans 0 (lines text)
+spans_before_fault text line at end next tokens fault p here faulty =
+    sym (p.spans ∙ ap (λ ss. map span_of tokens ++ ss) (here.spans ∙ ap (λ r. spans_before r (line_spans at (slice_range text at end)) (text_spans next (lines (drop next text)))) faulty.1.0) ∙ append-nil (map span_of tokens))
 
 pub fault_here : (text : List ℕ) (line at end next : ℕ) (tokens : List Token) (fault : LexFault) → Passed text line at tokens → IsLineAt text at end next → IsFaultOf line (slice_range text at end) fault → Some fault ≡ first_fault 1 (lines text)
 fault_here text line at end next tokens fault p here faulty =

@@ -2,4 +2,5 @@ pub mod Lexemes
 pub mod Lines
 pub mod Numbers
 pub mod Pieces
+pub mod Spans
 pub mod Spelling

@@ -1,7 +1,8 @@
-ghost use Rattle.std.specs.Prelude.{◌≡◌, ◌≢◌, ℕ, List, All, Ok, IsTrue, IsUtf8};
+ghost use Rattle.std.specs.Prelude.{◌≡◌, ◌≢◌, ℕ, List, map, All, Ok, IsTrue, IsUtf8};
 ghost use Rattle.std.specs.List.{list_all};
-ghost use Rattle.cgm_lex.specs.Pieces.{is_run_byte};
+ghost use Rattle.cgm_lex.specs.Pieces.{is_run_byte, pieces};
 ghost use Rattle.cgm_lex.specs.Lexemes.{Lexeme, line_lexemes};
+ghost use Rattle.cgm_lex.specs.Spans.{part_of, spans_at};
 ghost use Rattle.cgm_lex.specs.Spelling.{IsPlain, spelled_line};
 
 /// The law that a canonical line is lexed again as its tokens.
@@ -24,4 +25,9 @@ pub fn line_is_plain()
 /// The law that a run is a text.
 pub fn run_is_text()
     ensures { (run : List ℕ) → IsTrue (list_all is_run_byte run) → IsUtf8 run }
+{}
+
+/// The law that the spans of a line's pieces have the bytes of these pieces, in order.
+pub fn spans_are_pieces()
+    ensures { (line : List ℕ) → map (part_of line) (spans_at 0 line) ≡ pieces line }
 {}

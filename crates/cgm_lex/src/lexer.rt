@@ -1,7 +1,8 @@
-ghost use Rattle.std.specs.Prelude.{◌≡◌, ◌+◌, ◌<◌, ◌≤◌, List, length, map, All, IfOk, IfErr, MatchOption, Ok, drop};
+ghost use Rattle.std.specs.Prelude.{◌≡◌, ◌+◌, ◌<◌, ◌≤◌, List, ◌++◌, length, map, All, IfOk, IfErr, IfNone, MatchOption, Ok, drop};
 ghost use Rattle.std.specs.List.{slice_range};
 ghost use Rattle.cgm_lex.specs.Lexemes.{Lexeme, IsAdded, IsFaultOf, IsLineStop, IsWithin, StandInOrder, first_fault, lexeme_with, line_lexemes, placed, seen, text_lexemes};
 ghost use Rattle.cgm_lex.specs.Lines.{lines};
+ghost use Rattle.cgm_lex.specs.Spans.{line_spans, span_of, text_spans};
 
 use crate::line::{Span, content, line_end, next_piece};
 use crate::number::kind_of;
@@ -42,6 +43,8 @@ fn add_tokens(
         IsFaultOf line (slice_range text.now start end) fault × (tokens.new.items ≡ tokens.old.items))) }
     ensures order { IfOk result (λ found. StandInOrder text.now 0 start tokens.old.items
         → StandInOrder text.now 0 end tokens.new.items) }
+    ensures spans { IfOk result (λ found. IfNone found (map span_of tokens.new.items
+        ≡ map span_of tokens.old.items ++ line_spans start (slice_range text.now start end))) }
 {
     let count = tokens.len();
     let words = content(&text[start..end]);
@@ -68,6 +71,7 @@ pub fn tokens_of_line(alloc: Global, line: &[u8], number: u32) -> Result<Vec<Tok
     ensures numbered { IfOk result (λ tokens. All (λ token. token.line ≡ number) tokens.items) }
     ensures within { IfOk result (λ tokens. All (IsWithin line.now) tokens.items) }
     ensures order { IfOk result (λ tokens. StandInOrder line.now 0 (length line.now) tokens.items) }
+    ensures spans { IfOk result (λ tokens. map span_of tokens.items ≡ line_spans 0 line.now) }
     ensures stop { IfErr result (IsLineStop number line.now) }
 {
     let mut tokens = Vec::new(alloc);
@@ -85,6 +89,7 @@ pub fn tokens(alloc: Global, bytes: &[u8]) -> Result<Lexed, AllocError>
         ≡ text_lexemes 1 (lines bytes.now)) }
     ensures within { IfOk result (λ lexed. All (IsWithin bytes.now) lexed.tokens.items) }
     ensures order { IfOk result (λ lexed. StandInOrder bytes.now 0 (length bytes.now) lexed.tokens.items) }
+    ensures spans { IfOk result (λ lexed. map span_of lexed.tokens.items ≡ text_spans 0 (lines bytes.now)) }
     ensures fault { IfOk result (λ lexed. lexed.fault ≡ first_fault 1 (lines bytes.now)) }
 {
     let mut tokens = Vec::new(alloc);

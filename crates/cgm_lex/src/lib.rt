@@ -10,6 +10,7 @@ mod token;
 
 pub use laws::{
     canonical_line_has_no_feed, canonical_line_is_read_back, line_is_plain, run_is_text,
+    spans_are_pieces,
 };
 pub use lexer::{tokens, tokens_of_line};
 pub use token::{Flaw, Kind, LexFault, LexStop, Lexed, Token, bytes_of};

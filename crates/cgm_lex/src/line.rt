@@ -1,7 +1,8 @@
-ghost use Rattle.std.specs.Prelude.{◌≡◌, ◌+◌, ◌<◌, ◌≤◌, true, false, [], ◌∷◌, length, position, ◌==◌, drop, IfSome, MatchOption, slice_index};
+ghost use Rattle.std.specs.Prelude.{◌≡◌, ℕ, ◌+◌, ◌<◌, ◌≤◌, true, false, [], ◌∷◌, length, position, ◌==◌, drop, IfSome, MatchOption, slice_index};
 ghost use Rattle.std.specs.List.{slice_range};
 ghost use Rattle.cgm_lex.specs.Lines.{content as content_of, lines};
 ghost use Rattle.cgm_lex.specs.Pieces.{closed, cut, pieces, is_run_byte as is_of_run, is_blank as is_blank_byte};
+ghost use Rattle.cgm_lex.specs.Spans.{run_before, span_from, spans_after};
 
 use crate::bytes::{ends_line, is_blank, is_run_byte};
 
@@ -30,6 +31,8 @@ fn skip_blanks(words: &[u8], from: usize) -> usize
     requires { from ≤ length words.now }
     ensures within { (from ≤ result) × (result ≤ length words.now) }
     ensures same { pieces (drop from words.now) ≡ pieces (drop result words.now) }
+    ensures spans { (start : ℕ) → spans_after start from words.now
+        ≡ spans_after start result words.now }
     ensures stops { result < length words.now → is_blank_byte (slice_index words.now result)
         ≡ false }
 {
@@ -47,6 +50,8 @@ fn run_end(words: &[u8], from: usize) -> usize
     ensures within { (from ≤ result) × (result ≤ length words.now) }
     ensures run { cut [] (drop from words.now)
         ≡ closed (slice_range words.now from result) (cut [] (drop result words.now)) }
+    ensures spans { (start : ℕ) → spans_after start from words.now
+        ≡ run_before (start + from) (start + result) (spans_after start result words.now) }
     ensures begun { from < length words.now → is_of_run (slice_index words.now from) ≡ true
         → from < result }
 {
@@ -65,6 +70,8 @@ fn piece_end(words: &[u8], from: usize) -> usize
     ensures within { (from < result) × (result ≤ length words.now) }
     ensures piece { pieces (drop from words.now)
         ≡ slice_range words.now from result ∷ pieces (drop result words.now) }
+    ensures spans { (start : ℕ) → spans_after start from words.now
+        ≡ span_from (start + from) (start + result) ∷ spans_after start result words.now }
 {
     if is_run_byte(words[from]) {
         run_end(words, from)
@@ -80,6 +87,8 @@ pub(crate) fn next_piece(words: &[u8], at: usize) -> Option<Span>
     ensures piece { MatchOption result (pieces (drop at words.now) ≡ []) (λ s. (pieces (drop at words.now)
         ≡ slice_range words.now s.from s.to ∷ pieces (drop s.to words.now)) × (at < s.to)
         × (s.from < s.to) × (s.to ≤ length words.now)) }
+    ensures spans { MatchOption result ((start : ℕ) → spans_after start at words.now ≡ []) (λ s. (start : ℕ) →
+        spans_after start at words.now ≡ span_from (start + s.from) (start + s.to) ∷ spans_after start s.to words.now) }
 {
     let from = skip_blanks(words, at);
     if from == words.len() {

@@ -13,6 +13,7 @@ use std::collections::BTreeMap;
 ///
 /// Reads are numbered from 1, and so are starts and appends together. A call whose number is in its
 /// list fails. Each read or append moves as many bytes as are wanted and there, but at most `piece`.
+/// A read that fails leaves the buffer as it was.
 #[derive(Drop)]
 pub struct MemShelf {
     alloc: Global,
@@ -199,6 +200,7 @@ impl Shelf for MemShelf {
 
         ensures planned { IsFailingRead self.old → IsErr result }
         ensures fails { OnErr result (FailsRead self.old self.new name.now) }
+        ensures buffer { OnErr result (buf.new ≡ buf.old) }
         ensures kept { OnOk result (KeepsFaults self.old self.new) }
         ensures moves { IfOk result (λ count. IsSomeAnd (mem_files self.old name.now)
             (λ file. count ≡ moved self.old file at buf.old)) }

@@ -1,8 +1,11 @@
 use Rattle.std.proofs.Common.{◌+◌, ◌≤◌, ◌-◌, ◌≡◌, length, slice_range, subst, sym, arith}
 use Rattle.std.proofs.lemmas.List.Edits.{length-between}
 use Rattle.cgm_lex.specs.Lexemes.{StandInOrder}
-use Rattle.cgm_lex.proofs.Adding.{going_on, order_wider}
+use Rattle.cgm_lex.proofs.Adding.{going_none, going_on, order_wider}
 use Rattle.cgm_lex.proofs.lexer.add_tokens.Goals as goal
+
+pub loop-piece-init : goal.loop-piece-init
+loop-piece-init c = going_none c.args.text.now c.content-words.result.now c.args.line c.args.start c.args.tokens.now.items
 
 pub loop-piece-preserved : goal.loop-piece-preserved
 loop-piece-preserved c =
@@ -16,7 +19,7 @@ loop-piece-preserved c =
       from_is = c.token_at.ensures.from;
       to_is = c.token_at.ensures.to;
       kind_is = c.token_at.ensures.kind;
-    }) c.content-words.ensures.content c.requires.order c.requires.inside short fits c.in-Some.ensures.order c.in-Some.ensures.piece.2 c.in-Some.ensures.piece.3 c.in-Some.ensures.piece.0 c.in-Ok.ensures in
+    }) c.content-words.ensures.content c.requires.order c.requires.inside short fits c.in-Some.ensures.order c.in-Some.ensures.piece.2 c.in-Some.ensures.piece.3 c.in-Some.ensures.piece.0 c.in-Ok.ensures (c.in-Some.ensures.spans c.args.start) in
     rw c.in_ok-push-in-Ok.ensures.items going
 
 pub returns-clause-order : goal.returns-clause-order

@@ -14,8 +14,8 @@ loop-start-preserved c =
     let at = c.loop-start.start in
     let end = c.line_end-end.result in
     let within = c.line_end-end.ensures.within in
-    let here = line_at text at end within.1 c.line_end-end.ensures.last c.line_end-end.ensures.more in
+    let here = line_at text at end within.0 within.1 c.line_end-end.ensures.last c.line_end-end.ensures.more in
     let some : at < length text = omega (arith, c.loop-start-test.true) in
     rw c.min-start.ensures
     (passed_more text c.loop-start.line at end c.loop-start.tokens.items c.add_tokens.new.tokens.items c.loop-start.invariant some within.0 here
-    (rw c.in-None.is at c.in_ok-fault.ensures.added) within.1 c.in_ok-fault.ensures.order)
+    (rw c.in-None.is at c.in_ok-fault.ensures.added) within.1 c.in_ok-fault.ensures.order (rw c.in-None.is at c.in_ok-fault.ensures.spans))

@@ -1,3 +1,4 @@
+//! The bytes that words, numbers and blanks are made of.
 ghost use Rattle.std.specs.Prelude.{◌≡◌};
 ghost use Rattle.cgm_lex.specs.Lines.{ends_line as ends};
 ghost use Rattle.cgm_lex.specs.Pieces.{is_mark as is_mark_byte, is_run_byte as is_of_run, is_blank as is_blank_byte};

@@ -1,3 +1,4 @@
+//! Laws of lines and tokens.
 ghost use Rattle.std.specs.Prelude.{◌≡◌, ◌≢◌, ℕ, List, map, All, Ok, IsTrue, IsUtf8};
 ghost use Rattle.std.specs.List.{list_all};
 ghost use Rattle.cgm_lex.specs.Pieces.{is_run_byte, pieces};

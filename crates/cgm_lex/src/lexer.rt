@@ -1,3 +1,4 @@
+//! The tokens of a line and of a text.
 ghost use Rattle.std.specs.Prelude.{◌≡◌, ◌+◌, ◌<◌, ◌≤◌, List, ◌++◌, length, map, All, IfOk, IfErr, IfNone, MatchOption, Ok, drop};
 ghost use Rattle.std.specs.List.{slice_range};
 ghost use Rattle.cgm_lex.specs.Lexemes.{Lexeme, IsAdded, IsFaultOf, IsLineStop, IsWithin, StandInOrder, first_fault, lexeme_with, line_lexemes, placed, seen, text_lexemes};

@@ -1,3 +1,4 @@
+//! The pieces of a line.
 ghost use Rattle.std.specs.Prelude.{◌≡◌, ℕ, ◌+◌, ◌<◌, ◌≤◌, true, false, [], ◌∷◌, length, position, ◌==◌, drop, IfSome, MatchOption, slice_index};
 ghost use Rattle.std.specs.List.{slice_range};
 ghost use Rattle.cgm_lex.specs.Lines.{content as content_of, lines};

@@ -1,3 +1,4 @@
+//! Numbers, and what a piece of a line is.
 ghost use Rattle.std.specs.Prelude.{◌≡◌, ◌<◌, length, IsTrue, MatchResult, true, Ok, Err};
 ghost use Rattle.cgm_lex.specs.Lexemes.{lexeme_of, lexeme_with, run_lexeme};
 ghost use Rattle.cgm_lex.specs.Numbers.{begins_number as begins, number_of as number_in};

@@ -1,3 +1,4 @@
+//! Tokens, flaws and faults.
 ghost use Rattle.std.specs.Prelude.{◌≡◌};
 ghost use Rattle.cgm_lex.specs.Lexemes.{fault_at, token_bytes};
 

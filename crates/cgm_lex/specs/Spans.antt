@@ -1,4 +1,4 @@
--- Where each piece of a line stands: its longest runs, and each other byte that is no blank by itself.
+-- Where each piece of a line stands.
 use Rattle.std.specs.Prelude.{ℕ, ◌+◌, nat_lt, List, [], ◌∷◌, ◌++◌, Result, Ok, Err, length, drop, if◌then◌else◌}
 use Rattle.std.specs.List.{slice_range}
 use Rattle.cgm_lex.specs.declared.token.Flaw.{Flaw}
@@ -31,7 +31,7 @@ run_before from to others = if nat_lt from to then span_from from to ∷ others 
 abbrev pub mark_before : ℕ → ℕ → List Span → List Span
 mark_before byte at others = if is_blank byte then others else span_from at (at + 1) ∷ others
 
--- the spans of the run that began at the place `from` and of the bytes that come after it, of which the first is at the place `at`
+-- the spans of the run that began at the place `from` and of the bytes after it, of which the first is at `at`
 abbrev pub cut_spans : ℕ → ℕ → List ℕ → List Span
 cut_spans from at [] = run_before from at []
 cut_spans from at (byte ∷ bytes) =

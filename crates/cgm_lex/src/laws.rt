@@ -20,7 +20,8 @@ pub fn canonical_line_has_no_feed()
 
 /// The law that the words of a line are runs that begin as no number, and its numbers have 64 bits.
 pub fn line_is_plain()
-    ensures { (line : List ℕ) (lexemes : List Lexeme) → line_lexemes line ≡ Ok lexemes → All IsPlain lexemes }
+    ensures { (line : List ℕ) (lexemes : List Lexeme) → line_lexemes line ≡ Ok lexemes
+        → All IsPlain lexemes }
 {}
 
 /// The law that a run is a text.

@@ -27,8 +27,8 @@ fn token_at(line: u32, start: usize, piece: Span, kind: Kind) -> Token
     }
 }
 
-/// Adds the tokens of the line from place `start` to before place `end`; answers the line's fault, and adds
-/// nothing, where it has one.
+/// Adds the tokens of the line from place `start` to before place `end`; answers the line's fault,
+/// and adds nothing, where it has one.
 fn add_tokens(
     tokens: &mut Vec<Token>,
     text: &[u8],
@@ -39,9 +39,11 @@ fn add_tokens(
     requires order { start ≤ end }
     requires inside { end ≤ length text.now }
     requires small { length text.now ≤ 16777216 }
-    ensures added { IfOk result (λ found. MatchOption found ((lexemes : List Lexeme)
-        × ((line_lexemes (slice_range text.now start end) ≡ Ok lexemes) × IsAdded text.now line tokens.old.items tokens.new.items lexemes)) (λ fault.
-        IsFaultOf line (slice_range text.now start end) fault × (tokens.new.items ≡ tokens.old.items))) }
+    ensures added { IfOk result (λ found. MatchOption found
+        ((lexemes : List Lexeme) × ((line_lexemes (slice_range text.now start end) ≡ Ok lexemes)
+        × IsAdded text.now line tokens.old.items tokens.new.items lexemes))
+        (λ fault. IsFaultOf line (slice_range text.now start end) fault
+        × (tokens.new.items ≡ tokens.old.items))) }
     ensures order { IfOk result (λ found. StandInOrder text.now 0 start tokens.old.items
         → StandInOrder text.now 0 end tokens.new.items) }
     ensures spans { IfOk result (λ found. IfNone found (map span_of tokens.new.items
@@ -63,8 +65,8 @@ fn add_tokens(
     Ok(None)
 }
 
-/// The tokens of one line of at most 16 MiB, given without its line feed; their spans are places of the line.
-/// `number` is the line's number.
+/// The tokens of one line of at most 16 MiB, given without its line feed; their spans are places of
+/// the line. `number` is the line's number.
 pub fn tokens_of_line(alloc: Global, line: &[u8], number: u32) -> Result<Vec<Token>, LexStop>
     requires { length line.now ≤ 16777216 }
     ensures lexemes { IfOk result (λ tokens. line_lexemes line.now
@@ -83,14 +85,17 @@ pub fn tokens_of_line(alloc: Global, line: &[u8], number: u32) -> Result<Vec<Tok
     }
 }
 
-/// The tokens of a text of at most 16 MiB: those of the lines before the first faulty one, and its fault.
+/// The tokens of a text of at most 16 MiB: those of the lines before the first faulty one, and its
+/// fault.
 pub fn tokens(alloc: Global, bytes: &[u8]) -> Result<Lexed, AllocError>
     requires { length bytes.now ≤ 16777216 }
     ensures tokens { IfOk result (λ lexed. map (placed bytes.now) lexed.tokens.items
         ≡ text_lexemes 1 (lines bytes.now)) }
     ensures within { IfOk result (λ lexed. All (IsWithin bytes.now) lexed.tokens.items) }
-    ensures order { IfOk result (λ lexed. StandInOrder bytes.now 0 (length bytes.now) lexed.tokens.items) }
-    ensures spans { IfOk result (λ lexed. map span_of lexed.tokens.items ≡ text_spans 0 (lines bytes.now)) }
+    ensures order { IfOk result (λ lexed. StandInOrder bytes.now 0 (length bytes.now)
+        lexed.tokens.items) }
+    ensures spans { IfOk result (λ lexed. map span_of lexed.tokens.items
+        ≡ text_spans 0 (lines bytes.now)) }
     ensures fault { IfOk result (λ lexed. lexed.fault ≡ first_fault 1 (lines bytes.now)) }
 {
     let mut tokens = Vec::new(alloc);

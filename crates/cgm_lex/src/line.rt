@@ -85,11 +85,15 @@ fn piece_end(words: &[u8], from: usize) -> usize
 pub(crate) fn next_piece(words: &[u8], at: usize) -> Option<Span>
     requires { at ≤ length words.now }
     ensures order { IfSome result (λ s. at ≤ s.from) }
-    ensures piece { MatchOption result (pieces (drop at words.now) ≡ []) (λ s. (pieces (drop at words.now)
-        ≡ slice_range words.now s.from s.to ∷ pieces (drop s.to words.now)) × (at < s.to)
-        × (s.from < s.to) × (s.to ≤ length words.now)) }
-    ensures spans { MatchOption result ((start : ℕ) → spans_after start at words.now ≡ []) (λ s. (start : ℕ) →
-        spans_after start at words.now ≡ span_from (start + s.from) (start + s.to) ∷ spans_after start s.to words.now) }
+    ensures piece { MatchOption result
+        (pieces (drop at words.now) ≡ [])
+        (λ s. (pieces (drop at words.now)
+        ≡ slice_range words.now s.from s.to ∷ pieces (drop s.to words.now))
+        × (at < s.to) × (s.from < s.to) × (s.to ≤ length words.now)) }
+    ensures spans { MatchOption result
+        ((start : ℕ) → spans_after start at words.now ≡ [])
+        (λ s. (start : ℕ) → spans_after start at words.now
+        ≡ span_from (start + s.from) (start + s.to) ∷ spans_after start s.to words.now) }
 {
     let from = skip_blanks(words, at);
     if from == words.len() {

@@ -58,7 +58,8 @@ told_of encoded plan e before after (Exhausted best spent entries) ended told = 
       log.printable,
       record {
         trail = e.trail;
-        is_spent = subst (λ (p : Instance). IsSpentTrail p plan e.trail) encoding.problem at.1;
+        is_spent = subst (λ (es : List Entry). IsSpentTrail (problem_of m pairs) plan es e.trail) (sym told.0)
+            (subst (λ (p : Instance). IsSpentTrail p plan e.log.entries e.trail) encoding.problem at.1);
         added = told.4;
         moves = told.3;
       },

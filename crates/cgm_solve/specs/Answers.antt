@@ -14,8 +14,10 @@ use Rattle.cgm_atom.specs.LogState.{last_best, state_of}
 use Rattle.cgm_atom.specs.Ranges.{IsPrintable}
 use Rattle.cgm_check.specs.Verdicts.{IsRefusedAt}
 use Rattle.cgm_trail.specs.Rank.{slack}
+use Rattle.cgm_trail.specs.Steps.{AreReasoned}
 use Rattle.cgm_trail.specs.TrailState.{TrailState}
 use Rattle.cgm_search.specs.declared.plans.Plan.{Plan}
+use Rattle.cgm_search.specs.Storing.{IsSeenName}
 use Rattle.cgm_enc_formula.specs.declared.stop.EncodeStop.TheVariants as encode_stops
 use Rattle.cgm_encode.specs.declared.answer.Answer.{Answer}
 use Rattle.cgm_encode.specs.declared.answer.Answer.TheVariants.{Exhausted, Open, Realized, Unrealizable}
@@ -102,17 +104,23 @@ IsVerifyAnswer m pairs entries (Err Memory) = Unit {0}
 
 -- ---- solving
 
--- a trail of the problem that made as many moves as the plan says, and no more restarts; so large budgets are never spent
-pub record IsSpentTrail (p : Instance) (plan : Plan) (t : TrailState) : Type 0 where
+-- the trail of a worker that spent the plan's budget on the problem, and left these entries
+pub record IsSpentTrail (p : Instance) (plan : Plan) (entries : List Entry) (t : TrailState) : Type 0 where
+  -- it is a trail of the problem
   pub problem : t.problem ≡ p
+  -- it made as many moves as the plan says
   pub moves : t.moves ≡ plan.budget
+  -- it made no more restarts than the plan says
   pub restarts : t.restarts ≤ plan.restarts
+  -- each change that isn't a decision is one that a clause, a row, a lemma of the entries or a cut of one of their bests gives
+  pub reasons : AreReasoned (IsSeenName p (state_of entries)) p.bounds t.changes
+  -- a budget of so many moves can be spent
   pub few : plan.budget < (plan.restarts + 1) * 2 ^ (slack p.bounds + 1)
 
--- one worker spent its budget, and its trail was added to the trails before
-pub record IsSpentWork (p : Instance) (plan : Plan) (before after : List TrailState) (spent : List ℕ) : Type 0 where
+-- one worker spent its budget, left these entries, and its trail was added to the trails before
+pub record IsSpentWork (p : Instance) (plan : Plan) (entries : List Entry) (before after : List TrailState) (spent : List ℕ) : Type 0 where
   pub trail : TrailState
-  pub is_spent : IsSpentTrail p plan trail
+  pub is_spent : IsSpentTrail p plan entries trail
   pub added : after ≡ before ++ trail ∷ []
   pub moves : spent ≡ trail.moves ∷ []
 
@@ -123,7 +131,7 @@ IsSolved m pairs plan before after (Realized found entries) =
 IsSolved m pairs plan before after (Unrealizable entries) =
     ShowsUnrealizable m pairs entries × All IsPrintable entries × (after ≡ before)
 IsSolved m pairs plan before after (Exhausted best spent entries) =
-    LeavesOpen m pairs entries best × All IsPrintable entries × IsSpentWork (problem_of m pairs) plan before after spent
+    LeavesOpen m pairs entries best × All IsPrintable entries × IsSpentWork (problem_of m pairs) plan entries before after spent
 IsSolved m pairs plan before after (Open best) = ⊥
 
 abbrev pub IsSolveAnswer : Lists → List Pair → Plan → List TrailState → List TrailState → Result Answer SolveStop → Type 0

@@ -20,7 +20,7 @@ use Rattle.cgm_solve.specs.Readings.{ReadsLastBest}
 
 abbrev pub IsEndedAs : Instance → Plan → List Entry → TrailState → Stopped → Type 0
 IsEndedAs p plan entries trail stopped.Final = IsClosed entries
-IsEndedAs p plan entries trail stopped.Spent = (¬ IsClosed entries) × IsSpentTrail p plan trail
+IsEndedAs p plan entries trail stopped.Spent = (¬ IsClosed entries) × IsSpentTrail p plan entries trail
 IsEndedAs p plan entries trail stopped.Memory = Unit {0}
 
 pub record IsEnded (p : Instance) (plan : Plan) (e : Ended) : Type 0 where

@@ -20,9 +20,10 @@ use std::alloc::Global;
 ///
 /// `Realized` has a least realization with its vector, and `Unrealizable` says that there is none. The
 /// entries are then an accepted, closed log of the model's problem, which shows this by itself.
-/// `Exhausted` comes only where the log isn't closed and the worker made as many moves as its budget
-/// says. Then the work gains its trail, and the best is that of the log, if any. Otherwise the work
-/// stays. `Open` never comes. A certificate can write the entries of each answer.
+/// `Exhausted` comes only where the worker made as many moves as its budget says. Its entries are an
+/// accepted log that isn't closed, and the best is their last best, if any. Then the work gains the
+/// worker's trail, and the entries have every lemma and every best that a change of this trail rests
+/// on. Otherwise the work stays. `Open` never comes. A certificate can write the entries of each answer.
 /// `SolveStop::Row` comes exactly where the model has no encoding.
 ///
 /// Condition: the numbers of the plan are within their limits.

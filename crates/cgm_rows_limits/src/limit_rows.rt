@@ -89,91 +89,116 @@ fn elements_and_refinements(rt: HostRuntime) -> Result<(), Fail> {
     Ok(())
 }
 
-/// The bytes of a comment behind the header, and what `show` says.
-const COMMENTS: [(usize, Status, &str); 2] = [
-    (16_777_210, Status::Done, "cgm 1\n"),
+/// The words of a run, the file that is long, its front, the byte that follows and how often, the
+/// status, and what is printed.
+type LongRow<'s> = (&'s [&'s str], &'s str, &'s str, u8, usize, Status, &'s str);
+
+const SHOW: &[&str] = &["show", "model.cgm"];
+
+const SOLVE: &[&str] = &["solve", "model.cgm", "--earlier=old.txt"];
+
+const CHECK: &[&str] = &["check", "model.cgm", "c.txt"];
+
+const TOO_LONG: &str = "fault limit text-bytes 16777216 0\n";
+
+/// A model and an earlier text at the limit on bytes and one past it, and files that are no
+/// certificate, for which that is no limit.
+const LONG: [LongRow<'static>; 9] = [
     (
+        SHOW,
+        "model.cgm",
+        "cgm 1\n",
+        b'#',
+        16_777_210,
+        Status::Done,
+        "cgm 1\n",
+    ),
+    (
+        SHOW,
+        "model.cgm",
+        "cgm 1\n",
+        b'#',
         16_777_211,
         Status::Limit,
-        "fault limit text-bytes 16777216 0\n",
+        TOO_LONG,
     ),
-];
-
-#[test]
-fn bytes_of_a_model(rt: HostRuntime) -> Result<(), Fail> {
-    let alloc = rt.alloc();
-    for (count, status, printed) in COMMENTS {
-        let text = padded(alloc, "cgm 1\n", b'#', count)?;
-        shows(&rt, alloc, text.as_slice(), (status, printed.as_bytes()))?;
-    }
-    Ok(())
-}
-
-#[test]
-fn bytes_of_an_earlier_text(rt: HostRuntime) -> Result<(), Fail> {
-    let alloc = rt.alloc();
-    let words = ["solve", "model.cgm", "--earlier=old.txt"];
-    let rows = [
-        (16_777_206_usize, Status::Done, "realized\n"),
-        (
-            16_777_207,
-            Status::Limit,
-            "fault limit text-bytes 16777216 0\n",
-        ),
-    ];
-    for (count, status, printed) in rows {
-        let old = padded(alloc, "earlier 1\n", b'#', count)?;
-        let printed = (status, printed.as_bytes());
-        prints(
-            &rt,
-            alloc,
-            &words,
-            b"cgm 1\n",
-            ("old.txt", old.as_slice()),
-            printed,
-        )?;
-    }
-    Ok(())
-}
-
-/// The front of a certificate, the byte that follows, how often, and the fault that is told.
-const NO_CERTIFICATES: [(&str, u8, usize, &str); 5] = [
-    ("", b'x', 1_000_000, "fault certificate line 1 unfinished\n"),
-    ("", b'\n', 1_000_000, "fault certificate line 1 header\n"),
     (
+        SOLVE,
+        "old.txt",
+        "earlier 1\n",
+        b'#',
+        16_777_206,
+        Status::Done,
+        "realized\n",
+    ),
+    (
+        SOLVE,
+        "old.txt",
+        "earlier 1\n",
+        b'#',
+        16_777_207,
+        Status::Limit,
+        TOO_LONG,
+    ),
+    (
+        CHECK,
+        "c.txt",
+        "",
+        b'x',
+        1_000_000,
+        Status::Certificate,
+        "fault certificate line 1 unfinished\n",
+    ),
+    (
+        CHECK,
+        "c.txt",
+        "",
+        b'\n',
+        1_000_000,
+        Status::Certificate,
+        "fault certificate line 1 header\n",
+    ),
+    (
+        CHECK,
+        "c.txt",
         "cgm-cert 1\nbest 0 ",
         b'1',
         1_000_000,
+        Status::Certificate,
         "fault certificate line 2 unfinished\n",
     ),
     (
+        CHECK,
+        "c.txt",
         "cgm-cert 1\n",
         b'\n',
         1_000_000,
+        Status::Certificate,
         "fault certificate line 2 entry\n",
     ),
     (
+        CHECK,
+        "c.txt",
         "",
         b'x',
         16_777_217,
+        Status::Certificate,
         "fault certificate line 1 unfinished\n",
     ),
 ];
 
-// The limit on the bytes of other texts is none of a certificate's.
 #[test]
-fn long_files_that_are_no_certificate(rt: HostRuntime) -> Result<(), Fail> {
+fn long_files(rt: HostRuntime) -> Result<(), Fail> {
     let alloc = rt.alloc();
-    let words = ["check", "model.cgm", "c.txt"];
-    for (front, byte, count, fault) in NO_CERTIFICATES {
-        let cert = padded(alloc, front, byte, count)?;
-        let printed = (Status::Certificate, fault.as_bytes());
+    for (words, name, front, byte, count, status, printed) in LONG {
+        let bytes = padded(alloc, front, byte, count)?;
+        let printed = (status, printed.as_bytes());
         prints(
             &rt,
             alloc,
-            &words,
-            b"cgm 1\ntask T\n",
-            ("c.txt", cert.as_slice()),
+            words,
+            b"cgm 1\n",
+            (name, bytes.as_slice()),
             printed,
         )?;
     }
@@ -214,30 +239,19 @@ fn big_problem(alloc: Global) -> Result<Vec<u8>, AllocError> {
     Ok(text)
 }
 
+// `encode` and `solve` tell the fault of one more.
 #[test]
-fn row_limit_met(rt: HostRuntime) -> Result<(), Fail> {
+fn row_limit(rt: HostRuntime) -> Result<(), Fail> {
     let alloc = rt.alloc();
-    let model = big_model(alloc, 0)?;
     let problem = big_problem(alloc)?;
-    let printed = (Status::Done, problem.as_slice());
-    let words = ["encode", "model.cgm"];
-    prints(
-        &rt,
-        alloc,
-        &words,
-        model.as_slice(),
-        ("old.txt", b""),
-        printed,
-    )
-}
-
-#[test]
-fn row_limit_passed_by_one(rt: HostRuntime) -> Result<(), Fail> {
-    let alloc = rt.alloc();
-    let model = big_model(alloc, 1)?;
-    let fault = "fault limit row 4000000000000000000 4002\n";
-    for command in ["encode", "solve"] {
-        let printed = (Status::Limit, fault.as_bytes());
+    let fault = b"fault limit row 4000000000000000000 4002\n";
+    let rows: [(&str, i64, Status, &[u8]); 3] = [
+        ("encode", 0, Status::Done, problem.as_slice()),
+        ("encode", 1, Status::Limit, fault),
+        ("solve", 1, Status::Limit, fault),
+    ];
+    for (command, most, status, printed) in rows {
+        let model = big_model(alloc, most)?;
         let words = [command, "model.cgm"];
         prints(
             &rt,
@@ -245,7 +259,7 @@ fn row_limit_passed_by_one(rt: HostRuntime) -> Result<(), Fail> {
             &words,
             model.as_slice(),
             ("old.txt", b""),
-            printed,
+            (status, printed),
         )?;
     }
     Ok(())

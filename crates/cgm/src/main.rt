@@ -1,4 +1,4 @@
-//! The program: `cgm solve MODEL`, `cgm show MODEL`, `cgm encode MODEL`.
+//! The program: `cgm solve MODEL`, `cgm check MODEL CERT`, `cgm show MODEL`, `cgm encode MODEL`.
 #![tactic(auto)]
 
 use cgm_cli::{exit_code, run_quiet, tell_memory, words_after_name};

@@ -1,11 +1,5 @@
-use Rattle.std.proofs.Common.{refl, subst, ℤ, ◌≤◌, ℕ, pos, List}
-use Rattle.std.specs.Prelude.{◌+ℤ◌, ◌≤ℤ◌}
-use Rattle.std.specs.declared.option.Option.TheVariants.{None}
-use Rattle.cgm_atom.specs.declared.constraints.Var.{Var}
-use Rattle.cgm_atom.specs.Bounds.{Bounds}
-use Rattle.cgm_atom.specs.Laws.{IsSmaller}
+use Rattle.std.proofs.Common.{refl}
 use Rattle.cgm_atom.specs.Narrowing.{greatest_activity}
-use Rattle.cgm_learn.specs.Terms.{HoldsIn}
 use Rattle.cgm_learn.proofs.Needs.{explained_then}
 use Rattle.cgm_learn.proofs.RowNeeds.{between, sizes_between}
 use Rattle.cgm_learn.proofs.RowGives.{not_both_orders, row_refused, row_refused_still}

@@ -22,7 +22,7 @@ use Rattle.cgm_atom.proofs.SignedSteps.{le_is_true, lt_is_false, lt_is_true, sca
 use Rattle.cgm_trail.specs.TrailState.{IsOpenIn}
 use Rattle.cgm_trail.proofs.Replaying.{box_of_itself}
 use Rattle.cgm_learn.specs.Terms.{HoldsIn, box_with, far_atom, far_bound, is_far_of, is_left_out}
-use Rattle.cgm_learn.specs.Walking.{IsExplained}
+use Rattle.cgm_learn.specs.Walking.{IsExplained, IsExplainedIn, IsNeedOf}
 use Rattle.cgm_learn.proofs.Boxes.{read_le, read_not_le}
 use Rattle.cgm_learn.proofs.Needs.{explained_same, explained_then, proper_larger}
 
@@ -245,6 +245,15 @@ pub between : (work old new : Bounds) → IsProper work → IsSmaller work old �
 between work old new proper inside explained =
     let mine = explained old (box_of_itself old (proper_larger work old proper inside)) in
     record { inside = mine.inside; more = mine.more }
+
+-- what was added is needed of the box
+pub need_between : (work old new : Bounds) → IsNeedOf work old → IsExplainedIn work old new → IsNeedOf work new
+need_between work old new needed explained = record {
+  proper = needed.proper;
+  inside = (between work old new needed.proper needed.inside explained).inside;
+  work_sizes = needed.work_sizes;
+  need_sizes = sizes_between work old new needed.proper needed.need_sizes needed.inside explained;
+}
 
 -- what is left of a slack
 pub spend : (by size amount slack : ℕ) → size ≡ amount → by * size ≤ slack → by * amount + (slack - by * size) ≡ slack

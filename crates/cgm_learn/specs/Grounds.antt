@@ -16,6 +16,9 @@ pub record GroundState : Type 0 where
   pub state : LogState
   pub pending : List Entry
 
+abbrev pub ground_state : Instance → LogState → List Entry → GroundState
+ground_state p s lemmas = record { problem = p; state = s; pending = lemmas }
+
 -- the log is accepted and not closed, and the pending lemmas, which have atoms, are accepted after it
 pub record IsGround (g : GroundState) : Type 0 where
   pub accepted : IsAcceptedState g.problem g.state

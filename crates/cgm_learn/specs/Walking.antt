@@ -3,7 +3,7 @@ use Rattle.std.specs.Prelude.{◌≡◌, ◌≢◌, Bool, true, false, cond, ℕ
 use Rattle.std.specs.List.{All}
 use Rattle.cgm_atom.specs.declared.constraints.Atom.{Atom}
 use Rattle.cgm_atom.specs.declared.entries.Hint.{Hint}
-use Rattle.cgm_atom.specs.Bounds.{Bounds, IsBoxOf, lower_of, upper_of}
+use Rattle.cgm_atom.specs.Bounds.{Bounds, IsBoxOf, IsProper, lower_of, upper_of}
 use Rattle.cgm_atom.specs.ClauseAtoms.{AreKnown}
 use Rattle.cgm_atom.specs.Constraints.{Constraint, left_by}
 use Rattle.cgm_atom.specs.Laws.{IsSmaller}
@@ -12,6 +12,7 @@ use Rattle.cgm_atom.specs.LogState.{all_narrowed, greatest_carried}
 use Rattle.cgm_atom.specs.Narrowing.{is_false_in, is_true_in}
 use Rattle.cgm_atom.specs.Placing.{placed}
 use Rattle.cgm_atom.specs.Ranges.{IsAtomInRange, IsHintInRange}
+use Rattle.cgm_atom.specs.Steps.{AreBounds}
 use Rattle.cgm_trail.specs.declared.changes.Change.{Change}
 use Rattle.cgm_trail.specs.Steps.{AreReasoned}
 use Rattle.cgm_trail.specs.TrailState.{IsOpenIn, TrailState, box_after, is_decision, level_of}
@@ -105,10 +106,14 @@ pub record IsRest (g : GroundState) (work : Bounds) (w : Walk) (a : Atom) : Type
   pub refuted : (b : Bounds) → IsSmaller b w.need → is_true_in b a ≡ true → left_by_used g w.used b ≡ None
   pub used : IsUsed g w.used
 
+-- a box is left, in which the atom is true
+abbrev pub HasGiven : Atom → Option Bounds → Type 0
+HasGiven a left = IsSomeAnd left (λ b. is_true_in b a ≡ true)
+
 -- what the hint names leaves of the box one in which the atom is true
 abbrev pub IsCause : GroundState → Bounds → Hint → Atom → Type 0
 IsCause g b h a =
-    (k : Constraint) × IsNameAfter g.problem g.state g.pending h k × IsSomeAnd (left_by b k) (λ left. is_true_in left a ≡ true)
+    (k : Constraint) × IsNameAfter g.problem g.state g.pending h k × HasGiven a (left_by b k)
 
 -- an earlier place, before a decision, whose box lies in the rest
 pub record IsTurn (g : GroundState) (t : TrailState) (w : Walk) (turn : Turn) : Type 0 where
@@ -140,9 +145,28 @@ pub record IsExplained (limits work old new : Bounds) : Type 0 where
   pub more : IsSmaller new old
   pub within : IsBoxOf limits new
 
--- the constraint leaves conflict, or a box in which the atom is true
+-- so it is whatever limits the box had that was needed before
+abbrev pub IsExplainedIn : (work old new : Bounds) → Type 0
+IsExplainedIn work old new = (limits : Bounds) → IsBoxOf limits old → IsExplained limits work old new
+
+-- the same for limits of both boxes
+abbrev pub IsExplainedInBoth : (work old new : Bounds) → Type 0
+IsExplainedInBoth work old new =
+    (limits : Bounds) → IsBoxOf limits work → IsBoxOf limits old → IsExplained limits work old new
+
+-- what is needed of a box, both within the limits of bounds
+pub record IsNeedOf (work need : Bounds) : Type 0 where
+  pub proper : IsProper work
+  pub inside : IsSmaller work need
+  pub work_sizes : AreBounds work
+  pub need_sizes : AreBounds need
+
+-- conflict is left, or a box in which the atom is true
+abbrev pub HasLed : Atom → Option Bounds → Type 0
+HasLed a left = IfSome left (λ b. is_true_in b a ≡ true)
+
 abbrev pub IsLedTo : Bounds → Constraint → Atom → Type 0
-IsLedTo b k a = IfSome (left_by b k) (λ left. is_true_in left a ≡ true)
+IsLedTo b k a = HasLed a (left_by b k)
 
 -- ---- the negations of what a box says beyond the limits
 

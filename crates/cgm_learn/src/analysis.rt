@@ -43,7 +43,8 @@ pub fn analyse(
     requires pending_lemmas { All IsOpenLemma pending.now }
     requires pending_accepted { IsAcceptedAfter problem.now log.now
         (all_placed (length log.now.entries) pending.now) }
-    requires conflict { IsConflictIn problem.now log.now pending.now (box_of trail.now) conflict.now }
+    requires conflict { IsConflictIn problem.now log.now pending.now (box_of trail.now)
+        conflict.now }
     requires reasons { AreReasoned (IsNameAfter problem.now log.now pending.now) problem.now.bounds
         trail.now.changes }
     ensures accepted { IfOk result (IsAcceptedLemma problem.now log.now pending.now) }

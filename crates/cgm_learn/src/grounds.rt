@@ -2,7 +2,7 @@
 ghost use Rattle.std.specs.Prelude.{◌≡◌, ◌≤◌, length, MatchOption};
 ghost use Rattle.cgm_atom.specs.Ranges.{IsPlaced};
 ghost use Rattle.cgm_atom.specs.declared.entries.Hint.TheVariants.{Own};
-ghost use Rattle.cgm_learn.specs.Grounds.{IsFoundOn, IsGround, IsKnownOn};
+ghost use Rattle.cgm_learn.specs.Grounds.{IsFoundOn, IsGround, IsKnownOn, ground_state};
 
 use cgm_atom::{ClauseAtoms, Entry, Hint, Problem};
 use cgm_step::{Found, IndexedLog, Named};
@@ -17,13 +17,13 @@ pub(crate) struct Ground<'g> {
 }
 
 impl<'g> Model for Ground<'g> {
-    ghost use Rattle.cgm_learn.specs.Grounds.{GroundState, IsGround};
+    ghost use Rattle.cgm_learn.specs.Grounds.{GroundState, IsGround, ground_state};
 
     ghost Value = { GroundState };
 
-    ghost view = { λ g. record { problem = g.problem.now; state = g.log.now; pending = g.pending.now } };
+    ghost view = { λ g. ground_state g.problem.now g.log.now g.pending.now };
 
-    ghost invariant = { λ g. IsGround (record { problem = g.problem.now; state = g.log.now; pending = g.pending.now }) };
+    ghost invariant = { λ g. IsGround (ground_state g.problem.now g.log.now g.pending.now) };
 }
 
 impl<'g> Ground<'g> {
@@ -32,8 +32,8 @@ impl<'g> Ground<'g> {
         log: &'g IndexedLog<'g>,
         pending: &'g [Entry],
     ) -> Ground<'g>
-        requires { IsGround (record { problem = problem.now; state = log.now; pending = pending.now }) }
-        ensures { result ≡ record { problem = problem.now; state = log.now; pending = pending.now } }
+        requires { IsGround (ground_state problem.now log.now pending.now) }
+        ensures { result ≡ ground_state problem.now log.now pending.now }
     {
         Ground {
             problem,

@@ -1,5 +1,5 @@
 -- Boxes before and after a bound is changed: what a smaller box says of a larger one, and the other way round.
-use Rattle.std.proofs.Common.{◌≡◌, ◌≢◌, ℕ, zero, suc, ◌<◌, ◌≤◌, ◌⊎◌, inl, inr, Bool, true, false, cond, List, [], ◌∷◌, length, get_or, refl, ap, sym, ◌∙◌, subst, arith, length-set}
+use Rattle.std.proofs.Common.{◌≡◌, ◌≢◌, ℕ, zero, suc, ◌<◌, ◌≤◌, ◌⊎◌, inl, inr, Bool, true, false, cond, List, [], ◌∷◌, length, refl, ap, sym, ◌∙◌, subst, arith, length-set}
 use Rattle.std.specs.Prelude.{ℤ, pos, ◌+ℤ◌, ◌-ℤ◌, ◌≤ℤ◌, ◌<ℤ◌, IsTrue, int_le, int_lt, slice_set}
 use Rattle.std.proofs.lemmas.Bool.{cases_lt}
 use Rattle.std.proofs.lemmas.Int.{ints, clamps}
@@ -8,13 +8,11 @@ use Rattle.std.specs.Int.{int_max, int_min}
 use Rattle.cgm_atom.specs.declared.constraints.Atom.{Atom}
 use Rattle.cgm_atom.specs.declared.constraints.Var.{Var}
 use Rattle.cgm_atom.specs.Atoms.{negation}
-use Rattle.cgm_atom.specs.Bounds.{Bounds, IsBoxOf, IsProper, lower_of, upper_of, value_of}
+use Rattle.cgm_atom.specs.Bounds.{Bounds, IsBoxOf, lower_of, upper_of, value_of}
 use Rattle.cgm_atom.specs.Laws.{IsSmaller}
-use Rattle.cgm_atom.specs.Limits.{IsBound}
 use Rattle.cgm_atom.specs.Narrowing.{is_false_in, is_true_in, made_true, raised, reduced}
 use Rattle.cgm_atom.specs.Relaxing.{IsNumberWithin, at_bound_of, bound_of, relaxed}
-use Rattle.cgm_atom.proofs.Assuming.{value_of-set}
-use Rattle.cgm_atom.proofs.Shrinking.{IsSmaller-same, IsSmaller-trans, false_in_smaller, made_true_shrinks, true_in_smaller}
+use Rattle.cgm_atom.proofs.Shrinking.{false_in_smaller, made_true_shrinks, true_in_smaller}
 use Rattle.cgm_atom.proofs.SignedSteps.{le_is_true, lt_is_true, ≤ℤ_refl, ≤ℤ_trans}
 use Rattle.cgm_trail.specs.declared.changes.Change.{Change}
 use Rattle.cgm_trail.specs.TrailState.{IsChangeOf, IsOpenIn}

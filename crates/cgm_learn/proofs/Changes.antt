@@ -1,7 +1,7 @@
 -- The changes of a trail up to a place: their levels, their boxes and their reasons.
-use Rattle.std.proofs.Common.{◌≡◌, ℕ, zero, suc, ◌+◌, ◌<◌, ◌≤◌, Bool, true, false, cond, List, [], ◌∷◌, length, get_or, take, refl, ap, sym, ◌∙◌, subst, arith, length-take-le}
-use Rattle.std.specs.Prelude.{slice_get, if◌then◌else◌, IsTrue}
-use Rattle.std.specs.declared.option.Option.TheVariants.{Some, None}
+use Rattle.std.proofs.Common.{◌≡◌, ℕ, zero, suc, ◌+◌, ◌<◌, ◌≤◌, Bool, true, false, cond, List, [], ◌∷◌, length, get_or, take, refl, ap, sym, ◌∙◌, subst, arith}
+use Rattle.std.specs.Prelude.{slice_get, IsTrue}
+use Rattle.std.specs.declared.option.Option.TheVariants.{Some}
 use Rattle.std.proofs.lemmas.List.{take_all}
 use Rattle.std.proofs.lemmas.Option.{get_or_from_slice_get, slice_get_within}
 use Rattle.cgm_atom.specs.declared.constraints.Atom.{Atom}
@@ -17,7 +17,7 @@ use Rattle.cgm_trail.specs.declared.changes.Change.{Change}
 use Rattle.cgm_trail.specs.Earlier.{earlier_bound}
 use Rattle.cgm_trail.specs.Rank.{IsTrail}
 use Rattle.cgm_trail.specs.Steps.{AreReasoned, IsReason}
-use Rattle.cgm_trail.specs.TrailState.{AreChanges, IsChangeOf, TrailState, box_after, box_of, cut_to, is_decision, level_of}
+use Rattle.cgm_trail.specs.TrailState.{IsChangeOf, TrailState, box_after, box_of, cut_to, is_decision, level_of}
 use Rattle.cgm_trail.proofs.Cuts.{cut_taken}
 use Rattle.cgm_trail.proofs.Replaying.{AreChanges-take, IsTakenBack, box_after-more, box_after-of, box_of_itself, change_at, taken_back}
 use Rattle.cgm_learn.specs.declared.places.Place.{Place}

@@ -1,6 +1,6 @@
 -- The lemma that is made of what a walk ends with: its tests, its ranges and the cut after which it is unit.
-use Rattle.std.proofs.Common.{◌≡◌, ℕ, zero, suc, ◌+◌, ◌-◌, ◌^◌, ◌<◌, ◌≤◌, Bool, true, false, not, List, [], ◌∷◌, ◌++◌, length, map, get_or, take, refl, ap, sym, ◌∙◌, subst, arith}
-use Rattle.std.specs.Prelude.{IfSome, reverse, nat_lt, is_none, ◌≢◌, ◌==◌, slice_get, if◌then◌else◌}
+use Rattle.std.proofs.Common.{◌≡◌, ℕ, ◌+◌, ◌-◌, ◌<◌, ◌≤◌, Bool, true, false, not, List, [], ◌∷◌, ◌++◌, length, map, refl, ap, sym, ◌∙◌, subst, arith}
+use Rattle.std.specs.Prelude.{IfOk, Result, Ok, Err, IfSome, reverse, nat_lt, is_none, ◌≢◌, ◌==◌, if◌then◌else◌}
 use Rattle.std.specs.declared.option.Option.{Option}
 use Rattle.std.specs.declared.option.Option.TheVariants.{Some, None}
 use Rattle.std.specs.List.{All, position_from}
@@ -17,27 +17,29 @@ use Rattle.cgm_atom.specs.declared.entries.Entry.TheVariants.{Lemma}
 use Rattle.cgm_atom.specs.declared.entries.Hint.{Hint}
 use Rattle.cgm_atom.specs.Acceptance.{first_fault, is_refuted}
 use Rattle.cgm_atom.specs.Atoms.{negation}
-use Rattle.cgm_atom.specs.Bounds.{Bounds, IsBoxOf}
+use Rattle.cgm_atom.specs.Bounds.{Bounds}
 use Rattle.cgm_atom.specs.ClauseAtoms.{AreKnown}
 use Rattle.cgm_atom.specs.Constraints.{Constraint}
 use Rattle.cgm_atom.specs.Instance.{Instance, fault_unless, first_some, var_count}
 use Rattle.cgm_atom.specs.Laws.{IsSmaller}
-use Rattle.cgm_atom.specs.Limits.{IsWellFormed, max_workers}
+use Rattle.cgm_atom.specs.Limits.{IsWellFormed}
 use Rattle.cgm_atom.specs.LogState.{LogState, all_narrowed, greatest_carried, named}
-use Rattle.cgm_atom.specs.Narrowing.{all_assumed, is_false_in, is_true_in, made_true}
+use Rattle.cgm_atom.specs.Narrowing.{all_assumed, is_false_in, made_true}
 use Rattle.cgm_atom.specs.Placing.{placed}
-use Rattle.cgm_atom.specs.Ranges.{IsAtomInRange, IsHintInRange, IsInRange}
+use Rattle.cgm_atom.specs.Ranges.{IsAtomInRange, IsHintInRange}
 use Rattle.cgm_atom.proofs.Shrinking.{IsSmaller-same, IsSmaller-trans, false_in_smaller, made_true_shrinks}
-use Rattle.cgm_trail.specs.Rank.{IsTrail}
 use Rattle.cgm_trail.specs.TrailState.{IsOpenIn, TrailState, box_of, cut_trail, level_of}
 use Rattle.cgm_learn.specs.declared.hints.Used.{Used}
 use Rattle.cgm_learn.specs.declared.learned.Learned.{Learned}
 use Rattle.cgm_learn.specs.declared.places.Place.{Place}
-use Rattle.cgm_learn.specs.declared.turns.Turn.{Turn}
-use Rattle.cgm_learn.specs.Learning.{IsAcceptedLemma, IsKnownHint, IsLemmaInRange, IsUnitAfterCut, IsUnitAtLast, named_after, state_with_pending}
-use Rattle.cgm_learn.specs.Walking.{AreNegations, IsLesson, IsPlaceOf, IsReady, IsTurn, IsUsable, IsUsed, box_at, followed, left_by_used}
+use Rattle.cgm_learn.specs.declared.walks.Turn.{Turn}
+use Rattle.cgm_learn.specs.declared.walks.Walk.{Walk}
+use Rattle.cgm_learn.specs.Grounds.{GroundState, IsGround, IsKnownOn, whole_state}
+use Rattle.cgm_learn.specs.Learning.{IsAcceptedLemma, IsLemmaInRange, IsUnitAtLast, named_after}
+use Rattle.cgm_learn.specs.Walking.{AreNegations, IsEnd, IsLesson, IsPlaceOf, IsTurn, IsUsable, IsUsed, followed, left_by_used}
 use Rattle.cgm_learn.proofs.Boxes.{false_made, inside_from, made_counts, negation_open, open_in_larger, true_negation}
 use Rattle.cgm_learn.proofs.Changes.{IsCutBetween, cut_between, cut_box, level_at_decision}
+use Rattle.cgm_learn.proofs.Following.{smaller_refuted}
 use Rattle.cgm_learn.proofs.Pending.{open_whole}
 
 -- ---- lists
@@ -126,8 +128,8 @@ not_none : (o : Option Constraint) → o ≢ None → is_none o ≡ false
 not_none None h = absurd (h refl)
 not_none (Some k) h = refl
 
-usable_there : (p : Instance) (s : LogState) (lemmas : List Entry) (h : Hint) → IsUsable p s lemmas h → is_none (named p (state_with_pending s lemmas) (placed (length s.entries) h)) ≡ false
-usable_there p s lemmas h name = not_none (named_after p s lemmas h) name.there
+usable_there : (g : GroundState) (h : Hint) → IsUsable g h → is_none (named g.problem (whole_state g) (placed (length g.state.entries) h)) ≡ false
+usable_there g h name = not_none (named_after g.problem g.state g.pending h) name.there
 
 -- the lemma with these atoms and the hints that were used
 record IsMade (l : Learned) (atoms : List Atom) (u : Used) : Type 0 where
@@ -135,28 +137,28 @@ record IsMade (l : Learned) (atoms : List Atom) (u : Used) : Type 0 where
   hints_are : l.hints ≡ reverse u.hints.items
   bound_is : l.bound ≡ u.bound
 
-accepted_by : (p : Instance) (s : LogState) (lemmas : List Entry) (l : Learned) (atoms : List Atom) (u : Used) → IsReady p s lemmas → s.closed ≡ false → IsWellFormed p → IsMade l atoms u → IsUsed p s lemmas u → AreKnown (var_count p) atoms → ((b : Bounds) → IsSmaller b p.bounds → All (λ a. is_false_in b a ≡ true) atoms → left_by_used p s lemmas u b ≡ None) → IsAcceptedLemma p s lemmas l
-accepted_by p s lemmas l atoms u ready still_open valid made used known refuted = λ worker.
-    let whole = state_with_pending s lemmas in
-    let n = length s.entries in
+accepted_by : (g : GroundState) (l : Learned) (atoms : List Atom) (u : Used) → IsGround g → IsWellFormed g.problem → IsMade l atoms u → IsUsed g u → AreKnown (var_count g.problem) atoms → ((b : Bounds) → IsSmaller b g.problem.bounds → All (λ a. is_false_in b a ≡ true) atoms → left_by_used g u b ≡ None) → IsAcceptedLemma g.problem g.state g.pending l
+accepted_by g l atoms u valid_ground valid made used known refuted = λ worker.
+    let whole = whole_state g in
+    let n = length g.state.entries in
     let hints : map (placed n) l.hints ≡ followed n u.hints.items = ap (map (placed n)) made.hints_are in
     rw (hints, made.bound_is)
-    (passes p whole worker u.bound l.clause (followed n u.hints.items) (open_whole p s lemmas ready still_open)
+    (passes g.problem whole worker u.bound l.clause (followed n u.hints.items) (open_whole g valid_ground)
     (rw made.atoms_are known)
-    (All-map (λ h. is_none (named p whole h) ≡ false) (placed n) (reverse u.hints.items) (all_reversed (λ h. is_none (named p whole (placed n h)) ≡ false) u.hints.items (All-weaker (IsUsable p s lemmas) (λ h. is_none (named p whole (placed n h)) ≡ false) (usable_there p s lemmas) u.hints.items used.usable)))
+    (All-map (λ h. is_none (named g.problem whole h) ≡ false) (placed n) (reverse u.hints.items) (all_reversed (λ h. is_none (named g.problem whole (placed n h)) ≡ false) u.hints.items (All-weaker (IsUsable g) (λ h. is_none (named g.problem whole (placed n h)) ≡ false) (usable_there g) u.hints.items used.usable)))
     used.bound
-    (refuted_by p whole l.clause (followed n u.hints.items)
-    (rw made.atoms_are (all_falsified (all_assumed p.bounds (map negation atoms)) p.bounds atoms (λ b. all_narrowed p whole b (followed n u.hints.items) ≡ None) (falsified p.bounds atoms valid.proper.same_count known) refuted))))
+    (refuted_by g.problem whole l.clause (followed n u.hints.items)
+    (rw made.atoms_are (all_falsified (all_assumed g.problem.bounds (map negation atoms)) g.problem.bounds atoms (λ b. all_narrowed g.problem whole b (followed n u.hints.items) ≡ None) (falsified g.problem.bounds atoms valid.proper.same_count known) refuted))))
 
-known_by : (p : Instance) (s : LogState) (lemmas : List Entry) (l : Learned) (atoms : List Atom) (u : Used) → IsMade l atoms u → IsUsed p s lemmas u → All (IsKnownHint (length s.entries) (length lemmas)) l.hints
-known_by p s lemmas l atoms u made used =
-    rw made.hints_are (all_reversed (IsKnownHint (length s.entries) (length lemmas)) u.hints.items (All-weaker (IsUsable p s lemmas) (IsKnownHint (length s.entries) (length lemmas)) (λ h use'. use'.known) u.hints.items used.usable))
+known_by : (g : GroundState) (l : Learned) (atoms : List Atom) (u : Used) → IsMade l atoms u → IsUsed g u → All (IsKnownOn g) l.hints
+known_by g l atoms u made used =
+    rw made.hints_are (all_reversed (IsKnownOn g) u.hints.items (All-weaker (IsUsable g) (IsKnownOn g) (λ h use'. use'.known) u.hints.items used.usable))
 
-range_by : (p : Instance) (s : LogState) (lemmas : List Entry) (l : Learned) (atoms : List Atom) (u : Used) → IsMade l atoms u → IsUsed p s lemmas u → All IsAtomInRange atoms → IsLemmaInRange l
-range_by p s lemmas l atoms u made used range = λ worker below. (
+range_by : (g : GroundState) (l : Learned) (atoms : List Atom) (u : Used) → IsMade l atoms u → IsUsed g u → All IsAtomInRange atoms → IsLemmaInRange l
+range_by g l atoms u made used range = λ worker below. (
   below,
   rw made.atoms_are range,
-  rw made.hints_are (all_reversed IsHintInRange u.hints.items (All-weaker (IsUsable p s lemmas) IsHintInRange (λ h use'. use'.range) u.hints.items used.usable)),
+  rw made.hints_are (all_reversed IsHintInRange u.hints.items (All-weaker (IsUsable g) IsHintInRange (λ h use'. use'.range) u.hints.items used.usable)),
   rw made.bound_is used.fits,
 )
 
@@ -165,13 +167,16 @@ range_by p s lemmas l atoms u made used range = λ worker below. (
 nothing_false : (b : Bounds) → All (λ (a : Atom). is_false_in b a ≡ true) []
 nothing_false b = All-nil (λ (a : Atom). is_false_in b a ≡ true)
 
-pub lesson_at_end : (p : Instance) (s : LogState) (lemmas : List Entry) (t : TrailState) (l : Learned) (u : Used) → IsReady p s lemmas → s.closed ≡ false → IsWellFormed p → IsUsed p s lemmas u → ((b : Bounds) → IsSmaller b p.bounds → left_by_used p s lemmas u b ≡ None) → l.clause.atoms ≡ [] → l.hints ≡ reverse u.hints.items → l.bound ≡ u.bound → IsLesson p s lemmas t l
-lesson_at_end p s lemmas t l u ready still_open valid used refuted e f g =
-    let made : IsMade l [] u = record { atoms_are = e; hints_are = f; bound_is = g } in
+pub lesson_at_end : (g : GroundState) (t : TrailState) (l : Learned) (walk : Walk) → IsGround g → IsWellFormed g.problem → IsEnd g walk → l.clause.atoms ≡ [] → l.hints ≡ reverse walk.used.hints.items → l.bound ≡ walk.used.bound → IsLesson g t l
+lesson_at_end g t l walk valid_ground valid end e f k =
+    let u : Used = walk.used in
+    let made : IsMade l [] u = record { atoms_are = e; hints_are = f; bound_is = k } in
     record {
-      accepted = accepted_by p s lemmas l [] u ready still_open valid made used (All-nil (λ (a : Atom). a.var.0 < var_count p)) (λ b smaller falses. refuted b smaller);
-      known = known_by p s lemmas l [] u made used;
-      range = range_by p s lemmas l [] u made used (All-nil IsAtomInRange);
+      accepted =
+          accepted_by g l [] u valid_ground valid made end.used (All-nil (λ (a : Atom). a.var.0 < var_count g.problem))
+          (λ b smaller falses. smaller_refuted g u b g.problem.bounds smaller end.refuted);
+      known = known_by g l [] u made end.used;
+      range = range_by g l [] u made end.used (All-nil IsAtomInRange);
       last = λ zero_level. e;
       unit = λ some_atoms. absurd (some_atoms e);
     }
@@ -198,28 +203,36 @@ unit_by t l rest base first others a level place earlier inside undecided e fals
           (open_in_larger base.state cut a (rw place.state boxes.1) undecided),
     )
 
-pub lesson_at_turn : (p : Instance) (s : LogState) (lemmas : List Entry) (t : TrailState) (l : Learned) (u : Used) (turn : Turn) (rest : Bounds) (first : Place) (others : List Atom) (opposite : Atom) → IsReady p s lemmas → s.closed ≡ false → IsWellFormed p → IsTurn p s lemmas t rest u turn → AreNegations p.bounds rest (var_count p) others → opposite ≡ negation turn.atom → IsAtomInRange opposite → IsPlaceOf t first → first.at ≤ turn.base.at → IsSmaller first.state rest → l.clause.atoms ≡ others ++ opposite ∷ [] → l.hints ≡ reverse u.hints.items → l.bound ≡ u.bound → l.level ≡ first.level → IsLesson p s lemmas t l
-lesson_at_turn p s lemmas t l u turn rest first others opposite ready still_open valid far negations same range place h inside e f g k =
+pub lesson_at_turn : (g : GroundState) (t : TrailState) (l : Learned) (walk : Walk) (turn : Turn) (first : Place) (others : List Atom) (opposite : Atom) → IsGround g → IsWellFormed g.problem → IsTurn g t walk turn → AreNegations g.problem.bounds walk.need (var_count g.problem) others → opposite ≡ negation turn.atom → IsAtomInRange opposite → IsPlaceOf t first → first.at ≤ turn.base.at → IsSmaller first.state walk.need → l.clause.atoms ≡ others ++ opposite ∷ [] → l.hints ≡ reverse walk.used.hints.items → l.bound ≡ walk.used.bound → l.level ≡ first.level → IsLesson g t l
+lesson_at_turn g t l walk turn first others opposite valid_ground valid far negations same range place h inside e f bound k =
+    let u : Used = walk.used in
+    let rest : Bounds = walk.need in
     let atoms : List Atom = others ++ opposite ∷ [] in
-    let made : IsMade l atoms u = record { atoms_are = e; hints_are = f; bound_is = g } in
+    let made : IsMade l atoms u = record { atoms_are = e; hints_are = f; bound_is = bound } in
     let limits = far.enough.limits in
-    let counts : length turn.base.state.lower ≡ length p.bounds.lower = far.enough.inside.lower_count ∙ limits.lower_count in
+    let counts : length turn.base.state.lower ≡ length g.problem.bounds.lower = far.enough.inside.lower_count ∙ limits.lower_count in
     let undecided = far.enough.undecided in
     let open' = undecided.known in
-    let last_known : turn.atom.var.0 < var_count p = omega (arith, open', counts) in
-    let known : AreKnown (var_count p) atoms = All-push (λ a. a.var.0 < var_count p) others opposite negations.known (rw same last_known) in
+    let last_known : turn.atom.var.0 < var_count g.problem = omega (arith, open', counts) in
+    let known : AreKnown (var_count g.problem) atoms = All-push (λ a. a.var.0 < var_count g.problem) others opposite negations.known (rw same last_known) in
     let between : IsCutBetween t.changes first.level first.at turn.base.at = rw place.level (cut_between t.changes first.at turn.base.at far.decision.0 far.decision.1 far.decision.2 h) in
     record {
       accepted =
-          accepted_by p s lemmas l atoms u ready still_open valid made far.enough.used known
+          accepted_by g l atoms u valid_ground valid made far.enough.used known
           (λ b smaller falses.
-          let count : length b.lower ≡ var_count p = smaller.lower_count in
-          let count' : length b.upper ≡ var_count p = smaller.upper_count ∙ valid.proper.same_count in
+          let count : length b.lower ≡ var_count g.problem = smaller.lower_count in
+          let count' : length b.upper ≡ var_count g.problem = smaller.upper_count ∙ valid.proper.same_count in
           far.enough.refuted b
-          (inside_from b rest (var_count p) (count ∙ sym limits.lower_count) (count' ∙ sym limits.upper_count) count count' (negations.covered b smaller (all_front (λ a. is_false_in b a ≡ true) others (opposite ∷ []) falses)))
+          (inside_from b rest (var_count g.problem) (count ∙ sym limits.lower_count) (count' ∙ sym limits.upper_count) count count' (negations.covered b smaller (all_front (λ a. is_false_in b a ≡ true) others (opposite ∷ []) falses)))
           (true_negation b turn.atom (subst (λ a. is_false_in b a ≡ true) same (All-head (λ a. is_false_in b a ≡ true) opposite [] (all_back (λ a. is_false_in b a ≡ true) others (opposite ∷ []) falses)))));
-      known = known_by p s lemmas l atoms u made far.enough.used;
-      range = range_by p s lemmas l atoms u made far.enough.used (All-push IsAtomInRange others opposite negations.range range);
+      known = known_by g l atoms u made far.enough.used;
+      range = range_by g l atoms u made far.enough.used (All-push IsAtomInRange others opposite negations.range range);
       last = λ zero_level. let some_level = level_at_decision t.changes turn.base.at far.decision.0 far.decision.1 far.decision.2 in absurd (omega (arith, zero_level, some_level));
       unit = λ some_atoms. unit_by t l rest turn.base first others turn.atom first.level far.place place inside undecided (e ∙ ap (λ a. others ++ a ∷ []) same) negations.falses k between;
     }
+
+-- ---- the parts of a ground
+
+pub lesson_accepted : {E : Type 0} (p : Instance) (s : LogState) (lemmas : List Entry) (g : GroundState) (t : TrailState) (r : Result Learned E) → g ≡ record { problem = p; state = s; pending = lemmas } → IfOk r (IsLesson g t) → IfOk r (IsAcceptedLemma p s lemmas)
+lesson_accepted p s lemmas g t (Ok l) e h = subst (λ (q : GroundState). IsAcceptedLemma q.problem q.state q.pending l) e h.accepted
+lesson_accepted p s lemmas g t (Err x) e h = tt

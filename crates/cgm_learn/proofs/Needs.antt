@@ -1,6 +1,6 @@
 -- What a clause and a row need: bounds that are added to those needed, and what narrowing gives by them.
-use Rattle.std.proofs.Common.{◌≡◌, ◌≢◌, ℕ, zero, suc, ◌+◌, ◌<◌, ◌≤◌, ◌⊎◌, inl, inr, Bool, true, false, not, cond, List, [], ◌∷◌, length, get_or, refl, ap, sym, ◌∙◌, subst, arith, length-set}
-use Rattle.std.specs.Prelude.{ℤ, pos, ◌+ℤ◌, ◌-ℤ◌, ◌≤ℤ◌, ◌<ℤ◌, int_le, int_lt, slice_get, slice_set, if◌then◌else◌, IfSome, IsSomeAnd}
+use Rattle.std.proofs.Common.{◌≡◌, ℕ, zero, suc, ◌+◌, ◌<◌, ◌≤◌, ◌⊎◌, inl, inr, Bool, true, false, not, cond, List, [], ◌∷◌, length, refl, ap, sym, ◌∙◌, subst, arith, length-set}
+use Rattle.std.specs.Prelude.{ℤ, pos, ◌+ℤ◌, ◌-ℤ◌, ◌≤ℤ◌, ◌<ℤ◌, int_le, int_lt, slice_get, if◌then◌else◌, IfSome, IsSomeAnd}
 use Rattle.std.specs.declared.option.Option.{Option}
 use Rattle.std.specs.declared.option.Option.TheVariants.{Some, None}
 use Rattle.std.specs.Int.{int_max, int_min}
@@ -20,10 +20,10 @@ use Rattle.cgm_atom.specs.Laws.{IsSmaller}
 use Rattle.cgm_atom.specs.Narrowing.{is_false_in, is_true_in, left_by_atoms, left_by_clause, made_true, raised, reduced}
 use Rattle.cgm_atom.proofs.Assuming.{value_of-set}
 use Rattle.cgm_atom.proofs.Shrinking.{IsSmaller-same, IsSmaller-trans, false_in_smaller, made_true_shrinks}
-use Rattle.cgm_atom.proofs.SignedSteps.{le_is_true, ≤ℤ_refl, ≤ℤ_trans}
+use Rattle.cgm_atom.proofs.SignedSteps.{le_is_true, ≤ℤ_trans}
 use Rattle.cgm_trail.proofs.Replaying.{box_of_itself}
 use Rattle.cgm_learn.specs.Walking.{IsExplained}
-use Rattle.cgm_learn.proofs.Boxes.{false_made, made_counts, read_le, read_lt, read_not_le, read_not_lt}
+use Rattle.cgm_learn.proofs.Boxes.{false_made, read_le, read_lt, read_not_le}
 
 -- ---- an atom that is added
 

@@ -1,5 +1,5 @@
 -- The log that the pending lemmas follow: it is accepted and still open, and hints name and carry in it what they do in the log.
-use Rattle.std.proofs.Common.{◌≡◌, ℕ, zero, suc, ◌+◌, ◌<◌, ◌≤◌, Bool, true, false, ◌||◌, List, [], ◌∷◌, ◌++◌, length, refl, ap, sym, ◌∙◌, subst, arith, append-nil}
+use Rattle.std.proofs.Common.{◌≡◌, ℕ, zero, suc, ◌+◌, ◌≤◌, false, ◌||◌, List, [], ◌∷◌, ◌++◌, length, refl, ap, sym, ◌∙◌, arith, append-nil}
 use Rattle.std.specs.Prelude.{slice_get, ◌≢◌, ◌==◌}
 use Rattle.std.specs.declared.option.Option.{Option}
 use Rattle.std.specs.declared.option.Option.TheVariants.{Some, None}
@@ -16,7 +16,7 @@ use Rattle.cgm_atom.specs.declared.entries.Hint.{Hint}
 use Rattle.cgm_atom.specs.declared.entries.Hint.TheVariants as hint
 use Rattle.cgm_atom.specs.Acceptance.{IsAcceptedAfter, IsAcceptedState}
 use Rattle.cgm_atom.specs.ClauseAtoms.{AreKnown}
-use Rattle.cgm_atom.specs.Constraints.{Constraint, of_clause}
+use Rattle.cgm_atom.specs.Constraints.{of_clause}
 use Rattle.cgm_atom.specs.Cut.{cut}
 use Rattle.cgm_atom.specs.Entailment.{best_values}
 use Rattle.cgm_atom.specs.Instance.{Instance, var_count, vector}
@@ -29,7 +29,7 @@ use Rattle.cgm_step.specs.declared.naming.Found.{Found}
 use Rattle.cgm_step.specs.Naming.{IsFound}
 use Rattle.cgm_step.proofs.Accepted.{lemma_atoms_known}
 use Rattle.cgm_learn.specs.Learning.{IsKnownHint, IsOpenLemma, state_with_pending}
-use Rattle.cgm_learn.specs.Walking.{IsReady}
+use Rattle.cgm_learn.specs.Grounds.{GroundState, IsFoundOn, IsGround, IsKnownOn, placed_on, whole_state}
 
 -- ---- the state
 
@@ -64,8 +64,8 @@ accepted_after p s [] h k = h
 accepted_after p s (e ∷ more) h k = accepted_after p (state_with s e) more (accepted_states_grow p s e h k.0) k.1
 
 -- it is accepted
-pub accepted_whole : (p : Instance) (s : LogState) (lemmas : List Entry) → IsReady p s lemmas → IsAcceptedState p (state_with_pending s lemmas)
-accepted_whole p s lemmas ready = accepted_after p s (all_placed (length s.entries) lemmas) ready.accepted ready.follows
+pub accepted_whole : (g : GroundState) → IsGround g → IsAcceptedState g.problem (whole_state g)
+accepted_whole g valid = accepted_after g.problem g.state (all_placed (length g.state.entries) g.pending) valid.accepted valid.follows
 
 some_atoms : (atoms : List Atom) → atoms ≢ [] → (length atoms == 0) ≡ false
 some_atoms [] h = absurd (h refl)
@@ -80,8 +80,8 @@ open_after n s (Lemma by clause hints bound ∷ lemmas) e h =
     (All-tail IsOpenLemma (Lemma by clause hints bound) lemmas h)
 
 -- and still open
-pub open_whole : (p : Instance) (s : LogState) (lemmas : List Entry) → IsReady p s lemmas → s.closed ≡ false → (state_with_pending s lemmas).closed ≡ false
-open_whole p s lemmas ready e = open_after (length s.entries) s lemmas e ready.with_atoms
+pub open_whole : (g : GroundState) → IsGround g → (whole_state g).closed ≡ false
+open_whole g valid = open_after (length g.state.entries) g.state g.pending valid.still_open valid.with_atoms
 
 -- ---- what entries and bests stay
 
@@ -148,8 +148,8 @@ same_of_log s lemmas log h all =
       bests = λ ordinal. best_same log (all_placed (length log) lemmas) ordinal (no_bests (length log) lemmas all);
     })
 
-same_in_whole : (p : Instance) (s : LogState) (lemmas : List Entry) → IsReady p s lemmas → AreSame (state_with_pending s lemmas) s (length s.entries)
-same_in_whole p s lemmas ready = same_of_log s lemmas ready.accepted.0 (of_log s lemmas ready.accepted.0 ready.accepted.2) ready.with_atoms
+same_in_whole : (g : GroundState) → IsGround g → AreSame (whole_state g) g.state (length g.state.entries)
+same_in_whole g valid = same_of_log g.state g.pending valid.accepted.0 (of_log g.state g.pending valid.accepted.0 valid.accepted.2) valid.with_atoms
 
 named_same : (p : Instance) (s t : LogState) (n m : ℕ) (h : Hint) → AreSame s t n → IsPlaced h → IsKnownHint n m h → named p s (placed n h) ≡ named p t h
 named_same p s t n m (hint.Clause i) same is_placed known = named_by_clause p s t i
@@ -170,10 +170,10 @@ found_same p s t h h' None e f found = e ∙ found
 found_same p s t h h' (Some n) e f found = (e ∙ found.0, found.1, found.2 ∙ sym f)
 
 -- a hint to the log or the problem leads to the same
-pub found_in_whole : (p : Instance) (s : LogState) (lemmas : List Entry) (h : Hint) (r : Option Found) → IsReady p s lemmas → IsKnownHint (length s.entries) (length lemmas) h → IsPlaced h → IsFound p s h r → IsFound p (state_with_pending s lemmas) (placed (length s.entries) h) r
-found_in_whole p s lemmas h r ready known is_placed found =
-    let same = same_in_whole p s lemmas ready in
-    found_same p (state_with_pending s lemmas) s h (placed (length s.entries) h) r (named_same p (state_with_pending s lemmas) s (length s.entries) (length lemmas) h same is_placed known) (carried_same (state_with_pending s lemmas) s (length s.entries) (length lemmas) h same is_placed known) found
+pub found_in_whole : (g : GroundState) (h : Hint) (r : Option Found) → IsGround g → IsKnownOn g h → IsPlaced h → IsFound g.problem g.state h r → IsFoundOn g h r
+found_in_whole g h r valid known is_placed found =
+    let same = same_in_whole g valid in
+    found_same g.problem (whole_state g) g.state h (placed_on g h) r (named_same g.problem (whole_state g) g.state (length g.state.entries) (length g.pending) h same is_placed known) (carried_same (whole_state g) g.state (length g.state.entries) (length g.pending) h same is_placed known) found
 
 -- ---- pending lemmas
 
@@ -199,12 +199,15 @@ pending_in_log p s lemmas log i by bound clause hints h e =
       sym (placed_carry_pending log lemmas i ∙ ap (λ o. option_map_or lemma_bound o 0) e),
     )
 
-pub pending_found : (p : Instance) (s : LogState) (lemmas : List Entry) (i j by bound : ℕ) (clause : Clause) (hints : List Hint) → IsReady p s lemmas → i ≡ j + 1 → slice_get lemmas j ≡ Some (Lemma by clause hints bound) → IsPendingFound p s lemmas i clause bound
-pending_found p s lemmas i j by bound clause hints ready e found =
-    let parts = pending_in_log p s lemmas ready.accepted.0 j by bound clause hints (of_log s lemmas ready.accepted.0 ready.accepted.2) found in
+pub pending_found : (g : GroundState) (i j by bound : ℕ) (clause : Clause) (hints : List Hint) → IsGround g → i ≡ j + 1 → slice_get g.pending j ≡ Some (Lemma by clause hints bound) → IsPendingFound g.problem g.state g.pending i clause bound
+pending_found g i j by bound clause hints valid e found =
+    let p : Instance = g.problem in
+    let s : LogState = g.state in
+    let lemmas : List Entry = g.pending in
+    let parts = pending_in_log p s lemmas valid.accepted.0 j by bound clause hints (of_log s lemmas valid.accepted.0 valid.accepted.2) found in
     rw e
     (record {
       there = parts.0;
-      known = lemma_atoms_known p (state_with_pending s lemmas) (length s.entries + (j + 1)) clause (accepted_whole p s lemmas ready) (named_clause p (state_with_pending s lemmas) (length s.entries + (j + 1)) clause parts.0);
+      known = lemma_atoms_known p (whole_state g) (length s.entries + (j + 1)) clause (accepted_whole g valid) (named_clause p (whole_state g) (length s.entries + (j + 1)) clause parts.0);
       carries = parts.1;
     })

@@ -1,34 +1,30 @@
 -- What a row needs: its guard, and for each term how far its bound may be out.
-use Rattle.std.proofs.Common.{◌≡◌, ◌≢◌, ℕ, zero, suc, ◌+◌, ◌-◌, ◌*◌, ◌/◌, ◌%◌, min, ◌<◌, ◌≤◌, ◌⊎◌, inl, inr, Bool, true, false, not, cond, List, [], ◌∷◌, length, get_or, drop, refl, ap, sym, ◌∙◌, subst, arith, length-set}
-use Rattle.std.specs.Prelude.{ℤ, pos, negsuc, ◌+ℤ◌, ◌-ℤ◌, ◌*ℤ◌, ◌≤ℤ◌, ◌<ℤ◌, int_le, int_lt, unsigned_abs, slice_set, ◌==◌, if◌then◌else◌, IfSome, IsSomeAnd}
+use Rattle.std.proofs.Common.{◌≡◌, ◌≢◌, ℕ, zero, suc, ◌+◌, ◌-◌, ◌*◌, ◌/◌, min, ◌<◌, ◌≤◌, Bool, true, false, not, cond, List, [], ◌∷◌, length, get_or, drop, refl, ap, sym, ◌∙◌, subst, arith}
+use Rattle.std.specs.Prelude.{ℤ, pos, negsuc, ◌+ℤ◌, ◌-ℤ◌, ◌*ℤ◌, ◌≤ℤ◌, ◌<ℤ◌, int_le, int_lt, unsigned_abs, ◌==◌, IfSome}
 use Rattle.std.specs.declared.option.Option.{Option}
 use Rattle.std.specs.declared.option.Option.TheVariants.{Some, None}
 use Rattle.std.specs.Int.{int_max, int_min}
-use Rattle.std.proofs.lemmas.Bool.{eq-eqb, eqb-true, false≢true, ne_eqb}
+use Rattle.std.proofs.lemmas.Bool.{eq-eqb, eqb-true, false≢true}
 use Rattle.std.proofs.lemmas.Int.{ints, clamps}
 use Rattle.std.proofs.lemmas.List.{get_or-set_other, get_or-set_same, drop_all}
-use Rattle.std.proofs.Math.Nat.{mul-le-mul_left, div-add-mod, lt_of_mul-lt-mul_left}
+use Rattle.std.proofs.Math.Nat.{mul-le-mul_left, div-add-mod}
 use borrow.Author.Differences.{up, down}
 use Rattle.cgm_atom.specs.declared.constraints.Atom.{Atom}
-use Rattle.cgm_atom.specs.declared.constraints.Row.{Row}
 use Rattle.cgm_atom.specs.declared.constraints.Var.{Var}
-use Rattle.cgm_atom.specs.Atoms.{negation}
 use Rattle.cgm_atom.specs.Bounds.{Bounds, IsBoxOf, IsProper, lower_of, upper_of}
 use Rattle.cgm_atom.specs.Laws.{IsSmaller}
-use Rattle.cgm_atom.specs.Limits.{AreTermsOf, IsAbsent, IsBound, max_bound}
-use Rattle.cgm_atom.specs.Narrowing.{greatest_activity, greatest_term, is_claimed_in, is_false_in, is_true_in, kept_atom, left_by_row, left_by_unmet, made_true, raised, reduced, tightened_by_term, tightened_by_terms}
-use Rattle.cgm_atom.proofs.Keeping.{greatest_term-pos}
-use Rattle.cgm_atom.proofs.RowTightening.{left_by_row-claimed, left_by_row-open, left_by_row-unmet}
-use Rattle.cgm_atom.proofs.Shrinking.{IsSmaller-same, IsSmaller-trans, activity_smaller, claimed_in_smaller, made_true_shrinks, term_smaller, tightened_by_term_shrinks, tightened_by_terms_shrinks, true_in_smaller}
+use Rattle.cgm_atom.specs.Limits.{AreTermsOf}
+use Rattle.cgm_atom.specs.Narrowing.{greatest_activity, greatest_term, is_true_in, made_true, raised, reduced}
+use Rattle.cgm_atom.proofs.Shrinking.{IsSmaller-trans, term_smaller}
 use Rattle.cgm_atom.specs.Steps.{AreBounds}
 use Rattle.cgm_atom.proofs.Tightening.{AreBounds-inside}
 use Rattle.cgm_atom.proofs.SignedSteps.{le_is_true, lt_is_false, lt_is_true, scaled_down, scaled_up, sum_at_most, ≤ℤ_refl, ≤ℤ_trans}
 use Rattle.cgm_trail.specs.TrailState.{IsOpenIn}
 use Rattle.cgm_trail.proofs.Replaying.{box_of_itself}
 use Rattle.cgm_learn.specs.Terms.{HoldsIn, box_with, far_atom, far_bound, is_far_of, is_left_out}
-use Rattle.cgm_learn.specs.Walking.{IsExplained}
-use Rattle.cgm_learn.proofs.Boxes.{made_counts, read_le, read_lt, read_not_le, read_not_lt}
-use Rattle.cgm_learn.proofs.Needs.{explained_same, explained_then, made_gives, proper_larger}
+use Rattle.cgm_learn.specs.Walking.{IsExplained, IsExplainedIn, IsNeedOf}
+use Rattle.cgm_learn.proofs.Boxes.{read_le, read_not_le}
+use Rattle.cgm_learn.proofs.Needs.{explained_same, explained_then, proper_larger}
 
 -- ---- an atom that is made true
 
@@ -249,6 +245,15 @@ pub between : (work old new : Bounds) → IsProper work → IsSmaller work old �
 between work old new proper inside explained =
     let mine = explained old (box_of_itself old (proper_larger work old proper inside)) in
     record { inside = mine.inside; more = mine.more }
+
+-- what was added is needed of the box
+pub need_between : (work old new : Bounds) → IsNeedOf work old → IsExplainedIn work old new → IsNeedOf work new
+need_between work old new needed explained = record {
+  proper = needed.proper;
+  inside = (between work old new needed.proper needed.inside explained).inside;
+  work_sizes = needed.work_sizes;
+  need_sizes = sizes_between work old new needed.proper needed.need_sizes needed.inside explained;
+}
 
 -- what is left of a slack
 pub spend : (by size amount slack : ℕ) → size ≡ amount → by * size ≤ slack → by * amount + (slack - by * size) ≡ slack

@@ -1,5 +1,5 @@
 -- What is learned from a conflict: a lemma that is accepted after the log and the pending lemmas, and that is unit after a cut.
-use Rattle.std.specs.Prelude.{◌≡◌, ◌≢◌, true, false, ℕ, ◌<◌, ◌≤◌, List, [], ◌∷◌, ◌++◌, length, Option, Some, None}
+use Rattle.std.specs.Prelude.{◌≡◌, ◌≢◌, true, ℕ, ◌<◌, ◌≤◌, List, [], ◌∷◌, ◌++◌, length, Option, Some, None}
 use Rattle.std.specs.List.{All}
 use Rattle.cgm_atom.specs.declared.constraints.Atom.{Atom}
 use Rattle.cgm_atom.specs.declared.entries.Entry.{Entry}

@@ -1,3 +1,4 @@
+pub mod Grounds
 pub mod Learning
 pub mod Terms
 pub mod Walking

@@ -1,9 +1,10 @@
 -- The bound that the greatest value of a term reads, and the bound of a box that is left out of what a row needs.
-use Rattle.std.specs.Prelude.{◌≡◌, Bool, true, false, not, cond, ◌==◌, ℕ, ℤ, pos, ◌+ℤ◌, ◌-ℤ◌, int_lt, IfSome, Option, Some, None}
+use Rattle.std.specs.Prelude.{◌≡◌, Bool, true, false, not, cond, ◌==◌, ℕ, ℤ, pos, ◌+ℤ◌, ◌-ℤ◌, ◌≤ℤ◌, int_lt, IfSome, MatchOption, Option, Some, None}
 use Rattle.cgm_atom.specs.declared.constraints.Atom.{Atom}
+use Rattle.cgm_atom.specs.declared.constraints.Row.{Row}
 use Rattle.cgm_atom.specs.declared.constraints.Var.{Var}
 use Rattle.cgm_atom.specs.Bounds.{Bounds, lower_of, upper_of}
-use Rattle.cgm_atom.specs.Narrowing.{is_true_in, made_true}
+use Rattle.cgm_atom.specs.Narrowing.{greatest_activity, is_true_in, made_true}
 
 -- the least value for a negative coefficient, else the greatest
 abbrev pub far_bound : Bounds → ℤ × Var → ℤ
@@ -30,3 +31,9 @@ box_with b (Some a) = made_true b a
 
 abbrev pub HoldsIn : Option Atom → Bounds → Type 0
 HoldsIn own b = IfSome own (λ a. is_true_in b a ≡ true)
+
+-- the row's greatest sum in the box reaches its least value, or misses it by this slack and one
+abbrev pub HasSlack : Row → Bounds → Option ℕ → Type 0
+HasSlack r b found =
+    MatchOption found (r.least ≤ℤ greatest_activity b r.terms)
+    (λ slack. ((pos slack +ℤ greatest_activity b r.terms) +ℤ pos 1) ≡ r.least)

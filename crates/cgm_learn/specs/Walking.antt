@@ -1,39 +1,37 @@
 -- The walk back over a trail: the box that is still needed for the conflict, and the hints that lead from it to conflict.
-use Rattle.std.specs.Prelude.{◌≡◌, ◌≢◌, Bool, true, false, cond, ℕ, ◌+◌, ◌^◌, ◌<◌, ◌≤◌, ◌≤ℤ◌, List, [], ◌∷◌, length, map, take, reverse, slice_get, int_le, int_lt, ℤ, pos, ◌+ℤ◌, ◌-ℤ◌, if◌then◌else◌, IfSome, IsTrue, IsSomeAnd, Option, Some, None, Result, Ok, Err}
+use Rattle.std.specs.Prelude.{◌≡◌, ◌≢◌, Bool, true, false, cond, ℕ, ◌^◌, ◌<◌, ◌≤◌, ◌≤ℤ◌, List, [], ◌∷◌, length, map, take, reverse, slice_get, int_le, int_lt, pos, ◌+ℤ◌, ◌-ℤ◌, if◌then◌else◌, IfSome, IsSomeAnd, Option, Some, None, Result, Ok, Err}
 use Rattle.std.specs.List.{All}
 use Rattle.cgm_atom.specs.declared.constraints.Atom.{Atom}
-use Rattle.cgm_atom.specs.declared.entries.Entry.{Entry}
 use Rattle.cgm_atom.specs.declared.entries.Hint.{Hint}
-use Rattle.cgm_atom.specs.Acceptance.{IsAcceptedState, IsAcceptedAfter}
-use Rattle.cgm_atom.specs.Bounds.{Bounds, IsBoxOf, lower_of, upper_of}
+use Rattle.cgm_atom.specs.Bounds.{Bounds, IsBoxOf, IsProper, lower_of, upper_of}
 use Rattle.cgm_atom.specs.ClauseAtoms.{AreKnown}
 use Rattle.cgm_atom.specs.Constraints.{Constraint, left_by}
-use Rattle.cgm_atom.specs.Instance.{Instance, var_count}
 use Rattle.cgm_atom.specs.Laws.{IsSmaller}
 use Rattle.cgm_atom.specs.Limits.{IsBound}
-use Rattle.cgm_atom.specs.LogState.{LogState, all_narrowed, greatest_carried}
+use Rattle.cgm_atom.specs.LogState.{all_narrowed, greatest_carried}
 use Rattle.cgm_atom.specs.Narrowing.{is_false_in, is_true_in}
-use Rattle.cgm_atom.specs.Placing.{all_placed, placed}
+use Rattle.cgm_atom.specs.Placing.{placed}
 use Rattle.cgm_atom.specs.Ranges.{IsAtomInRange, IsHintInRange}
+use Rattle.cgm_atom.specs.Steps.{AreBounds}
 use Rattle.cgm_trail.specs.declared.changes.Change.{Change}
 use Rattle.cgm_trail.specs.Steps.{AreReasoned}
 use Rattle.cgm_trail.specs.TrailState.{IsOpenIn, TrailState, box_after, is_decision, level_of}
 use Rattle.cgm_learn.specs.declared.hints.Used.{Used}
 use Rattle.cgm_learn.specs.declared.learned.Learned.{Learned}
 use Rattle.cgm_learn.specs.declared.places.Place.{Place}
-use Rattle.cgm_learn.specs.declared.turns.Turn.{Turn}
-use Rattle.cgm_learn.specs.Learning.{IsKnownHint, IsNameAfter, IsOpenLemma, IsAcceptedLemma, IsLemmaInRange, IsUnitAfterCut, named_after, state_with_pending}
-
--- the log is accepted, and so are the pending lemmas after it, which have atoms
-pub record IsReady (p : Instance) (s : LogState) (lemmas : List Entry) : Type 0 where
-  pub accepted : IsAcceptedState p s
-  pub with_atoms : All IsOpenLemma lemmas
-  pub follows : IsAcceptedAfter p s (all_placed (length s.entries) lemmas)
+use Rattle.cgm_learn.specs.declared.walks.Turn.{Turn}
+use Rattle.cgm_learn.specs.declared.walks.Walk.{Walk}
+use Rattle.cgm_learn.specs.Grounds.{GroundState, IsKnownOn, whole_state}
+use Rattle.cgm_learn.specs.Learning.{IsConflictIn, IsNameAfter, IsAcceptedLemma, IsLemmaInRange, IsUnitAfterCut, named_after}
 
 -- the trail is one of the problem, and each change that isn't a decision has a reason
-pub record IsReasoned (p : Instance) (s : LogState) (lemmas : List Entry) (t : TrailState) : Type 0 where
-  pub problem : t.problem ≡ p
-  pub reasons : AreReasoned (IsNameAfter p s lemmas) p.bounds t.changes
+pub record IsReasoned (g : GroundState) (t : TrailState) : Type 0 where
+  pub problem : t.problem ≡ g.problem
+  pub reasons : AreReasoned (IsNameAfter g.problem g.state g.pending) g.problem.bounds t.changes
+
+-- what the hint names is in conflict with the box
+abbrev pub IsConflictOn : GroundState → Bounds → Hint → Type 0
+IsConflictOn g b h = IsConflictIn g.problem g.state g.pending b h
 
 -- ---- places of a trail
 
@@ -66,63 +64,78 @@ abbrev pub followed : ℕ → List Hint → List Hint
 followed n hints = map (placed n) (reverse hints)
 
 -- the hint names something, and its numbers are in range
-pub record IsUsable (p : Instance) (s : LogState) (lemmas : List Entry) (h : Hint) : Type 0 where
-  pub known : IsKnownHint (length s.entries) (length lemmas) h
+pub record IsUsable (g : GroundState) (h : Hint) : Type 0 where
+  pub known : IsKnownOn g h
   pub range : IsHintInRange h
-  pub there : named_after p s lemmas h ≢ None
+  pub there : named_after g.problem g.state g.pending h ≢ None
 
 -- the bound is the greatest that the hints carry
-pub record IsUsed (p : Instance) (s : LogState) (lemmas : List Entry) (u : Used) : Type 0 where
-  pub usable : All (IsUsable p s lemmas) u.hints.items
+pub record IsUsed (g : GroundState) (u : Used) : Type 0 where
+  pub usable : All (IsUsable g) u.hints.items
   pub fits : u.bound < 2 ^ 64
-  pub bound : u.bound ≡ greatest_carried (state_with_pending s lemmas) (followed (length s.entries) u.hints.items)
+  pub bound : u.bound ≡ greatest_carried (whole_state g) (followed (length g.state.entries) u.hints.items)
 
 -- what is left of a box by the hints
-abbrev pub left_by_used : Instance → LogState → List Entry → Used → Bounds → Option Bounds
-left_by_used p s lemmas u b = all_narrowed p (state_with_pending s lemmas) b (followed (length s.entries) u.hints.items)
+abbrev pub left_by_used : GroundState → Used → Bounds → Option Bounds
+left_by_used g u b = all_narrowed g.problem (whole_state g) b (followed (length g.state.entries) u.hints.items)
 
--- a box of the problem, larger than this one, from which the hints lead to conflict
-pub record IsNeeded (p : Instance) (s : LogState) (lemmas : List Entry) (work need : Bounds) (u : Used) : Type 0 where
-  pub limits : IsBoxOf p.bounds need
-  pub inside : IsSmaller work need
-  pub refuted : left_by_used p s lemmas u need ≡ None
-  pub used : IsUsed p s lemmas u
+-- before anything is needed
+pub record IsFirst (g : GroundState) (w : Walk) : Type 0 where
+  pub whole : w.need ≡ g.problem.bounds
+  pub no_hints : w.used.hints.items ≡ []
+  pub no_bound : w.used.bound ≡ 0
+
+-- a box of the problem, larger than that of the place, from which the hints lead to conflict
+pub record IsNeeded (g : GroundState) (w : Walk) : Type 0 where
+  pub limits : IsBoxOf g.problem.bounds w.need
+  pub inside : IsSmaller w.place.state w.need
+  pub refuted : left_by_used g w.used w.need ≡ None
+  pub used : IsUsed g w.used
 
 -- the same at a place of the trail
-pub record IsWalk (p : Instance) (s : LogState) (lemmas : List Entry) (t : TrailState) (w : Place) (need : Bounds) (u : Used) : Type 0 where
-  pub place : IsPlaceOf t w
-  pub needed : IsNeeded p s lemmas w.state need u
+pub record IsWalk (g : GroundState) (t : TrailState) (w : Walk) : Type 0 where
+  pub place : IsPlaceOf t w.place
+  pub needed : IsNeeded g w
 
--- without the atom a larger box is left, in which the atom is open; with it the hints lead to conflict
-pub record IsRest (p : Instance) (s : LogState) (lemmas : List Entry) (work rest : Bounds) (u : Used) (a : Atom) : Type 0 where
-  pub limits : IsBoxOf p.bounds rest
-  pub inside : IsSmaller work rest
+-- without the atom a box is left that is larger than this one, in which the atom is open; with it the hints lead to conflict
+pub record IsRest (g : GroundState) (work : Bounds) (w : Walk) (a : Atom) : Type 0 where
+  pub limits : IsBoxOf g.problem.bounds w.need
+  pub inside : IsSmaller work w.need
   pub undecided : IsOpenIn work a
   pub size : IsBound a.k
-  pub refuted : (b : Bounds) → IsSmaller b rest → is_true_in b a ≡ true → left_by_used p s lemmas u b ≡ None
-  pub used : IsUsed p s lemmas u
+  pub refuted : (b : Bounds) → IsSmaller b w.need → is_true_in b a ≡ true → left_by_used g w.used b ≡ None
+  pub used : IsUsed g w.used
+
+-- a box is left, in which the atom is true
+abbrev pub HasGiven : Atom → Option Bounds → Type 0
+HasGiven a left = IsSomeAnd left (λ b. is_true_in b a ≡ true)
 
 -- what the hint names leaves of the box one in which the atom is true
-abbrev pub IsCause : Instance → LogState → List Entry → Bounds → Hint → Atom → Type 0
-IsCause p s lemmas b h a =
-    (k : Constraint) × IsNameAfter p s lemmas h k × IsSomeAnd (left_by b k) (λ left. is_true_in left a ≡ true)
+abbrev pub IsCause : GroundState → Bounds → Hint → Atom → Type 0
+IsCause g b h a =
+    (k : Constraint) × IsNameAfter g.problem g.state g.pending h k × HasGiven a (left_by b k)
 
 -- an earlier place, before a decision, whose box lies in the rest
-pub record IsTurn (p : Instance) (s : LogState) (lemmas : List Entry) (t : TrailState) (rest : Bounds) (u : Used) (turn : Turn) : Type 0 where
+pub record IsTurn (g : GroundState) (t : TrailState) (w : Walk) (turn : Turn) : Type 0 where
   pub place : IsPlaceOf t turn.base
   pub decision : IsDecisionAt t turn.base.at
-  pub enough : IsRest p s lemmas turn.base.state rest u turn.atom
+  pub enough : IsRest g turn.base.state w turn.atom
+
+-- the hints lead from the problem's own bounds to conflict
+pub record IsEnd (g : GroundState) (w : Walk) : Type 0 where
+  pub refuted : left_by_used g w.used g.problem.bounds ≡ None
+  pub used : IsUsed g w.used
 
 -- one step back: the walk goes on, or it turns
-abbrev pub IsStepped : {E : Type 0} → Instance → LogState → List Entry → TrailState → Place → Bounds → Used → Result (Option Turn) E → Type 0
-IsStepped p s lemmas t w need u (Ok None) = IsWalk p s lemmas t w need u
-IsStepped p s lemmas t w need u (Ok (Some turn)) = IsTurn p s lemmas t need u turn
-IsStepped p s lemmas t w need u (Err e) = Unit {0}
+abbrev pub IsStepped : {E : Type 0} → GroundState → TrailState → Walk → Result (Option Turn) E → Type 0
+IsStepped g t w (Ok None) = IsWalk g t w
+IsStepped g t w (Ok (Some turn)) = IsTurn g t w turn
+IsStepped g t w (Err e) = Unit {0}
 
--- the whole walk: it turns, or the hints lead from the problem's bounds to conflict
-abbrev pub IsWalkedTo : Instance → LogState → List Entry → TrailState → Bounds → Used → Option Turn → Type 0
-IsWalkedTo p s lemmas t need u None = (left_by_used p s lemmas u p.bounds ≡ None) × IsUsed p s lemmas u
-IsWalkedTo p s lemmas t need u (Some turn) = IsTurn p s lemmas t need u turn
+-- the whole walk: it turns, or it ends
+abbrev pub IsWalkedTo : GroundState → TrailState → Walk → Option Turn → Type 0
+IsWalkedTo g t w None = IsEnd g w
+IsWalkedTo g t w (Some turn) = IsTurn g t w turn
 
 -- ---- explanations
 
@@ -132,9 +145,28 @@ pub record IsExplained (limits work old new : Bounds) : Type 0 where
   pub more : IsSmaller new old
   pub within : IsBoxOf limits new
 
--- the constraint leaves conflict, or a box in which the atom is true
+-- so it is whatever limits the box had that was needed before
+abbrev pub IsExplainedIn : (work old new : Bounds) → Type 0
+IsExplainedIn work old new = (limits : Bounds) → IsBoxOf limits old → IsExplained limits work old new
+
+-- the same for limits of both boxes
+abbrev pub IsExplainedInBoth : (work old new : Bounds) → Type 0
+IsExplainedInBoth work old new =
+    (limits : Bounds) → IsBoxOf limits work → IsBoxOf limits old → IsExplained limits work old new
+
+-- what is needed of a box, both within the limits of bounds
+pub record IsNeedOf (work need : Bounds) : Type 0 where
+  pub proper : IsProper work
+  pub inside : IsSmaller work need
+  pub work_sizes : AreBounds work
+  pub need_sizes : AreBounds need
+
+-- conflict is left, or a box in which the atom is true
+abbrev pub HasLed : Atom → Option Bounds → Type 0
+HasLed a left = IfSome left (λ b. is_true_in b a ≡ true)
+
 abbrev pub IsLedTo : Bounds → Constraint → Atom → Type 0
-IsLedTo b k a = IfSome (left_by b k) (λ left. is_true_in left a ≡ true)
+IsLedTo b k a = HasLed a (left_by b k)
 
 -- ---- the negations of what a box says beyond the limits
 
@@ -161,9 +193,9 @@ pub record AreNegations (limits rest : Bounds) (count : ℕ) (atoms : List Atom)
 
 -- ---- the lemma
 
-pub record IsLesson (p : Instance) (s : LogState) (lemmas : List Entry) (t : TrailState) (l : Learned) : Type 0 where
-  pub accepted : IsAcceptedLemma p s lemmas l
-  pub known : All (IsKnownHint (length s.entries) (length lemmas)) l.hints
+pub record IsLesson (g : GroundState) (t : TrailState) (l : Learned) : Type 0 where
+  pub accepted : IsAcceptedLemma g.problem g.state g.pending l
+  pub known : All (IsKnownOn g) l.hints
   pub range : IsLemmaInRange l
   pub last : level_of t.changes ≡ 0 → l.clause.atoms ≡ []
   pub unit : IsUnitAfterCut t l

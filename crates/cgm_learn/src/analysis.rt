@@ -1,19 +1,19 @@
 //! The analysis of a conflict.
-ghost use Rattle.std.specs.Prelude.{◌≡◌, [], None, false, length, reverse, IfOk};
+ghost use Rattle.std.specs.Prelude.{◌≡◌, [], false, length, reverse, IfOk};
 ghost use Rattle.std.specs.List.{All};
 ghost use Rattle.cgm_atom.specs.Acceptance.{IsAcceptedAfter, IsAcceptedState};
 ghost use Rattle.cgm_atom.specs.Placing.{all_placed};
 ghost use Rattle.cgm_learn.specs.Learning.{IsAcceptedLemma, IsConflictIn, IsKnownHint, IsLemmaInRange, IsNameAfter, IsOpenLemma, IsUnitAfterCut};
-ghost use Rattle.cgm_learn.specs.Walking.{IsLesson, IsPlaceOf, IsReady, IsReasoned, IsTurn, IsUsed, IsWalkedTo, left_by_used};
+ghost use Rattle.cgm_learn.specs.Walking.{IsConflictOn, IsEnd, IsLesson, IsReasoned, IsTurn};
 ghost use Rattle.cgm_trail.specs.Steps.{AreReasoned};
-ghost use Rattle.cgm_trail.specs.TrailState.{box_of, level_of};
+ghost use Rattle.cgm_trail.specs.TrailState.{TrailState, box_of, level_of};
 
-use crate::hints::Used;
+use crate::grounds::Ground;
 use crate::learned::Learned;
 use crate::negations::{negations, opposite};
-use crate::places::{Place, before_level, go_back_within};
-use crate::turns::{Turn, begin, walk};
-use cgm_atom::{BoxState, Clause, Entry, Hint, OutOfMemory, Problem, Seq};
+use crate::places::go_back_within;
+use crate::walks::{Turn, Walk};
+use cgm_atom::{Clause, Entry, Hint, OutOfMemory, Problem, Seq};
 use cgm_step::IndexedLog;
 use cgm_trail::Trail;
 use std::alloc::Global;
@@ -31,130 +31,97 @@ use std::alloc::Global;
 /// to one of the log, each `Own` to a pending lemma, and so are those of what is learned.
 pub fn analyse(
     alloc: Global,
-    p: &Problem,
-    t: &Trail,
+    problem: &Problem,
+    trail: &Trail,
     log: &IndexedLog<'_>,
     pending: &[Entry],
     conflict: &Hint,
 ) -> Result<Learned, OutOfMemory>
-    requires problem { t.now.problem ≡ p.now }
-    requires accepted { IsAcceptedState p.now log.now }
+    requires problem { trail.now.problem ≡ problem.now }
+    requires accepted { IsAcceptedState problem.now log.now }
     requires still_open { log.now.closed ≡ false }
     requires pending_lemmas { All IsOpenLemma pending.now }
-    requires pending_accepted { IsAcceptedAfter p.now log.now (all_placed (length log.now.entries)
-        pending.now) }
-    requires conflict { IsConflictIn p.now log.now pending.now (box_of t.now) conflict.now }
-    requires reasons { AreReasoned (IsNameAfter p.now log.now pending.now) p.now.bounds t.now.changes }
-    ensures accepted { IfOk result (IsAcceptedLemma p.now log.now pending.now) }
-    ensures known { IfOk result (λ l. All (IsKnownHint (length log.now.entries) (length pending.now)) l.hints) }
+    requires pending_accepted { IsAcceptedAfter problem.now log.now
+        (all_placed (length log.now.entries) pending.now) }
+    requires conflict { IsConflictIn problem.now log.now pending.now (box_of trail.now)
+        conflict.now }
+    requires reasons { AreReasoned (IsNameAfter problem.now log.now pending.now) problem.now.bounds
+        trail.now.changes }
+    ensures accepted { IfOk result (IsAcceptedLemma problem.now log.now pending.now) }
+    ensures known { IfOk result
+        (λ l. All (IsKnownHint (length log.now.entries) (length pending.now)) l.hints) }
     ensures range { IfOk result IsLemmaInRange }
-    ensures last { IfOk result (λ l. level_of t.now.changes ≡ 0 → l.clause.atoms ≡ []) }
-    ensures unit { IfOk result (IsUnitAfterCut t.now) }
+    ensures last { IfOk result (λ l. level_of trail.now.changes ≡ 0 → l.clause.atoms ≡ []) }
+    ensures unit { IfOk result (IsUnitAfterCut trail.now) }
 {
-    learn(alloc, p, t, log, pending, conflict)
+    Ground::of(problem, log, pending).learn(alloc, trail, conflict)
 }
 
-fn learn(
-    alloc: Global,
-    p: &Problem,
-    t: &Trail,
-    log: &IndexedLog<'_>,
-    pending: &[Entry],
-    conflict: &Hint,
-) -> Result<Learned, OutOfMemory>
-    requires ready { IsReady p.now log.now pending.now }
-    requires still_open { log.now.closed ≡ false }
-    requires reasoned { IsReasoned p.now log.now pending.now t.now }
-    requires conflict { IsConflictIn p.now log.now pending.now (box_of t.now) conflict.now }
-    ensures { IfOk result (IsLesson p.now log.now pending.now t.now) }
-{
-    let mut place = Place::last(alloc, t)?;
-    let mut base = before_level(alloc, t, &place)?;
-    let mut need = BoxState::of(alloc, p)?;
-    learn_from(
-        alloc, p, t, log, pending, conflict, &mut base, &mut place, &mut need,
-    )
-}
-
-/// The walk from the last place, with the box of the problem's bounds.
-#[tactic(none)]
-fn learn_from(
-    alloc: Global,
-    p: &Problem,
-    t: &Trail,
-    log: &IndexedLog<'_>,
-    pending: &[Entry],
-    conflict: &Hint,
-    base: &mut Place,
-    place: &mut Place,
-    need: &mut BoxState,
-) -> Result<Learned, OutOfMemory>
-    requires ready { IsReady p.now log.now pending.now }
-    requires still_open { log.now.closed ≡ false }
-    requires reasoned { IsReasoned p.now log.now pending.now t.now }
-    requires conflict { IsConflictIn p.now log.now pending.now (box_of t.now) conflict.now }
-    requires base { IsPlaceOf t.now base.old }
-    requires place { IsPlaceOf t.now place.old }
-    requires last { place.old.at ≡ length t.now.changes }
-    requires whole { need.old ≡ p.now.bounds }
-    ensures { IfOk result (IsLesson p.now log.now pending.now t.now) }
-{
-    t.recall_trail();
-    let mut used = Used::new(alloc);
-    begin(p, log, pending, conflict, &place.state, need, &mut used)?;
-    let found = walk(alloc, p, t, log, pending, base, place, need, &mut used)?;
-    conclude(alloc, p, t, log, pending, found, need, used)
-}
-
-/// The lemma with which a walk ends.
-#[tactic(none)]
-fn conclude(
-    alloc: Global,
-    p: &Problem,
-    t: &Trail,
-    log: &IndexedLog<'_>,
-    pending: &[Entry],
-    found: Option<Turn>,
-    need: &BoxState,
-    used: Used,
-) -> Result<Learned, OutOfMemory>
-    requires ready { IsReady p.now log.now pending.now }
-    requires still_open { log.now.closed ≡ false }
-    requires reasoned { IsReasoned p.now log.now pending.now t.now }
-    requires walked { IsWalkedTo p.now log.now pending.now t.now need.now used found }
-    ensures { IfOk result (IsLesson p.now log.now pending.now t.now) }
-{
-    match found {
-        None => Ok(learn_end(alloc, p, t, log, pending, used)),
-        Some(turn) => learn_turn(alloc, p, t, log, pending, turn, need, used),
+impl<'g> Ground<'g> {
+    fn learn(&self, alloc: Global, trail: &Trail, conflict: &Hint) -> Result<Learned, OutOfMemory>
+        requires reasoned { IsReasoned self.now trail.now }
+        requires conflict { IsConflictOn self.now (box_of trail.now) conflict.now }
+        ensures { IfOk result (IsLesson self.now trail.now) }
+    {
+        let mut walk = self.begin(alloc, trail, conflict)?;
+        match self.walk(alloc, trail, &mut walk)? {
+            None => Ok(self.learn_end(alloc, walk)),
+            Some(turn) => self.learn_turn(alloc, trail, turn, walk),
+        }
     }
-}
 
-/// The lemma without atoms.
-#[tactic(none)]
-fn learn_end(
-    alloc: Global,
-    p: &Problem,
-    t: &Trail,
-    log: &IndexedLog<'_>,
-    pending: &[Entry],
-    used: Used,
-) -> Learned
-    requires ready { IsReady p.now log.now pending.now }
-    requires still_open { log.now.closed ≡ false }
-    requires refuted { left_by_used p.now log.now pending.now used p.now.bounds ≡ None }
-    requires used { IsUsed p.now log.now pending.now used }
-    ensures { IsLesson p.now log.now pending.now t.now result }
-{
-    p.recall_well_formed();
-    let none = Vec::new(alloc);
-    let atoms = Seq::of(none);
-    let hints = Seq::of(reversed(used.hints));
-    Learned {
-        clause: Clause { atoms },
-        hints,
-        bound: used.bound,
-        level: 0,
+    /// The lemma without atoms.
+    #[tactic(none)]
+    fn learn_end(&self, alloc: Global, walk: Walk) -> Learned
+        requires { IsEnd self.now walk }
+        ensures { (trail : TrailState) → IsLesson self.now trail result }
+    {
+        self.problem().recall_well_formed();
+        let Walk { used, .. } = walk;
+        let none = Vec::new(alloc);
+        let atoms = Seq::of(none);
+        let hints = Seq::of(reversed(used.hints));
+        Learned {
+            clause: Clause { atoms },
+            hints,
+            bound: used.bound,
+            level: 0,
+        }
+    }
+
+    /// The lemma whose last atom is the negation of the one from which the rest leads to conflict.
+    #[tactic(none)]
+    fn learn_turn(
+        &self,
+        alloc: Global,
+        trail: &Trail,
+        turn: Turn,
+        walk: Walk,
+    ) -> Result<Learned, OutOfMemory>
+        requires { IsTurn self.now trail.now walk turn }
+        ensures { IfOk result (IsLesson self.now trail.now) }
+    {
+        let problem = self.problem();
+        problem.recall_well_formed();
+        let Walk {
+            need: rest,
+            used,
+            ..
+        } = walk;
+        let Turn { atom, base } = turn;
+        let mut base = base;
+        let mut atoms = negations(alloc, problem, &rest)?;
+        let last = opposite(atom);
+        atoms.push(last)?;
+        go_back_within(trail, &mut base, &rest);
+        let atoms = Seq::of(atoms);
+        let hints = Seq::of(reversed(used.hints));
+        Ok(Learned {
+            clause: Clause { atoms },
+            hints,
+            bound: used.bound,
+            level: base.level,
+        })
     }
 }
 
@@ -164,39 +131,4 @@ fn reversed(hints: Vec<Hint>) -> Vec<Hint>
     let mut hints = hints;
     hints.reverse();
     hints
-}
-
-/// The lemma whose last atom is the negation of the one from which the rest leads to conflict.
-#[tactic(none)]
-fn learn_turn(
-    alloc: Global,
-    p: &Problem,
-    t: &Trail,
-    log: &IndexedLog<'_>,
-    pending: &[Entry],
-    turn: Turn,
-    rest: &BoxState,
-    used: Used,
-) -> Result<Learned, OutOfMemory>
-    requires ready { IsReady p.now log.now pending.now }
-    requires still_open { log.now.closed ≡ false }
-    requires reasoned { IsReasoned p.now log.now pending.now t.now }
-    requires turn { IsTurn p.now log.now pending.now t.now rest.now used turn }
-    ensures { IfOk result (IsLesson p.now log.now pending.now t.now) }
-{
-    p.recall_well_formed();
-    let Turn { atom, base } = turn;
-    let mut base = base;
-    let mut atoms = negations(alloc, p, rest)?;
-    let last = opposite(atom);
-    atoms.push(last)?;
-    go_back_within(t, &mut base, rest);
-    let atoms = Seq::of(atoms);
-    let hints = Seq::of(reversed(used.hints));
-    Ok(Learned {
-        clause: Clause { atoms },
-        hints,
-        bound: used.bound,
-        level: base.level,
-    })
 }

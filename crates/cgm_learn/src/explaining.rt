@@ -1,12 +1,12 @@
 //! Why narrowing gave an atom, or conflict: as little of a box as is needed for it.
-ghost use Rattle.std.specs.Prelude.{◌≡◌, ◌<◌, length, false, true, None, OnOk, IsSomeAnd};
-ghost use Rattle.cgm_atom.specs.Bounds.{Bounds, IsBoxOf, IsProper};
+ghost use Rattle.std.specs.Prelude.{◌≡◌, ◌<◌, length, false, true, None, OnOk};
+ghost use Rattle.cgm_atom.specs.Bounds.{IsBoxOf, IsProper};
 ghost use Rattle.cgm_atom.specs.ClauseAtoms.{AreKnown, IsReadable, atoms_of, left_in};
 ghost use Rattle.cgm_atom.specs.Constraints.{left_by};
 ghost use Rattle.cgm_atom.specs.Laws.{IsSmaller};
 ghost use Rattle.cgm_atom.specs.Limits.{IsBound};
 ghost use Rattle.cgm_atom.specs.Narrowing.{is_false_in, is_true_in, made_true};
-ghost use Rattle.cgm_learn.specs.Walking.{IsExplained, IsLedTo};
+ghost use Rattle.cgm_learn.specs.Walking.{HasGiven, IsExplained, IsExplainedIn, IsLedTo};
 ghost use Rattle.cgm_trail.specs.TrailState.{IsOpenIn};
 ghost use Rattle.cgm_step.specs.Naming.{IsNamedIn, constraint_of};
 
@@ -22,7 +22,7 @@ pub(crate) fn need_atom(a: Atom, work: &BoxState, need: &mut BoxState)
     requires met { is_true_in work.now a ≡ true }
     requires inside { IsSmaller work.now need.old }
     ensures after { need.new ≡ made_true need.old a }
-    ensures explained { (limits : Bounds) → IsBoxOf limits need.old → IsExplained limits work.now need.old need.new }
+    ensures explained { IsExplainedIn work.now need.old need.new }
 {
     need.assume(a);
 }
@@ -33,7 +33,7 @@ fn need_false(a: Atom, work: &BoxState, need: &mut BoxState)
     requires proper { IsProper work.now }
     requires inside { IsSmaller work.now need.old }
     ensures falsified { is_false_in work.now a ≡ true → is_false_in need.new a ≡ true }
-    ensures explained { (limits : Bounds) → IsBoxOf limits need.old → IsExplained limits work.now need.old need.new }
+    ensures explained { IsExplainedIn work.now need.old need.new }
 {
     if !is_false(work, a) {
         return;
@@ -50,8 +50,9 @@ fn explain_clause(atoms: ClauseAtoms<'_>, work: &BoxState, need: &mut BoxState)
     requires known { AreKnown (length work.now.lower) (atoms_of atoms) }
     requires proper { IsProper work.now }
     requires inside { IsSmaller work.now need.old }
-    ensures left { left_in need.new (atoms_of atoms.entry) ≡ left_in work.now (atoms_of atoms.entry) }
-    ensures explained { (limits : Bounds) → IsBoxOf limits need.old → IsExplained limits work.now need.old need.new }
+    ensures left { left_in need.new (atoms_of atoms.entry)
+        ≡ left_in work.now (atoms_of atoms.entry) }
+    ensures explained { IsExplainedIn work.now need.old need.new }
 {
     for i in 0..atoms.count() {
         need_false(atoms.atom(i), work, need);
@@ -59,16 +60,21 @@ fn explain_clause(atoms: ClauseAtoms<'_>, work: &BoxState, need: &mut BoxState)
 }
 
 /// Adds to the needed bounds what the clause or row needs to be in conflict.
-pub(crate) fn explain_conflict(p: &Problem, by: Named<'_>, work: &BoxState, need: &mut BoxState)
-    requires named { IsNamedIn p.now by }
-    requires work_limits { IsBoxOf p.now.bounds work.now }
-    requires need_limits { IsBoxOf p.now.bounds need.old }
+pub(crate) fn explain_conflict(
+    problem: &Problem,
+    by: Named<'_>,
+    work: &BoxState,
+    need: &mut BoxState,
+)
+    requires named { IsNamedIn problem.now by }
+    requires work_limits { IsBoxOf problem.now.bounds work.now }
+    requires need_limits { IsBoxOf problem.now.bounds need.old }
     requires inside { IsSmaller work.now need.old }
     requires conflict { left_by work.now (constraint_of by) ≡ None }
     ensures conflict { left_by need.new (constraint_of by.entry) ≡ None }
-    ensures explained { IsExplained p.now.bounds work.now need.old need.new }
+    ensures explained { IsExplained problem.now.bounds work.now need.old need.new }
 {
-    p.recall_well_formed();
+    problem.recall_well_formed();
     match by {
         Named::Clause(atoms) => explain_clause(atoms, work, need),
         Named::Row(row) => explain_row_conflict(row, work, need),
@@ -78,23 +84,23 @@ pub(crate) fn explain_conflict(p: &Problem, by: Named<'_>, work: &BoxState, need
 /// Adds to the needed bounds what the clause or row needs to give the atom.
 pub(crate) fn explain_atom(
     alloc: Global,
-    p: &Problem,
+    problem: &Problem,
     by: Named<'_>,
     a: Atom,
     work: &BoxState,
     need: &mut BoxState,
 ) -> Result<(), OutOfMemory>
-    requires named { IsNamedIn p.now by }
-    requires work_limits { IsBoxOf p.now.bounds work.now }
-    requires need_limits { IsBoxOf p.now.bounds need.old }
+    requires named { IsNamedIn problem.now by }
+    requires work_limits { IsBoxOf problem.now.bounds work.now }
+    requires need_limits { IsBoxOf problem.now.bounds need.old }
     requires inside { IsSmaller work.now need.old }
     requires undecided { IsOpenIn work.now a }
     requires size { IsBound a.k }
-    requires given { IsSomeAnd (left_by work.now (constraint_of by)) (λ left. is_true_in left a ≡ true) }
+    requires given { HasGiven a (left_by work.now (constraint_of by)) }
     ensures led { OnOk result (IsLedTo need.new (constraint_of by.entry) a) }
-    ensures explained { OnOk result (IsExplained p.now.bounds work.now need.old need.new) }
+    ensures explained { OnOk result (IsExplained problem.now.bounds work.now need.old need.new) }
 {
-    p.recall_well_formed();
+    problem.recall_well_formed();
     match by {
         Named::Clause(atoms) => {
             explain_clause(atoms, work, need);

@@ -4,13 +4,13 @@
 
 mod analysis;
 mod explaining;
-mod finding;
+mod grounds;
 mod hints;
 mod learned;
 mod negations;
 mod places;
 mod rows;
-mod turns;
+mod walks;
 
 pub use analysis::analyse;
 pub use cgm_atom::OutOfMemory;

@@ -74,7 +74,8 @@ fn add_lower(p: &Problem, rest: &BoxState, v: Var, atoms: &mut Vec<Atom>) -> Res
     requires known { v.0 < var_count p.now }
     requires limits { IsBoxOf p.now.bounds rest.now }
     requires sizes { AreBounds rest.now }
-    ensures { OnOk result (atoms.new.items ≡ atoms.old.items ++ lower_negation p.now.bounds rest.now v.0) }
+    ensures { OnOk result
+        (atoms.new.items ≡ atoms.old.items ++ lower_negation p.now.bounds rest.now v.0) }
 {
     if is_raised(p, rest, v) {
         atoms.push(below(rest, v))?;
@@ -86,7 +87,8 @@ fn add_upper(p: &Problem, rest: &BoxState, v: Var, atoms: &mut Vec<Atom>) -> Res
     requires known { v.0 < var_count p.now }
     requires limits { IsBoxOf p.now.bounds rest.now }
     requires sizes { AreBounds rest.now }
-    ensures { OnOk result (atoms.new.items ≡ atoms.old.items ++ upper_negation p.now.bounds rest.now v.0) }
+    ensures { OnOk result
+        (atoms.new.items ≡ atoms.old.items ++ upper_negation p.now.bounds rest.now v.0) }
 {
     if is_reduced(p, rest, v) {
         atoms.push(above(rest, v))?;
@@ -101,7 +103,8 @@ pub(crate) fn negations(
     rest: &BoxState,
 ) -> Result<Vec<Atom>, OutOfMemory>
     requires { IsBoxOf p.now.bounds rest.now }
-    ensures { IfOk result (λ atoms. AreNegations p.now.bounds rest.now (var_count p.now) atoms.items) }
+    ensures { IfOk result
+        (λ atoms. AreNegations p.now.bounds rest.now (var_count p.now) atoms.items) }
 {
     p.recall_well_formed();
     let mut atoms = Vec::new(alloc);

@@ -1,13 +1,13 @@
 //! What a row needs to be in conflict, or to give an atom: each bound as far out as the row's slack allows.
-ghost use Rattle.std.specs.Prelude.{◌≡◌, ◌≢◌, ◌+◌, ◌*◌, ◌<◌, ◌≤◌, ◌+ℤ◌, ◌-ℤ◌, ◌≤ℤ◌, ◌<ℤ◌, cond, false, int_lt, length, not, pos, true, unsigned_abs, None, MatchOption, IfOk, IfSome, IsSomeAnd, OnOk};
+ghost use Rattle.std.specs.Prelude.{◌≡◌, ◌≢◌, ◌+◌, ◌*◌, ◌<◌, ◌≤◌, ◌+ℤ◌, ◌-ℤ◌, ◌≤ℤ◌, ◌<ℤ◌, cond, false, int_lt, length, not, pos, true, unsigned_abs, None, IfOk, IfSome, OnOk};
 ghost use Rattle.cgm_atom.specs.Bounds.{Bounds, IsBoxOf, IsProper};
 ghost use Rattle.cgm_atom.specs.Laws.{IsSmaller};
 ghost use Rattle.cgm_atom.specs.Limits.{AreTermsOf, IsBound, IsRowOf, max_bound, max_least, max_measure};
 ghost use Rattle.cgm_atom.specs.Narrowing.{greatest_activity as greatest_activity_in, greatest_term, is_claimed_in, left_by_row, made_true};
 ghost use Rattle.cgm_atom.specs.Narrowing.{is_true_in};
 ghost use Rattle.cgm_atom.specs.Steps.{AreBounds};
-ghost use Rattle.cgm_learn.specs.Terms.{HoldsIn, box_with, far_atom, far_bound as far_bound_in, is_far_of as is_far_atom, is_left_out as is_left_out_bound};
-ghost use Rattle.cgm_learn.specs.Walking.{IsExplained};
+ghost use Rattle.cgm_learn.specs.Terms.{HasSlack, HoldsIn, box_with, far_atom, far_bound as far_bound_in, is_far_of as is_far_atom, is_left_out as is_left_out_bound};
+ghost use Rattle.cgm_learn.specs.Walking.{HasGiven, HasLed, IsExplainedIn, IsExplainedInBoth, IsNeedOf};
 ghost use Rattle.cgm_trail.specs.TrailState.{IsOpenIn};
 
 use crate::explaining::need_atom;
@@ -115,12 +115,10 @@ fn gap(work: &BoxState, need: &BoxState, term: &(i64, Var)) -> u64
 fn explain_term(work: &BoxState, need: &mut BoxState, term: &(i64, Var), slack: u64) -> u64
     requires known { term.now.1.0 < length work.now.lower }
     requires coefficient { term.now.0 ≢ pos 0 }
-    requires proper { IsProper work.now }
-    requires inside { IsSmaller work.now need.old }
-    requires work_sizes { AreBounds work.now }
-    requires need_sizes { AreBounds need.old }
-    ensures sum { (greatest_term need.new term.now.0 term.now.1.0 +ℤ pos result) ≤ℤ (greatest_term work.now term.now.0 term.now.1.0 +ℤ pos slack) }
-    ensures explained { (limits : Bounds) → IsBoxOf limits need.old → IsExplained limits work.now need.old need.new }
+    requires needed { IsNeedOf work.now need.old }
+    ensures sum { (greatest_term need.new term.now.0 term.now.1.0 +ℤ pos result)
+        ≤ℤ (greatest_term work.now term.now.0 term.now.1.0 +ℤ pos slack) }
+    ensures explained { IsExplainedIn work.now need.old need.new }
 {
     let size = size_of(term);
     let by = affordable(slack, size, gap(work, need, term));
@@ -163,14 +161,12 @@ fn explain_unless(
 ) -> u64
     requires known { term.now.1.0 < length work.now.lower }
     requires coefficient { term.now.0 ≢ pos 0 }
-    requires proper { IsProper work.now }
-    requires inside { IsSmaller work.now need.old }
-    requires work_sizes { AreBounds work.now }
-    requires need_sizes { AreBounds need.old }
+    requires needed { IsNeedOf work.now need.old }
     requires undecided { IfSome own (IsOpenIn work.now) }
     ensures sum { (b : Bounds) → IsSmaller b need.new → HoldsIn own b
-        → (greatest_term b term.now.0 term.now.1.0 +ℤ pos result) ≤ℤ (greatest_term (box_with work.now own) term.now.0 term.now.1.0 +ℤ pos slack) }
-    ensures explained { (limits : Bounds) → IsBoxOf limits need.old → IsExplained limits work.now need.old need.new }
+        → (greatest_term b term.now.0 term.now.1.0 +ℤ pos result)
+        ≤ℤ (greatest_term (box_with work.now own) term.now.0 term.now.1.0 +ℤ pos slack) }
+    ensures explained { IsExplainedIn work.now need.old need.new }
 {
     if is_left_out(own, term) {
         return slack;
@@ -187,14 +183,12 @@ fn explain_terms(
     slack: u64,
 )
     requires known { AreTermsOf (length work.now.lower) terms.now }
-    requires proper { IsProper work.now }
-    requires inside { IsSmaller work.now need.old }
-    requires work_sizes { AreBounds work.now }
-    requires need_sizes { AreBounds need.old }
+    requires needed { IsNeedOf work.now need.old }
     requires undecided { IfSome own (IsOpenIn work.now) }
     ensures sum { (b : Bounds) → IsSmaller b need.new → HoldsIn own b
-        → greatest_activity_in b terms.now ≤ℤ (greatest_activity_in (box_with work.now own) terms.now +ℤ pos slack) }
-    ensures explained { (limits : Bounds) → IsBoxOf limits need.old → IsExplained limits work.now need.old need.new }
+        → greatest_activity_in b terms.now
+        ≤ℤ (greatest_activity_in (box_with work.now own) terms.now +ℤ pos slack) }
+    ensures explained { IsExplainedIn work.now need.old need.new }
 {
     let mut left = slack;
     for term in terms {
@@ -209,7 +203,7 @@ fn explain_guard(guard: Option<Atom>, work: &BoxState, need: &mut BoxState)
     requires inside { IsSmaller work.now need.old }
     requires claimed { is_claimed_in work.now guard ≡ true }
     ensures claimed { is_claimed_in need.new guard ≡ true }
-    ensures explained { (limits : Bounds) → IsBoxOf limits need.old → IsExplained limits work.now need.old need.new }
+    ensures explained { IsExplainedIn work.now need.old need.new }
 {
     match guard {
         None => {}
@@ -230,8 +224,7 @@ fn slack_of(most: i64, least: i64) -> u64
 /// The slack of a row that no values of the box meet: by how much its greatest sum could be greater.
 fn row_slack(row: &Row, work: &BoxState) -> Option<u64>
     requires { IsRowOf work.now row.now }
-    ensures { MatchOption result (row.now.least ≤ℤ greatest_activity_in work.now row.now.terms)
-        (λ slack. ((pos slack +ℤ greatest_activity_in work.now row.now.terms) +ℤ pos 1) ≡ row.now.least) }
+    ensures { HasSlack row.now work.now result }
 {
     let most = greatest_activity(work, row.terms.as_slice());
     if most < row.least {
@@ -243,13 +236,10 @@ fn row_slack(row: &Row, work: &BoxState) -> Option<u64>
 /// Adds to the needed bounds what a row needs to be in conflict.
 pub(crate) fn explain_row_conflict(row: &Row, work: &BoxState, need: &mut BoxState)
     requires row { IsRowOf work.now row.now }
-    requires proper { IsProper work.now }
-    requires inside { IsSmaller work.now need.old }
-    requires work_sizes { AreBounds work.now }
-    requires need_sizes { AreBounds need.old }
+    requires needed { IsNeedOf work.now need.old }
     requires conflict { left_by_row work.now row.now ≡ None }
     ensures conflict { left_by_row need.new row.now ≡ None }
-    ensures explained { (limits : Bounds) → IsBoxOf limits need.old → IsExplained limits work.now need.old need.new }
+    ensures explained { IsExplainedIn work.now need.old need.new }
 {
     match row_slack(row, work) {
         None => {}
@@ -282,8 +272,7 @@ fn slack_with(
     requires row { IsRowOf work.now row.now }
     requires undecided { IsOpenIn work.now a }
     requires proper { IsProper work.now }
-    ensures { IfOk result (λ o. MatchOption o (row.now.least ≤ℤ greatest_activity_in (made_true work.now a) row.now.terms)
-        (λ slack. ((pos slack +ℤ greatest_activity_in (made_true work.now a) row.now.terms) +ℤ pos 1) ≡ row.now.least)) }
+    ensures { IfOk result (HasSlack row.now (made_true work.now a)) }
 {
     let under = copy_with(alloc, work, a)?;
     Ok(row_slack(row, &under))
@@ -298,16 +287,13 @@ fn explain_claimed(
     need: &mut BoxState,
 ) -> Result<(), OutOfMemory>
     requires row { IsRowOf work.now row.now }
-    requires proper { IsProper work.now }
-    requires inside { IsSmaller work.now need.old }
-    requires work_sizes { AreBounds work.now }
-    requires need_sizes { AreBounds need.old }
+    requires needed { IsNeedOf work.now need.old }
     requires undecided { IsOpenIn work.now a }
     requires size { IsBound a.k }
     requires claimed { is_claimed_in work.now row.now.guard ≡ true }
-    requires given { IsSomeAnd (left_by_row work.now row.now) (λ left. is_true_in left a ≡ true) }
-    ensures led { OnOk result (IfSome (left_by_row need.new row.now) (λ left. is_true_in left a ≡ true)) }
-    ensures explained { OnOk result ((limits : Bounds) → IsBoxOf limits work.now → IsBoxOf limits need.old → IsExplained limits work.now need.old need.new) }
+    requires given { HasGiven a (left_by_row work.now row.now) }
+    ensures led { OnOk result (HasLed a (left_by_row need.new row.now)) }
+    ensures explained { OnOk result (IsExplainedInBoth work.now need.old need.new) }
 {
     let negated = opposite(a);
     match slack_with(alloc, row, work, negated)? {
@@ -332,15 +318,12 @@ pub(crate) fn explain_row_atom(
     need: &mut BoxState,
 ) -> Result<(), OutOfMemory>
     requires row { IsRowOf work.now row.now }
-    requires proper { IsProper work.now }
-    requires inside { IsSmaller work.now need.old }
-    requires work_sizes { AreBounds work.now }
-    requires need_sizes { AreBounds need.old }
+    requires needed { IsNeedOf work.now need.old }
     requires undecided { IsOpenIn work.now a }
     requires size { IsBound a.k }
-    requires given { IsSomeAnd (left_by_row work.now row.now) (λ left. is_true_in left a ≡ true) }
-    ensures led { OnOk result (IfSome (left_by_row need.new row.now) (λ left. is_true_in left a ≡ true)) }
-    ensures explained { OnOk result ((limits : Bounds) → IsBoxOf limits work.now → IsBoxOf limits need.old → IsExplained limits work.now need.old need.new) }
+    requires given { HasGiven a (left_by_row work.now row.now) }
+    ensures led { OnOk result (HasLed a (left_by_row need.new row.now)) }
+    ensures explained { OnOk result (IsExplainedInBoth work.now need.old need.new) }
 {
     match row_slack(row, work) {
         None => explain_claimed(alloc, row, a, work, need),

@@ -164,7 +164,8 @@ impl Log {
     fn judge(&self, batch: &Batch) -> Result<Judged, OutOfMemory>
         requires { IfSome batch.now.candidate (IsSolution self.now.problem) }
         ensures fate { IfOk result
-            (λ j. j.fate ≡ fate_of self.now.problem (state_of self.now.entries) batch.now.candidate) }
+            (λ j. j.fate
+            ≡ fate_of self.now.problem (state_of self.now.entries) batch.now.candidate) }
         ensures kept { IfOk result (λ j. j.kept.items ≡ kept_candidate self.now.problem (state_of
             self.now.entries) batch.now.by batch.now.candidate) }
     {

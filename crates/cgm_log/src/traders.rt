@@ -1,11 +1,9 @@
 //! How a worker reaches the log that it adds to.
-ghost use Rattle.std.specs.Prelude.{◌≡◌, ◌+◌, ◌^◌, ◌<◌, ◌≤◌, ℕ, List, length, ◌++◌, None, IfOk, IfErr, IfSome, IsSome};
-ghost use Rattle.std.specs.declared.option.Option.{Option};
-ghost use Rattle.cgm_atom.specs.declared.entries.Entry.{Entry};
+ghost use Rattle.std.specs.Prelude.{◌≡◌, ◌+◌, ◌^◌, ◌<◌, ◌≤◌, length, None, IfOk, IfErr, IfSome, IsSome};
 ghost use Rattle.cgm_atom.specs.Acceptance.{IsAccepted};
-ghost use Rattle.cgm_atom.specs.Instance.{Instance};
-ghost use Rattle.cgm_log.specs.Landing.{IsProper, with_landed};
-ghost use Rattle.cgm_log.specs.Trading.{IsAnswer, news_of};
+ghost use Rattle.cgm_log.specs.Landing.{IsProper};
+ghost use Rattle.cgm_log.specs.Seats.{Seat};
+ghost use Rattle.cgm_log.specs.Trading.{IsAnswer, with_batch, with_news};
 
 use crate::batches::{Batch, Refund, Traded};
 use crate::logs::Log;
@@ -15,23 +13,15 @@ pub const MAX_TRADES: u64 = 1 << 59;
 
 /// What a worker trades with: it has seen a front of a log, and hands the worker's batches to it.
 pub trait Trader {
-    /// The problem of the log.
-    ghost problem: { Self → Instance };
-
-    /// The entries that were seen, which are a front of the log.
-    ghost told: { Self → List Entry };
-
-    /// The number of the worker, where the trader has one.
-    ghost number: { Self → Option ℕ };
-
-    /// How many trades may still be made.
-    ghost trades: { Self → ℕ };
+    /// The problem of the log, the entries that were seen, the worker's number, and how many trades
+    /// may still be made.
+    ghost seat: { Self → Seat };
 
     /// How many entries were seen.
     fn seen(&self) -> u64
-        ensures count { result ≡ length (told self.now) }
-        ensures accepted { IsAccepted (problem self.now) (told self.now) }
-        ensures room { length (told self.now) < 2 ^ 63 };
+        ensures count { result ≡ length (seat self.now).told }
+        ensures accepted { IsAccepted (seat self.now).problem (seat self.now).told }
+        ensures room { length (seat self.now).told < 2 ^ 63 };
 
     /// Lands a batch on the log, after the entries that were seen and the answer's news. Then these and
     /// what landed were seen too. Without memory the log and what was seen are as before.
@@ -39,21 +29,23 @@ pub trait Trader {
     /// Conditions: the batch is proper after the entries that were seen, it has the trader's number
     /// where there is one, and a trade may still be made.
     fn trade(&mut self, batch: Batch) -> Result<Traded, Refund>
-        requires proper { IsProper (problem self.old) (told self.old) batch }
-        requires own_number { IfSome (number self.old) (λ n. batch.by ≡ n) }
-        requires left { 1 ≤ trades self.old }
-        ensures answer { IfOk result (λ t. IsAnswer (problem self.old) (told self.old ++ news_of t) batch t) }
+        requires proper { IsProper (seat self.old).problem (seat self.old).told batch }
+        requires own_number { IfSome (seat self.old).number (λ n. batch.by ≡ n) }
+        requires left { 1 ≤ (seat self.old).trades }
+        ensures answer { IfOk result
+            (λ t. IsAnswer (seat self.old).problem (with_news (seat self.old) t) batch t) }
         ensures landed { IfOk result
-            (λ t. told self.new ≡ with_landed (problem self.old) (told self.old ++ news_of t) batch) }
-        ensures refund { IfErr result (λ r. (told self.new ≡ told self.old) × (r.batch ≡ batch)) }
-        ensures problem { problem self.new ≡ problem self.old }
-        ensures number { number self.new ≡ number self.old }
-        ensures left { trades self.new + 1 ≡ trades self.old };
+            (λ t. (seat self.new).told ≡ with_batch (seat self.old) t batch) }
+        ensures refund { IfErr result
+            (λ r. ((seat self.new).told ≡ (seat self.old).told) × (r.batch ≡ batch)) }
+        ensures problem { (seat self.new).problem ≡ (seat self.old).problem }
+        ensures number { (seat self.new).number ≡ (seat self.old).number }
+        ensures left { (seat self.new).trades + 1 ≡ (seat self.old).trades };
 
     /// The log, if nobody else adds to it. It is the problem's, with the entries that were seen.
     fn into_log_if_alone(self) -> Option<Log>
-        ensures problem { IfSome result (λ log. log.problem ≡ problem self) }
-        ensures entries { IfSome result (λ log. log.entries ≡ told self) };
+        ensures problem { IfSome result (λ log. log.problem ≡ (seat self).problem) }
+        ensures entries { IfSome result (λ log. log.entries ≡ (seat self).told) };
 }
 
 /// The trader of one worker, which holds the log itself. It has seen all that its log holds.
@@ -66,10 +58,10 @@ pub struct Alone {
 impl Alone {
     /// The log's trader, with `MAX_TRADES` trades. Takes no memory.
     pub fn new(log: Log) -> Alone
-        ensures problem { ⟦<Alone as Trader>⟧.problem result ≡ log.problem }
-        ensures told { ⟦<Alone as Trader>⟧.told result ≡ log.entries }
-        ensures number { ⟦<Alone as Trader>⟧.number result ≡ None }
-        ensures trades { ⟦<Alone as Trader>⟧.trades result ≡ 2 ^ 59 }
+        ensures problem { (⟦<Alone as Trader>⟧.seat result).problem ≡ log.problem }
+        ensures told { (⟦<Alone as Trader>⟧.seat result).told ≡ log.entries }
+        ensures number { (⟦<Alone as Trader>⟧.seat result).number ≡ None }
+        ensures trades { (⟦<Alone as Trader>⟧.seat result).trades ≡ 2 ^ 59 }
     {
         Alone {
             log,
@@ -79,13 +71,12 @@ impl Alone {
 }
 
 impl Trader for Alone {
-    ghost problem = { λ a. a.log.problem };
-
-    ghost told = { λ a. a.log.entries };
-
-    ghost number = { λ _. None };
-
-    ghost trades = { λ a. a.left };
+    ghost seat = { λ a. record {
+      problem = a.log.problem;
+      told = a.log.entries;
+      number = None;
+      trades = a.left;
+    } };
 
     fn seen(&self) -> u64 {
         self.log.entries().len() as u64

@@ -26,7 +26,7 @@ use Rattle.cgm_clauses.specs.declared.named.Named.{Named}
 use Rattle.cgm_clauses.specs.StoreState.{IsForgotten, started}
 use Rattle.cgm_step.specs.Indexing.{IsIndexOf}
 use Rattle.cgm_step.proofs.Accepted.{AreKnown-from_none, AreNone-from_first, AreValuesOf-from_none}
-use Rattle.cgm_search.specs.declared.knowing.Known.{Known}
+use Rattle.cgm_search.specs.declared.knowledge.Known.{Known}
 use Rattle.cgm_search.specs.Cutting.{IsOfParts, parts_of}
 use Rattle.cgm_search.specs.Knowing.{IsKnown, seen, seen_state}
 use Rattle.cgm_search.specs.Storing.{IsLongLemma, IsSeenName, IsStoreFor, is_of_cut, last_cut, store_after}

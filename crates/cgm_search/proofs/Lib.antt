@@ -8,6 +8,7 @@ pub mod Offers
 pub mod Readiness
 pub mod Reasons
 pub mod Rounds
+pub mod Seats
 pub mod TakenLemmas
 pub mod UsedBounds
 pub mod WholeWorkers

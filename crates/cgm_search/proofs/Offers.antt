@@ -1,7 +1,7 @@
 -- A candidate as a batch of its own: it is proper, and after it was traded the last best isn't greater than it.
-use Rattle.std.proofs.Common.{◌≡◌, inl, inr, ⊎_elim, ℕ, ◌+◌, ◌<◌, ◌≤◌, Bool, true, false, ◌||◌, List, [], ◌∷◌, ◌++◌, length, refl, sym, ap, subst, ◌∙◌, append-nil, arith}
+use Rattle.std.proofs.Common.{◌≡◌, inl, inr, ⊎_elim, ℕ, ◌<◌, Bool, true, false, ◌||◌, List, [], ◌++◌, length, refl, sym, ap, subst, ◌∙◌, append-nil, arith}
 use Rattle.std.specs.Prelude.{◌⊎◌, ℤ, Result, Ok, Err, OnOk}
-use Rattle.std.specs.declared.option.Option.TheVariants.{Some, None}
+use Rattle.std.specs.declared.option.Option.TheVariants.{Some}
 use Rattle.std.specs.List.{Contains}
 use Rattle.std.proofs.lemmas.List.Elements.{All-nil}
 use Rattle.cgm_atom.specs.declared.entries.Entry.{Entry}
@@ -20,15 +20,15 @@ use Rattle.cgm_log.specs.declared.batches.Fate.{Fate}
 use Rattle.cgm_log.specs.declared.batches.Fate.TheVariants.{Behind, Kept}
 use Rattle.cgm_log.specs.Landing.{IsLemmaOf, IsProper, fate_after, kept_candidate, kept_entry, with_landed}
 use Rattle.cgm_log.proofs.Adding.{closed_stays, open_grows}
-use Rattle.cgm_search.specs.declared.searching.Search.{Search}
+use Rattle.cgm_search.specs.declared.searches.Search.{Search}
 use Rattle.cgm_search.specs.Knowing.{IsKnown, seen}
-use Rattle.cgm_search.specs.Searching.{IsReady}
+use Rattle.cgm_search.specs.Searching.{IsReady, IsTradedIn}
 use Rattle.cgm_search.specs.Stepping.{IsOffered}
 use Rattle.cgm_search.specs.Storing.{IsStoreFor}
 use Rattle.cgm_search.specs.Trading.{HasLanded}
 use Rattle.cgm_search.proofs.FixedBoxes.{IsLastBest, last_after_candidate, some_part_false}
 use Rattle.cgm_search.proofs.LandedBatches.{longer}
-use Rattle.cgm_search.proofs.Readiness.{IsTradedIn, ready_traded}
+use Rattle.cgm_search.proofs.Readiness.{ready_traded}
 use Rattle.cgm_split.specs.Halving.{IsPoint}
 use Rattle.cgm_trail.specs.Rank.{IsTrail}
 use Rattle.cgm_trail.specs.TrailState.{TrailState, box_of}
@@ -71,7 +71,7 @@ by_closed p log new by values false still_open h =
 pub offered : (p : Instance) (old new : List Entry) (by : ℕ) (values : List ℤ) → HasLanded p old (candidate_batch by values) new → IsClosed new ⊎ IsBehind p values new
 offered p old new by values h = by_closed p (old ++ h.0) new by values (state_of (old ++ h.0)).closed refl h.1
 
-pub offered_on_ok : {T E : Type 0} (r : Result T E) (old new : Search) (b : Batch) → IsReady old → IsTradedIn old new → IsBoxOf old.known.problem.bounds (box_of old.trail) → IsPoint (box_of old.trail) → b ≡ candidate_batch old.by (box_of old.trail).lower → OnOk r (IsKnown new.known) → OnOk r (HasLanded old.known.problem (seen old.known) b (seen new.known)) → OnOk r (IsOffered old new)
+pub offered_on_ok : {T E : Type 0} (r : Result T E) (old new : Search) (b : Batch) → IsReady old → IsTradedIn old new → IsBoxOf old.known.problem.bounds (box_of old.trail) → IsPoint (box_of old.trail) → b ≡ candidate_batch old.worker (box_of old.trail).lower → OnOk r (IsKnown new.known) → OnOk r (HasLanded old.known.problem (seen old.known) b (seen new.known)) → OnOk r (IsOffered old new)
 offered_on_ok (Err x) old new b h same box point e known landed = tt
 offered_on_ok (Ok x) old new b h same box point e known landed =
     let p : Instance = old.known.problem in
@@ -84,7 +84,7 @@ offered_on_ok (Ok x) old new b h same box point e known landed =
       subst (λ (t : TrailState). (n : Named) × Contains (all_clauses new.known.store) n × IsFalseIn (box_of t) n.clause) (sym same.trail)
           (some_part_false p (seen new.known) new.known.store (box_of old.trail) behind.last.best stored box point behind.last.last behind.last.behind),
     ))
-    (offered p (seen old.known) (seen new.known) old.by values (subst (λ (a : Batch). HasLanded p (seen old.known) a (seen new.known)) e landed))
+    (offered p (seen old.known) (seen new.known) old.worker values (subst (λ (a : Batch). HasLanded p (seen old.known) a (seen new.known)) e landed))
 
 pub trail_box : (s : Search) → IsReady s → IsTrail s.trail → IsBoxOf s.known.problem.bounds (box_of s.trail)
 trail_box s h valid = subst (λ (p : Instance). IsBoxOf p.bounds (box_of s.trail)) h.trail.problem valid.place

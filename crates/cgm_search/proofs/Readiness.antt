@@ -1,5 +1,5 @@
 -- A search stays ready over each of its moves, and how many trades it may need after them.
-use Rattle.std.proofs.Common.{◌≡◌, inl, inr, ℕ, zero, suc, ◌+◌, ◌-◌, ◌*◌, ◌^◌, ◌<◌, ◌≤◌, Bool, true, false, cond, List, [], ◌∷◌, ◌++◌, length, take, refl, sym, ap, subst, ◌∙◌, arith}
+use Rattle.std.proofs.Common.{◌≡◌, inl, ℕ, ◌+◌, ◌-◌, ◌<◌, ◌≤◌, Bool, true, false, cond, List, [], ◌∷◌, ◌++◌, length, refl, sym, ap, subst, ◌∙◌, arith}
 use Rattle.std.specs.Prelude.{Result, Ok, Err, IfOk}
 use Rattle.std.specs.declared.option.Option.{Option}
 use Rattle.std.specs.declared.option.Option.TheVariants.{Some, None}
@@ -9,7 +9,6 @@ use Rattle.cgm_atom.specs.declared.constraints.Atom.{Atom}
 use Rattle.cgm_atom.specs.declared.constraints.Clause.{Clause}
 use Rattle.cgm_atom.specs.declared.entries.Entry.{Entry}
 use Rattle.cgm_atom.specs.declared.entries.Hint.{Hint}
-use Rattle.cgm_atom.specs.declared.entries.Hint.TheVariants as hint
 use Rattle.cgm_atom.specs.Bounds.{Bounds}
 use Rattle.cgm_atom.specs.Constraints.{Constraint, of_clause}
 use Rattle.cgm_atom.specs.Instance.{Instance, var_count}
@@ -18,19 +17,19 @@ use Rattle.cgm_atom.specs.Limits.{max_workers}
 use Rattle.cgm_atom.specs.LogState.{state_of}
 use Rattle.cgm_atom.specs.Narrowing.{left_by_clause, made_true}
 use Rattle.cgm_atom.proofs.Shrinking.{IsSmaller-same, IsSmaller-trans, clause_narrows_smaller, made_true_shrinks}
-use Rattle.cgm_clauses.specs.declared.named.Named.{Named}
 use Rattle.cgm_clauses.specs.Standing.{IsFalseIn, IsQuietIn}
 use Rattle.cgm_clauses.specs.StoreState.{IsNamedIn, all_clauses}
 use Rattle.cgm_clauses.specs.Sweeping.{AreQuiet, IsSwept}
 use Rattle.cgm_clauses.proofs.Naming.{quiet_store}
-use Rattle.cgm_search.specs.declared.choosing.Choice.{Choice}
+use Rattle.cgm_search.specs.declared.decisions.Choice.{Choice}
+use Rattle.cgm_log.specs.Seats.{Seat}
 use Rattle.cgm_search.specs.declared.plans.Plan.{Plan}
 use Rattle.cgm_search.specs.declared.plans.Stopped.{Stopped}
 use Rattle.cgm_search.specs.declared.plans.Stopped.TheVariants as stopped
-use Rattle.cgm_search.specs.declared.searching.Search.{Search}
+use Rattle.cgm_search.specs.declared.searches.Search.{Search}
 use Rattle.cgm_search.specs.Choosing.{IsChoiceOf}
 use Rattle.cgm_search.specs.Knowing.{IsKnown, seen, seen_state}
-use Rattle.cgm_search.specs.Searching.{AreSeenReasons, IsKept, IsOutcome, IsPlan, IsReady, IsTraderOf, IsTrailOf, IsUnit, need}
+use Rattle.cgm_search.specs.Searching.{AreSeenReasons, IsKept, IsOutcome, IsPlan, IsReady, IsTradedIn, IsTrailOf, IsUnit, Sits, need}
 use Rattle.cgm_search.specs.Settling.{IsRoundName, IsSettled}
 use Rattle.cgm_search.specs.Stepping.{HasFalseClause, IsCutOutcome}
 use Rattle.cgm_search.specs.Storing.{IsSeenName}
@@ -53,7 +52,7 @@ pub record IsMoved (old new : Search) : Type 0 where
   pub known : new.known ≡ old.known
   pub choice : new.choice ≡ old.choice
   pub plan : new.plan ≡ old.plan
-  pub worker : new.by ≡ old.by
+  pub worker : new.worker ≡ old.worker
 
 abbrev Names : Search → Hint → Constraint → Type 0
 Names s = IsSeenName s.known.problem (seen_state s.known)
@@ -319,14 +318,6 @@ need_jumped old new level a by same room earlier made =
 
 -- ---- trades
 
--- what a trade leaves of a search
-pub record IsTradedIn (old new : Search) : Type 0 where
-  pub problem : new.known.problem ≡ old.known.problem
-  pub trail : new.trail ≡ old.trail
-  pub choice : new.choice ≡ old.choice
-  pub plan : new.plan ≡ old.plan
-  pub worker : new.by ≡ old.by
-
 reasons_traded : (old new : Search) → IsReady old → IsTradedIn old new → IsLonger (seen old.known) (seen new.known) → AreSeenReasons new
 reasons_traded old new h same longer =
     let p : Instance = old.known.problem in
@@ -350,23 +341,22 @@ pub kept_traded : (old new : Search) → IsReady old → IsTradedIn old new → 
 kept_traded old new h same =
     record { problem = same.problem; plan = same.plan; worker = same.worker; trail = rw same.trail h.trail }
 
-pub trader_moved : (old new : Search) (problem problem' : Instance) (told told' : List Entry) (number number' : Option ℕ) → IsTraderOf old problem told number → IsMoved old new → problem' ≡ problem → told' ≡ told → number' ≡ number → IsTraderOf new problem' told' number'
-trader_moved old new problem problem' told told' number number' h same e f g =
-    rw (e, f, g)
+pub sits_moved : (old new : Search) (seat seat' : Seat) → Sits old seat → IsMoved old new → seat' ≡ seat → Sits new seat'
+sits_moved old new seat seat' h same e =
+    rw e
     (record {
       same_problem = rw same.known h.same_problem;
       same_entries = rw same.known h.same_entries;
       own_number = rw same.worker h.own_number;
     })
 
-pub trader_traded : (old new : Search) (problem problem' : Instance) (told told' : List Entry) (number number' : Option ℕ) → IsTraderOf old problem told number → IsTradedIn old new → problem' ≡ problem → told' ≡ seen new.known → number' ≡ number → IsTraderOf new problem' told' number'
-trader_traded old new problem problem' told told' number number' h same e f g =
-    rw (e, g)
-    (record {
-      same_problem = h.same_problem ∙ sym same.problem;
+pub sits_traded : (old new : Search) (seat seat' : Seat) → Sits old seat → IsTradedIn old new → seat'.problem ≡ seat.problem → seat'.told ≡ seen new.known → seat'.number ≡ seat.number → Sits new seat'
+sits_traded old new seat seat' h same e f g =
+    record {
+      same_problem = e ∙ h.same_problem ∙ sym same.problem;
       same_entries = f;
-      own_number = rw same.worker h.own_number;
-    })
+      own_number = rw (g, same.worker) h.own_number;
+    }
 
 -- ---- units
 
@@ -376,14 +366,14 @@ need_moved old new same more level =
     omega arith
 
 -- a unit that begins with moves and trades of its own
-pub unit_before : (old mid new : Search) (problem : Instance) (told : List Entry) (number : Option ℕ) (before before' after : ℕ) (answer : Option Stopped) → old.trail.moves ≤ mid.trail.moves → need mid ≤ need old → before ≤ before' → IsUnit mid new problem told number before' after answer → IsUnit old new problem told number before after answer
-unit_before old mid new problem told number before before' after None more less fewer h =
+pub unit_before : (old mid new : Search) (before before' after : Seat) (answer : Option Stopped) → old.trail.moves ≤ mid.trail.moves → need mid ≤ need old → before.trades ≤ before'.trades → IsUnit mid new before' after answer → IsUnit old new before after answer
+unit_before old mid new before before' after None more less fewer h =
     let moved = h.2 in
     let spent = h.3 in
     (h.0, h.1, omega arith, omega arith)
-unit_before old mid new problem told number before before' after (Some stopped.Final) more less fewer h = h
-unit_before old mid new problem told number before before' after (Some stopped.Spent) more less fewer h = h
-unit_before old mid new problem told number before before' after (Some stopped.Memory) more less fewer h = h
+unit_before old mid new before before' after (Some stopped.Final) more less fewer h = h
+unit_before old mid new before before' after (Some stopped.Spent) more less fewer h = h
+unit_before old mid new before before' after (Some stopped.Memory) more less fewer h = h
 
 -- ---- a new search
 
@@ -391,7 +381,7 @@ nothing_open : (log : List Entry) → log ≡ [] → (state_of log).closed ≡ f
 unfolding state_of
 nothing_open log e = rw e refl
 
-pub ready_new : (p : Instance) (s : Search) → IsKnown s.known → s.known.problem ≡ p → seen s.known ≡ [] → s.trail ≡ started p → IsChoiceOf (var_count p) s.choice → IsPlan s.plan → s.by < max_workers → IsReady s
+pub ready_new : (p : Instance) (s : Search) → IsKnown s.known → s.known.problem ≡ p → seen s.known ≡ [] → s.trail ≡ started p → IsChoiceOf (var_count p) s.choice → IsPlan s.plan → s.worker < max_workers → IsReady s
 ready_new p s known problem nothing trail choice plan worker =
     record {
       known = known;

@@ -1,10 +1,10 @@
 -- A learned lemma as a batch of its own: it is proper, and what it gives once it was traded.
-use Rattle.std.proofs.Common.{◌≡◌, inl, inr, ⊎_elim, ℕ, zero, suc, ◌+◌, ◌-◌, ◌<◌, ◌≤◌, Bool, true, false, not, ◌||◌, List, [], ◌∷◌, ◌++◌, length, map, get_or, take, refl, sym, ap, subst, ◌∙◌, arith}
-use Rattle.std.specs.Prelude.{◌⊎◌, IsTrue, ◌==◌, ◌≢◌, Result, Ok, Err, IfOk, OnOk}
+use Rattle.std.proofs.Common.{◌≡◌, inl, inr, ⊎_elim, ℕ, ◌+◌, ◌-◌, ◌<◌, ◌≤◌, Bool, true, false, ◌||◌, List, [], ◌∷◌, ◌++◌, length, map, get_or, take, refl, sym, ap, subst, ◌∙◌, arith}
+use Rattle.std.specs.Prelude.{◌==◌, ◌≢◌, Result, Ok, Err, IfOk, OnOk}
 use Rattle.std.specs.declared.option.Option.TheVariants.{Some, None}
-use Rattle.std.specs.List.{All, filter}
+use Rattle.std.specs.List.{All}
 use Rattle.std.proofs.lemmas.List.{length-map, length_push, take_all, take_more}
-use Rattle.std.proofs.lemmas.List.Elements.{All-cons, All-head, All-nil, All-tail, All-weaker}
+use Rattle.std.proofs.lemmas.List.Elements.{All-cons, All-head, All-nil, All-tail}
 use Rattle.cgm_atom.specs.declared.constraints.Atom.{Atom}
 use Rattle.cgm_atom.specs.declared.constraints.Clause.{Clause}
 use Rattle.cgm_atom.specs.declared.entries.Entry.{Entry}
@@ -18,7 +18,7 @@ use Rattle.cgm_atom.specs.Constraints.{of_clause}
 use Rattle.cgm_atom.specs.Instance.{Instance, var_count}
 use Rattle.cgm_atom.specs.Limits.{max_workers}
 use Rattle.cgm_atom.specs.LogState.{LogState, is_closing, state_of}
-use Rattle.cgm_atom.specs.Narrowing.{is_false_in, made_true}
+use Rattle.cgm_atom.specs.Narrowing.{is_false_in}
 use Rattle.cgm_atom.specs.Placing.{IsBefore, placed, placed_entry}
 use Rattle.cgm_atom.proofs.StateLemmas.{state_of-entries, state_of-push}
 use Rattle.cgm_clauses.proofs.Standings.{left_as, made_is_true}
@@ -27,9 +27,9 @@ use Rattle.cgm_learn.specs.Learning.{IsAcceptedLemma, IsKnownHint, IsLemmaInRang
 use Rattle.cgm_log.specs.declared.batches.Batch.{Batch}
 use Rattle.cgm_log.specs.Landing.{IsLemmaOf, IsProper, with_landed}
 use Rattle.cgm_log.proofs.Adding.{closed_stays, open_grows}
-use Rattle.cgm_search.specs.declared.knowing.Known.{Known}
+use Rattle.cgm_search.specs.declared.knowledge.Known.{Known}
 use Rattle.cgm_search.specs.Knowing.{seen, seen_state}
-use Rattle.cgm_search.specs.Resolving.{IsTaken}
+use Rattle.cgm_search.specs.Resolving.{IsTaken, IsTradable}
 use Rattle.cgm_search.specs.Storing.{IsSeenName}
 use Rattle.cgm_search.specs.Trading.{HasLanded}
 use Rattle.cgm_search.proofs.Absorbing.{next_atoms_known}
@@ -52,16 +52,19 @@ known_before n (hint.Cut ordinal part) known = tt
 abbrev pub lemma_batch : ℕ → Entry → Batch
 lemma_batch by e = record { by = by; lemmas = e ∷ []; candidate = None }
 
-pub proper_lemma : (p : Instance) (log : List Entry) (by : ℕ) (l : Learned) → by < max_workers → IsAcceptedLemma p (state_of log) [] l → All (IsKnownHint (length log) 0) l.hints → IsLemmaInRange l → IsProper p log (lemma_batch by (lemma_by by l))
-proper_lemma p log by l below accepted known range =
+pub proper_lemma : (k : Known) (worker : ℕ) (l : Learned) → worker < max_workers → IsTradable k l → IsProper k.problem (seen k) (lemma_batch worker (lemma_by worker l))
+proper_lemma k worker l below tradable =
+    let p : Instance = k.problem in
+    let log : List Entry = seen k in
     record {
       worker = below;
       count = omega arith;
       lemmas =
-          All-cons (IsLemmaOf by (length log)) (lemma_by by l) [] (refl, range by below, λ k d short. known_before (length log) (get_or l.hints k d) (known k d short))
-          (All-nil (IsLemmaOf by (length log)));
+          All-cons (IsLemmaOf worker (length log)) (lemma_by worker l) []
+          (refl, tradable.range worker below, λ j d short. known_before (length log) (get_or l.hints j d) (tradable.hints j d short))
+          (All-nil (IsLemmaOf worker (length log)));
       accepted = (
-        subst (λ (n : ℕ). first_fault p (state_of log) (placed_entry n (lemma_by by l)) ≡ None) (entry_count log) (accepted by),
+        subst (λ (n : ℕ). first_fault p (state_of log) (placed_entry n (lemma_by worker l)) ≡ None) (entry_count log) (tradable.accepted worker),
         tt,
       );
       closing = (λ _. (refl, refl), tt);
@@ -110,11 +113,11 @@ pub taken : (k : Known) (old : List Entry) (by bound : ℕ) (c : Clause) (hints 
 taken k old by bound c hints h =
     taken_by_test k (old ++ h.0) by bound c hints (state_of (old ++ h.0)).closed refl h.1
 
-pub taken_on_ok : {T E : Type 0} (r : Result T E) (k : Known) (p : Instance) (old : List Entry) (b : Batch) (by bound : ℕ) (c : Clause) (hints : List Hint) → p ≡ k.problem → b ≡ lemma_batch by (Lemma by c hints bound) → OnOk r (HasLanded p old b (seen k)) → OnOk r (IsTaken k c)
-taken_on_ok (Ok x) k p old b by bound c hints e f h =
-    taken k old by bound c hints
-    (subst (λ (a : Batch). HasLanded k.problem old a (seen k)) f (subst (λ (q : Instance). HasLanded q old b (seen k)) e h))
-taken_on_ok (Err x) k p old b by bound c hints e f h = tt
+pub taken_on_ok : {T E : Type 0} (r : Result T E) (old new : Known) (b : Batch) (worker : ℕ) (l : Learned) → new.problem ≡ old.problem → b ≡ lemma_batch worker (lemma_by worker l) → OnOk r (HasLanded old.problem (seen old) b (seen new)) → OnOk r (IsTaken new l.clause)
+taken_on_ok (Ok x) old new b worker l e f h =
+    taken new (seen old) worker l.bound l.clause l.hints
+    (subst (λ (a : Batch). HasLanded new.problem (seen old) a (seen new)) f (subst (λ (q : Instance). HasLanded q (seen old) b (seen new)) (sym e) h))
+taken_on_ok (Err x) old new b worker l e f h = tt
 
 pub open_placed : (k : Known) (c : Clause) → IsTaken k c → (seen_state k).closed ≡ false → IsSeenName k.problem (seen_state k) (hint.Entry (length (seen k))) (of_clause c)
 open_placed k c h still_open =
@@ -151,11 +154,17 @@ same_last (x ∷ others) (x' ∷ others') a a' e =
 
 -- ---- what is learned without pending lemmas
 
-pub learned_known : {E : Type 0} (log : List Entry) (s : LogState) (pending : List Entry) (r : Result Learned E) → s ≡ state_of log → pending ≡ [] → IfOk r (λ l. All (IsKnownHint (length s.entries) (length pending)) l.hints) → IfOk r (λ l. All (IsKnownHint (length log) 0) l.hints)
-learned_known log s pending (Ok l) e f h =
-    subst (λ (n : ℕ). All (IsKnownHint n 0) l.hints) (ap (λ (t : LogState). length t.entries) e ∙ entry_count log)
-    (subst (λ (xs : List Entry). All (IsKnownHint (length s.entries) (length xs)) l.hints) f h)
-learned_known log s pending (Err x) e f h = tt
+pub learned_tradable : {E : Type 0} (k : Known) (s : LogState) (pending : List Entry) (r : Result Learned E) → s ≡ seen_state k → pending ≡ [] → IfOk r (IsAcceptedLemma k.problem s pending) → IfOk r (λ l. All (IsKnownHint (length s.entries) (length pending)) l.hints) → IfOk r IsLemmaInRange → IfOk r (IsTradable k)
+learned_tradable k s pending (Ok l) e f accepted known range = record {
+  accepted =
+      subst (λ (t : LogState). IsAcceptedLemma k.problem t [] l) e
+      (subst (λ (xs : List Entry). IsAcceptedLemma k.problem s xs l) f accepted);
+  hints =
+      subst (λ (n : ℕ). All (IsKnownHint n 0) l.hints) (ap (λ (t : LogState). length t.entries) e ∙ entry_count (seen k))
+      (subst (λ (xs : List Entry). All (IsKnownHint (length s.entries) (length xs)) l.hints) f known);
+  range = range;
+}
+learned_tradable k s pending (Err x) e f accepted known range = tt
 
 pub learned_atoms : {E : Type 0} (p : Instance) (s : LogState) (pending : List Entry) (r : Result Learned E) → IfOk r (IsAcceptedLemma p s pending) → IfOk r (λ l. AreKnown (var_count p) l.clause.atoms)
 learned_atoms p s pending (Ok l) h =

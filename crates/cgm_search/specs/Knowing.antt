@@ -5,7 +5,7 @@ use Rattle.cgm_atom.specs.Acceptance.{IsAccepted}
 use Rattle.cgm_atom.specs.Limits.{IsWellFormed}
 use Rattle.cgm_atom.specs.LogState.{LogState, state_of}
 use Rattle.cgm_step.specs.Indexing.{IsIndexOf}
-use Rattle.cgm_search.specs.declared.knowing.Known.{Known}
+use Rattle.cgm_search.specs.declared.knowledge.Known.{Known}
 use Rattle.cgm_search.specs.Storing.{IsStoreFor}
 
 -- the entries that were seen

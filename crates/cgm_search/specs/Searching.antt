@@ -1,14 +1,15 @@
 -- A search between two of its units: what it keeps, what a unit does, and how many trades it may still need.
-use Rattle.std.specs.Prelude.{◌≡◌, false, ℕ, ◌+◌, ◌-◌, ◌*◌, ◌^◌, ◌<◌, ◌≤◌, List, [], Option, Some, None, IfSome, Result, Ok, Err}
-use Rattle.cgm_atom.specs.declared.entries.Entry.{Entry}
+use Rattle.std.specs.Prelude.{◌≡◌, false, ℕ, ◌+◌, ◌-◌, ◌^◌, ◌<◌, ◌≤◌, [], Option, Some, None, IfSome, Result, Ok, Err}
+use Rattle.cgm_atom.specs.declared.entries.Hint.{Hint}
 use Rattle.cgm_atom.specs.Acceptance.{IsClosed}
 use Rattle.cgm_atom.specs.Instance.{Instance, var_count}
 use Rattle.cgm_atom.specs.Limits.{max_workers}
 use Rattle.cgm_learn.specs.Learning.{IsConflictIn}
+use Rattle.cgm_log.specs.Seats.{Seat}
 use Rattle.cgm_search.specs.declared.plans.Plan.{Plan}
 use Rattle.cgm_search.specs.declared.plans.Stopped.{Stopped}
 use Rattle.cgm_search.specs.declared.plans.Stopped.TheVariants as stopped
-use Rattle.cgm_search.specs.declared.searching.Search.{Search}
+use Rattle.cgm_search.specs.declared.searches.Search.{Search}
 use Rattle.cgm_search.specs.Choosing.{IsChoiceOf}
 use Rattle.cgm_search.specs.Knowing.{IsKnown, seen, seen_state}
 use Rattle.cgm_search.specs.Storing.{IsSeenName}
@@ -46,20 +47,28 @@ pub record IsReady (s : Search) : Type 0 where
   pub reasons : AreSeenReasons s
   pub choice : IsChoiceOf (var_count s.known.problem) s.choice
   pub plan : IsPlan s.plan
-  pub worker : s.by < max_workers
+  pub worker : s.worker < max_workers
 
--- the trader of a search, of which these are the problem, the seen list and the number
-pub record IsTraderOf (s : Search) (problem : Instance) (told : List Entry) (number : Option ℕ) : Type 0 where
-  pub same_problem : problem ≡ s.known.problem
-  pub same_entries : told ≡ seen s.known
-  pub own_number : IfSome number (λ n. s.by ≡ n)
+-- the search knows what its trader was told
+pub record Sits (s : Search) (seat : Seat) : Type 0 where
+  pub same_problem : seat.problem ≡ s.known.problem
+  pub same_entries : seat.told ≡ seen s.known
+  pub own_number : IfSome seat.number (λ n. s.worker ≡ n)
 
 -- what stays, also for want of memory
 pub record IsKept (old new : Search) : Type 0 where
   pub problem : new.known.problem ≡ old.known.problem
   pub plan : new.plan ≡ old.plan
-  pub worker : new.by ≡ old.by
+  pub worker : new.worker ≡ old.worker
   pub trail : IsTrailOf old.known.problem old.plan new.trail
+
+-- what a trade leaves of a search: all but what it knows of the log
+pub record IsTradedIn (old new : Search) : Type 0 where
+  pub problem : new.known.problem ≡ old.known.problem
+  pub trail : new.trail ≡ old.trail
+  pub choice : new.choice ≡ old.choice
+  pub plan : new.plan ≡ old.plan
+  pub worker : new.worker ≡ old.worker
 
 -- how many trades a search may still need: one for each move that is left, one for each level, and one for a closing lemma
 abbrev pub need : Search → ℕ
@@ -67,19 +76,30 @@ need s = s.plan.budget - s.trail.moves + level_of s.trail.changes + 1
 
 -- ---- how propagation ends
 
+-- what the hint names is in conflict with the trail's box
+abbrev pub IsConflictOf : Search → Hint → Type 0
+IsConflictOf s h = IsConflictIn s.known.problem (seen_state s.known) [] (box_of s.trail) h
+
 abbrev pub IsOutcome : {E : Type 0} → Search → Result Swept E → Type 0
 IsOutcome s (Ok swept.Quiet) = IsAtRest s.known.problem (box_of s.trail)
-IsOutcome s (Ok (swept.Conflict h)) = IsConflictIn s.known.problem (seen_state s.known) [] (box_of s.trail) h
+IsOutcome s (Ok (swept.Conflict h)) = IsConflictOf s h
 IsOutcome s (Ok swept.Spent) = s.trail.moves ≡ s.plan.budget
 IsOutcome s (Err e) = Unit {0}
 
 -- ---- a unit
 
--- it goes on, with one move more, and the trades from `before` to `after` were needed no more; or it ended
-abbrev pub IsUnit : Search → Search → Instance → List Entry → Option ℕ → ℕ → ℕ → Option Stopped → Type 0
-IsUnit old new problem told number before after None =
-    IsReady new × IsTraderOf new problem told number × (old.trail.moves < new.trail.moves) × (need new + before ≤ need old + after)
-IsUnit old new problem told number before after (Some stopped.Final) = IsClosed told
-IsUnit old new problem told number before after (Some stopped.Spent) =
-    IsReady new × IsTraderOf new problem told number × (new.trail.moves ≡ new.plan.budget)
-IsUnit old new problem told number before after (Some stopped.Memory) = Unit {0}
+-- it goes on, with one move more, and the trades that it made were needed no more; or it ended
+abbrev pub IsUnit : (old new : Search) → (before after : Seat) → Option Stopped → Type 0
+IsUnit old new before after None =
+    IsReady new
+    × Sits new after
+    × (old.trail.moves < new.trail.moves)
+    × (need new + before.trades ≤ need old + after.trades)
+IsUnit old new before after (Some stopped.Final) = IsClosed after.told
+IsUnit old new before after (Some stopped.Spent) =
+    IsReady new × Sits new after × (new.trail.moves ≡ new.plan.budget)
+IsUnit old new before after (Some stopped.Memory) = Unit {0}
+
+-- the seat before one trade more
+abbrev pub before_trade : Seat → Seat
+before_trade seat = record seat { trades = seat.trades + 1 }

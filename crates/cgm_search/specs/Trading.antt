@@ -1,10 +1,14 @@
 -- What a trade brings a worker: news of the log, and what landed of its batch.
-use Rattle.std.specs.Prelude.{◌≡◌, ℕ, ◌+◌, ◌≤◌, ℤ, List, [], ◌++◌, Option, Some, None}
+use Rattle.std.specs.Prelude.{◌≡◌, ℕ, ℤ, List, [], ◌++◌, Option, Some, None}
 use Rattle.cgm_atom.specs.declared.entries.Entry.{Entry}
 use Rattle.cgm_atom.specs.Instance.{Instance}
 use Rattle.cgm_log.specs.declared.batches.Batch.{Batch}
 use Rattle.cgm_log.specs.declared.batches.Fate.{Fate}
+use Rattle.cgm_log.specs.declared.batches.Traded.{Traded}
 use Rattle.cgm_log.specs.Landing.{kept_entry, with_landed}
+use Rattle.cgm_log.specs.Trading.{news_of}
+use Rattle.cgm_search.specs.declared.knowledge.Known.{Known}
+use Rattle.cgm_search.specs.Knowing.{seen}
 
 -- the entry that a candidate with this fate became, if it was kept
 abbrev pub kept_of : ℕ → Option (List ℤ) → Option Fate → List Entry
@@ -20,6 +24,9 @@ HasLanded p old b new = (news : List Entry) × (new ≡ with_landed p (old ++ ne
 abbrev pub IsLonger : List Entry → List Entry → Type 0
 IsLonger old new = (more : List Entry) × (new ≡ old ++ more)
 
--- of the trades that may still be made, at most n were made
-abbrev pub HasTradedAtMost : ℕ → ℕ → ℕ → Type 0
-HasTradedAtMost n before after = (after ≤ before) × (before ≤ after + n)
+-- what is known of the log with the news of an answer, and then with the batch
+abbrev pub after_news : Known → Traded → List Entry
+after_news k t = seen k ++ news_of t
+
+abbrev pub after_trade : Known → Traded → Batch → List Entry
+after_trade k t b = with_landed k.problem (after_news k t) b

@@ -1,11 +1,10 @@
 -- A worker as contracts see it, and what holds of it by how its run ended.
-use Rattle.std.specs.Prelude.{◌≡◌, false, ℕ, ◌+◌, ◌≤◌, List, [], length, Option, Some, None}
+use Rattle.std.specs.Prelude.{◌≡◌, false, ℕ, ◌+◌, ◌≤◌, [], length, Option, Some, None}
 use Rattle.std.specs.List.{All}
-use Rattle.cgm_atom.specs.declared.entries.Entry.{Entry}
 use Rattle.cgm_atom.specs.Acceptance.{IsAccepted, IsClosed}
-use Rattle.cgm_atom.specs.Instance.{Instance}
 use Rattle.cgm_atom.specs.LogState.{carried, state_of}
 use Rattle.cgm_clauses.specs.StoreState.{StoreState}
+use Rattle.cgm_log.specs.Seats.{Seat}
 use Rattle.cgm_search.specs.declared.plans.Plan.{Plan}
 use Rattle.cgm_search.specs.declared.plans.Stopped.{Stopped}
 use Rattle.cgm_search.specs.declared.plans.Stopped.TheVariants as stopped
@@ -15,13 +14,10 @@ use Rattle.cgm_trail.specs.Steps.{AreReasoned}
 use Rattle.cgm_trail.specs.TrailState.{TrailState, started}
 
 pub record WorkerState : Type 0 where
-  -- of its trader: the problem, what it has seen, the number if it has one, and how many trades it may still make
-  pub problem : Instance
-  pub told : List Entry
-  pub number : Option ℕ
-  pub trades : ℕ
+  -- that of its trader
+  pub seat : Seat
   -- its own number
-  pub by : ℕ
+  pub worker : ℕ
   pub plan : Plan
   pub trail : TrailState
   pub store : StoreState
@@ -30,30 +26,30 @@ pub record WorkerState : Type 0 where
 
 -- while what it has seen isn't closed
 pub record IsSearching (w : WorkerState) : Type 0 where
-  pub accepted : IsAccepted w.problem w.told
-  pub still_open : (state_of w.told).closed ≡ false
+  pub accepted : IsAccepted w.seat.problem w.seat.told
+  pub still_open : (state_of w.seat.told).closed ≡ false
   -- each change that isn't a decision is one that narrowing by its hint makes, and the hint names what it has seen
-  pub reasons : AreReasoned (IsSeenName w.problem (state_of w.told)) w.problem.bounds w.trail.changes
+  pub reasons : AreReasoned (IsSeenName w.seat.problem (state_of w.seat.told)) w.seat.problem.bounds w.trail.changes
   -- the problem's clauses, the cut of the last best, and each lemma of few atoms
-  pub store : IsStoreFor w.problem w.told w.store
+  pub store : IsStoreFor w.seat.problem w.seat.told w.store
   -- no cut and no lemma that it uses is of a later best than that one
-  pub bounds : All (λ n. carried (state_of w.told) n.name ≤ length (state_of w.told).bests) w.store.added
+  pub bounds : All (λ n. carried (state_of w.seat.told) n.name ≤ length (state_of w.seat.told).bests) w.store.added
 
 -- before its run
 pub record IsNew (w : WorkerState) : Type 0 where
   pub searching : IsSearching w
-  pub nothing : w.told ≡ []
-  pub trail : w.trail ≡ started w.problem
-  pub trades : w.plan.budget + 2 ≤ w.trades
+  pub nothing : w.seat.told ≡ []
+  pub trail : w.trail ≡ started w.seat.problem
+  pub trades : w.plan.budget + 2 ≤ w.seat.trades
 
 abbrev pub IsAt : WorkerState → Option Stopped → Type 0
 IsAt w None = IsNew w
-IsAt w (Some stopped.Final) = IsClosed w.told
+IsAt w (Some stopped.Final) = IsClosed w.seat.told
 IsAt w (Some stopped.Spent) = IsSearching w × (w.trail.moves ≡ w.plan.budget)
 IsAt w (Some stopped.Memory) = Unit {0}
 
 -- what holds of every worker
 pub record IsWorker (w : WorkerState) : Type 0 where
   pub plan : IsPlan w.plan
-  pub trail : IsTrailOf w.problem w.plan w.trail
+  pub trail : IsTrailOf w.seat.problem w.plan w.trail
   pub at : IsAt w w.ended

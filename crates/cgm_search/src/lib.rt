@@ -1,18 +1,18 @@
 //! One worker of a search: it propagates, learns from conflicts, decides, and trades lemmas and solutions with a log.
 #![tactic(auto)]
 
-mod batching;
-mod choosing;
-mod cutting;
-mod exchanging;
+mod batches;
+mod conflicts;
+mod cuts;
+mod decisions;
 mod gates;
-mod knowing;
+mod knowledge;
 mod plans;
 mod points;
-mod resolving;
-mod searching;
-mod settling;
-mod stepping;
+mod searches;
+mod settlement;
+mod trades;
+mod units;
 mod workers;
 
 pub use cgm_atom::OutOfMemory;

@@ -8,15 +8,15 @@ use std::alloc::Global;
 /// The least value of each variable.
 pub(crate) fn least_values(
     alloc: Global,
-    p: &Problem,
-    b: &BoxState,
+    problem: &Problem,
+    state: &BoxState,
 ) -> Result<Vec<i64>, OutOfMemory>
-    requires { length b.now.lower ≡ var_count p.now }
-    ensures { IfOk result (λ values. values.items ≡ b.now.lower) }
+    requires { length state.now.lower ≡ var_count problem.now }
+    ensures { IfOk result (λ values. values.items ≡ state.now.lower) }
 {
     let mut values = Vec::new(alloc);
-    for x in 0..p.vars() {
-        values.push(b.lo(Var(x)))?;
+    for x in 0..problem.vars() {
+        values.push(state.lo(Var(x)))?;
     }
     Ok(values)
 }

@@ -2,8 +2,8 @@
 ghost use Rattle.std.specs.Prelude.{◌≡◌, ◌≢◌, ◌+◌, ◌*◌, ◌^◌, ◌<◌, ◌≤◌, ◌↔◌, [], None, Some, IfOk, IfErr, IfSome};
 ghost use Rattle.cgm_atom.specs.Acceptance.{IsClosed};
 ghost use Rattle.cgm_atom.specs.Limits.{max_workers};
-ghost use Rattle.cgm_search.specs.Searching.{IsKept, IsPlan, IsReady, IsTraderOf, need};
-ghost use Rattle.cgm_search.specs.Trading.{HasTradedAtMost};
+ghost use Rattle.cgm_log.specs.Seats.{KeepsSeat};
+ghost use Rattle.cgm_search.specs.Searching.{IsKept, IsPlan, IsReady, Sits, need};
 ghost use Rattle.cgm_search.specs.WorkerParts.{IsFresh, IsWhole};
 ghost use Rattle.cgm_search.specs.Working.{IsWorker};
 ghost use Rattle.cgm_trail.specs.Rank.{slack};
@@ -11,8 +11,7 @@ ghost use Rattle.cgm_trail.specs.TrailState.{started};
 
 use crate::gates::{Gate, RUN_ENDS, RUN_STARTS};
 use crate::plans::{NoWorker, Plan, Stopped};
-use crate::searching::Search;
-use crate::stepping::{look, step};
+use crate::searches::Search;
 use cgm_atom::Problem;
 use cgm_log::Trader;
 use cgm_trail::Trail;
@@ -40,40 +39,40 @@ impl<T: Trader> Model for Worker<T> {
 
     ghost use Rattle.cgm_search.specs.WorkerParts.{IsWhole, worker_state};
 
-    ghost view = { λ w. worker_state (T.problem w.trader) (T.told w.trader) (T.number w.trader) (T.trades w.trader) w.search w.ended };
+    ghost view = { λ w. worker_state (T.seat w.trader) w.search w.ended };
 
-    ghost invariant = { λ w. IsWhole (T.problem w.trader) (T.told w.trader) (T.number w.trader) (T.trades w.trader) w.search w.ended };
+    ghost invariant = { λ w. IsWhole w.search (T.seat w.trader) w.ended };
 }
 
 impl<T: Trader> Worker<T> {
     /// A worker with this number over the problem. For want of memory the trader comes back.
     ///
-    /// Conditions: the trader's problem is `p`; it was told nothing and may still make two trades
+    /// Conditions: the trader's problem is `problem`; it was told nothing and may still make two trades
     /// more than the budget says; the number is below 16, and the trader's where that has one; the
     /// numbers of the plan are within their limits.
     pub fn new(
         alloc: Global,
-        p: &Problem,
+        problem: &Problem,
         trader: T,
-        by: u32,
+        worker: u32,
         plan: Plan,
     ) -> Result<Worker<T>, NoWorker<T>>
-        requires problem { T.problem trader ≡ p.now }
-        requires told { T.told trader ≡ [] }
-        requires trades { plan.budget + 2 ≤ T.trades trader }
-        requires worker { by < max_workers }
-        requires number { IfSome (T.number trader) (λ n. by ≡ n) }
+        requires problem { (T.seat trader).problem ≡ problem.now }
+        requires told { (T.seat trader).told ≡ [] }
+        requires trades { plan.budget + 2 ≤ (T.seat trader).trades }
+        requires worker { worker < max_workers }
+        requires number { IfSome (T.seat trader).number (λ n. worker ≡ n) }
         requires plan { IsPlan plan }
-        ensures worker { IfOk result (λ w. w.by ≡ by) }
+        ensures worker { IfOk result (λ w. w.worker ≡ worker) }
         ensures plan { IfOk result (λ w. w.plan ≡ plan) }
-        ensures problem { IfOk result (λ w. w.problem ≡ p.now) }
+        ensures problem { IfOk result (λ w. w.seat.problem ≡ problem.now) }
         ensures ended { IfOk result (λ w. w.ended ≡ None) }
-        ensures trades { IfOk result (λ w. w.trades ≡ T.trades trader) }
-        ensures number { IfOk result (λ w. w.number ≡ T.number trader) }
-        ensures trail { IfOk result (λ w. w.trail ≡ started p.now) }
+        ensures trades { IfOk result (λ w. w.seat.trades ≡ (T.seat trader).trades) }
+        ensures number { IfOk result (λ w. w.seat.number ≡ (T.seat trader).number) }
+        ensures trail { IfOk result (λ w. w.trail ≡ started problem.now) }
         ensures trader { IfErr result (λ n. n.trader ≡ trader) }
     {
-        match Search::new(alloc, p, by, plan) {
+        match Search::new(alloc, problem, worker, plan) {
             Err(_) => Err(NoWorker { trader }),
             Ok(search) => Ok(Worker {
                 trader,
@@ -101,17 +100,20 @@ impl<T: Trader> Worker<T> {
     pub fn run<G: Gate>(&mut self, gate: &G) -> Stopped
         ensures ended { self.new.ended ≡ Some result }
         ensures valid { IsWorker self.new }
-        ensures exact { result ≢ Stopped.Memory → result ≡ Stopped.Final ↔ IsClosed self.new.told }
+        ensures exact { result ≢ Stopped.Memory
+            → result ≡ Stopped.Final ↔ IsClosed self.new.seat.told }
         ensures spent { result ≡ Stopped.Spent → self.new.trail.moves ≡ self.old.plan.budget }
-        ensures never_spent { (self.old.plan.restarts + 1) * 2 ^ (slack self.old.problem.bounds + 1) ≤ self.old.plan.budget
+        ensures never_spent { (self.old.plan.restarts + 1)
+            * 2 ^ (slack self.old.seat.problem.bounds + 1) ≤ self.old.plan.budget
             → result ≢ Stopped.Spent }
         ensures again { self.old.ended ≢ None → self.new ≡ self.old }
-        ensures first { self.old.ended ≡ None → result ≢ Stopped.Memory → self.new.trades + 1 ≤ self.old.trades }
-        ensures few { self.old.trades ≤ self.new.trades + self.old.plan.budget + 2 }
-        ensures problem { self.new.problem ≡ self.old.problem }
-        ensures number { self.new.number ≡ self.old.number }
+        ensures first { self.old.ended ≡ None → result ≢ Stopped.Memory
+            → self.new.seat.trades + 1 ≤ self.old.seat.trades }
+        ensures few { self.old.seat.trades ≤ self.new.seat.trades + self.old.plan.budget + 2 }
+        ensures problem { self.new.seat.problem ≡ self.old.seat.problem }
+        ensures number { self.new.seat.number ≡ self.old.seat.number }
         ensures plan { self.new.plan ≡ self.old.plan }
-        ensures worker { self.new.by ≡ self.old.by }
+        ensures worker { self.new.worker ≡ self.old.worker }
     {
         let stopped = self.run_once(gate);
         self.recall_worker();
@@ -122,17 +124,16 @@ impl<T: Trader> Worker<T> {
     fn run_once<G: Gate>(&mut self, gate: &G) -> Stopped
         ensures ended { self.new.ended ≡ Some result }
         ensures again { self.old.ended ≢ None → self.new ≡ self.old }
-        ensures first { self.old.ended ≡ None → result ≢ Stopped.Memory → self.new.trades + 1 ≤ self.old.trades }
-        ensures few { self.old.trades ≤ self.new.trades + self.old.plan.budget + 2 }
-        ensures problem { self.new.problem ≡ self.old.problem }
-        ensures number { self.new.number ≡ self.old.number }
+        ensures first { self.old.ended ≡ None → result ≢ Stopped.Memory
+            → self.new.seat.trades + 1 ≤ self.old.seat.trades }
+        ensures seat { KeepsSeat (self.old.plan.budget + 2) self.old.seat self.new.seat }
         ensures plan { self.new.plan ≡ self.old.plan }
-        ensures worker { self.new.by ≡ self.old.by }
+        ensures worker { self.new.worker ≡ self.old.worker }
     {
         match self.ended {
             Some(stopped) => stopped,
             None => {
-                let stopped = search_log(&mut self.search, &mut self.trader, gate);
+                let stopped = self.search.run(&mut self.trader, gate);
                 self.ended = Some(stopped);
                 stopped
             }
@@ -150,10 +151,10 @@ impl<T: Trader> Worker<T> {
 
     /// The trader and the trail. Takes no memory.
     pub fn into_parts(self) -> (T, Trail)
-        ensures problem { T.problem result.0 ≡ self.problem }
-        ensures told { T.told result.0 ≡ self.told }
-        ensures number { T.number result.0 ≡ self.number }
-        ensures trades { T.trades result.0 ≡ self.trades }
+        ensures problem { (T.seat result.0).problem ≡ self.seat.problem }
+        ensures told { (T.seat result.0).told ≡ self.seat.told }
+        ensures number { (T.seat result.0).number ≡ self.seat.number }
+        ensures trades { (T.seat result.0).trades ≡ self.seat.trades }
         ensures trail { result.1 ≡ self.trail }
         ensures valid { IsWorker self }
     {
@@ -167,62 +168,62 @@ impl<T: Trader> Worker<T> {
     }
 }
 
-fn trail_of(s: Search) -> Trail
-    ensures { result ≡ s.trail }
+fn trail_of(search: Search) -> Trail
+    ensures { result ≡ search.trail }
 {
-    let Search { trail, .. } = s;
+    let Search { trail, .. } = search;
     trail
 }
 
-/// A whole run.
-fn search_log<T: Trader, G: Gate>(s: &mut Search, trader: &mut T, gate: &G) -> Stopped
-    requires fresh { IsFresh s.old (T.problem trader.old) (T.told trader.old) (T.number trader.old) (T.trades trader.old) }
-    ensures whole { IsWhole (T.problem trader.new) (T.told trader.new) (T.number trader.new) (T.trades trader.new) s.new (Some result) }
-    ensures first { result ≢ Stopped.Memory → T.trades trader.new + 1 ≤ T.trades trader.old }
-    ensures few { HasTradedAtMost (s.old.plan.budget + 2) (T.trades trader.old) (T.trades trader.new) }
-    ensures kept { IsKept s.old s.new }
-    ensures problem { T.problem trader.new ≡ T.problem trader.old }
-    ensures number { T.number trader.new ≡ T.number trader.old }
-{
-    gate.arrive(s.by, RUN_STARTS);
-    let stopped = search_from_start(s, trader, gate);
-    gate.arrive(s.by, RUN_ENDS);
-    stopped
-}
-
-/// The first trade, and then units until one ends the search.
-fn search_from_start<T: Trader, G: Gate>(s: &mut Search, trader: &mut T, gate: &G) -> Stopped
-    requires fresh { IsFresh s.old (T.problem trader.old) (T.told trader.old) (T.number trader.old) (T.trades trader.old) }
-    ensures whole { IsWhole (T.problem trader.new) (T.told trader.new) (T.number trader.new) (T.trades trader.new) s.new (Some result) }
-    ensures first { result ≢ Stopped.Memory → T.trades trader.new + 1 ≤ T.trades trader.old }
-    ensures few { HasTradedAtMost (s.old.plan.budget + 2) (T.trades trader.old) (T.trades trader.new) }
-    ensures kept { IsKept s.old s.new }
-    ensures problem { T.problem trader.new ≡ T.problem trader.old }
-    ensures number { T.number trader.new ≡ T.number trader.old }
-{
-    match look(s, trader, gate) {
-        Err(_) => Stopped::Memory,
-        Ok(Some(stopped)) => stopped,
-        Ok(None) => step_all(s, trader, gate),
+impl Search {
+    /// A whole run.
+    fn run<T: Trader, G: Gate>(&mut self, trader: &mut T, gate: &G) -> Stopped
+        requires fresh { IsFresh self.old (T.seat trader.old) }
+        ensures whole { IsWhole self.new (T.seat trader.new) (Some result) }
+        ensures first { result ≢ Stopped.Memory
+            → (T.seat trader.new).trades + 1 ≤ (T.seat trader.old).trades }
+        ensures kept { IsKept self.old self.new }
+        ensures seat { KeepsSeat (self.old.plan.budget + 2)
+            (T.seat trader.old) (T.seat trader.new) }
+    {
+        gate.arrive(self.worker, RUN_STARTS);
+        let stopped = self.run_from_start(trader, gate);
+        gate.arrive(self.worker, RUN_ENDS);
+        stopped
     }
-}
 
-/// Units until one ends the search.
-fn step_all<T: Trader, G: Gate>(s: &mut Search, trader: &mut T, gate: &G) -> Stopped
-    requires ready { IsReady s.old }
-    requires trader { IsTraderOf s.old (T.problem trader.old) (T.told trader.old) (T.number trader.old) }
-    requires enough { need s.old ≤ T.trades trader.old }
-    ensures whole { IsWhole (T.problem trader.new) (T.told trader.new) (T.number trader.new) (T.trades trader.new) s.new (Some result) }
-    ensures few { HasTradedAtMost (need s.old) (T.trades trader.old) (T.trades trader.new) }
-    ensures kept { IsKept s.old s.new }
-    ensures problem { T.problem trader.new ≡ T.problem trader.old }
-    ensures number { T.number trader.new ≡ T.number trader.old }
-{
-    loop {
-        match step(s, trader, gate) {
-            Err(_) => return Stopped::Memory,
-            Ok(Some(stopped)) => return stopped,
-            Ok(None) => {}
+    /// The first trade, and then units until one ends the search.
+    fn run_from_start<T: Trader, G: Gate>(&mut self, trader: &mut T, gate: &G) -> Stopped
+        requires fresh { IsFresh self.old (T.seat trader.old) }
+        ensures whole { IsWhole self.new (T.seat trader.new) (Some result) }
+        ensures first { result ≢ Stopped.Memory
+            → (T.seat trader.new).trades + 1 ≤ (T.seat trader.old).trades }
+        ensures kept { IsKept self.old self.new }
+        ensures seat { KeepsSeat (self.old.plan.budget + 2)
+            (T.seat trader.old) (T.seat trader.new) }
+    {
+        match self.look(trader, gate) {
+            Err(_) => Stopped::Memory,
+            Ok(Some(stopped)) => stopped,
+            Ok(None) => self.step_all(trader, gate),
+        }
+    }
+
+    /// Units until one ends the search.
+    fn step_all<T: Trader, G: Gate>(&mut self, trader: &mut T, gate: &G) -> Stopped
+        requires ready { IsReady self.old }
+        requires seat { Sits self.old (T.seat trader.old) }
+        requires enough { need self.old ≤ (T.seat trader.old).trades }
+        ensures whole { IsWhole self.new (T.seat trader.new) (Some result) }
+        ensures kept { IsKept self.old self.new }
+        ensures seat { KeepsSeat (need self.old) (T.seat trader.old) (T.seat trader.new) }
+    {
+        loop {
+            match self.step(trader, gate) {
+                Err(_) => return Stopped::Memory,
+                Ok(Some(stopped)) => return stopped,
+                Ok(None) => {}
+            }
         }
     }
 }

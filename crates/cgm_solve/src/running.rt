@@ -31,7 +31,7 @@ pub(crate) fn run_worker(alloc: Global, p: &Problem, plan: Plan) -> Result<Ended
 
 fn run_to_end(worker: Worker<Alone>) -> Ended
     requires { worker.ended ≡ None }
-    ensures { IsEnded worker.problem worker.plan result }
+    ensures { IsEnded worker.seat.problem worker.plan result }
 {
     let mut worker = worker;
     let stopped = worker.run(&IdleGate);
@@ -46,8 +46,8 @@ fn run_to_end(worker: Worker<Alone>) -> Ended
 }
 
 fn log_of(trader: Alone) -> Log
-    ensures problem { result.problem ≡ ⟦<Alone as Trader>⟧.problem trader }
-    ensures entries { result.entries ≡ ⟦<Alone as Trader>⟧.told trader }
+    ensures problem { result.problem ≡ (⟦<Alone as Trader>⟧.seat trader).problem }
+    ensures entries { result.entries ≡ (⟦<Alone as Trader>⟧.seat trader).told }
 {
     trader.into_log_if_alone().unwrap()
 }

@@ -6,23 +6,25 @@ use Rattle.cgm_learn.proofs.Needs.{clause_gives, proper_of}
 use Rattle.cgm_learn.proofs.explaining.explain_atom.Goals as goal
 
 pub explain_row_atom-requires-clause-row : goal.explain_row_atom-requires-clause-row
-explain_row_atom-requires-clause-row c = IsRowOf-inside c.args.p.now.bounds c.args.work.now c.in-Row.row.now c.requires.work_limits (rw c.in-Row.is at c.requires.named)
+explain_row_atom-requires-clause-row c = IsRowOf-inside c.args.problem.now.bounds c.args.work.now c.in-Row.row.now c.requires.work_limits (rw c.in-Row.is at c.requires.named)
 
-pub explain_row_atom-requires-clause-proper : goal.explain_row_atom-requires-clause-proper
-explain_row_atom-requires-clause-proper c = proper_of c.args.p.now.bounds c.args.work.now c.requires.work_limits
-
-pub explain_row_atom-requires-clause-work_sizes : goal.explain_row_atom-requires-clause-work_sizes
-explain_row_atom-requires-clause-work_sizes c = AreBounds-inside c.args.p.now.bounds c.args.work.now c.recall_well_formed.ensures.sizes c.requires.work_limits.inside c.requires.work_limits.ordered
-
-pub explain_row_atom-requires-clause-need_sizes : goal.explain_row_atom-requires-clause-need_sizes
-explain_row_atom-requires-clause-need_sizes c = AreBounds-inside c.args.p.now.bounds c.args.need.now c.recall_well_formed.ensures.sizes c.requires.need_limits.inside c.requires.need_limits.ordered
+pub explain_row_atom-requires-clause-needed : goal.explain_row_atom-requires-clause-needed
+explain_row_atom-requires-clause-needed c =
+    let limits = c.args.problem.now.bounds in
+    let sizes = c.recall_well_formed.ensures.sizes in
+    record {
+      proper = proper_of limits c.args.work.now c.requires.work_limits;
+      inside = c.requires.inside;
+      work_sizes = AreBounds-inside limits c.args.work.now sizes c.requires.work_limits.inside c.requires.work_limits.ordered;
+      need_sizes = AreBounds-inside limits c.args.need.now sizes c.requires.need_limits.inside c.requires.need_limits.ordered;
+    }
 
 pub explain_row_atom-requires-clause-given : goal.explain_row_atom-requires-clause-given
 explain_row_atom-requires-clause-given c = rw c.in-Row.is at c.requires.given
 
 pub returns-in-Clause-clause-led : goal.returns-in-Clause-clause-led
 returns-in-Clause-clause-led c =
-    let limits = c.args.p.now.bounds in
+    let limits = c.args.problem.now.bounds in
     let work = c.args.work.now in
     let named = rw c.in-Clause.is at c.requires.named in
     rw c.in-Clause.is

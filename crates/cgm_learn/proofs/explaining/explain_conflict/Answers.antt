@@ -5,16 +5,18 @@ use Rattle.cgm_learn.proofs.Needs.{clause_conflict, proper_of}
 use Rattle.cgm_learn.proofs.explaining.explain_conflict.Goals as goal
 
 pub explain_row_conflict-requires-clause-row : goal.explain_row_conflict-requires-clause-row
-explain_row_conflict-requires-clause-row c = IsRowOf-inside c.args.p.now.bounds c.args.work.now c.in-Row.row.now c.requires.work_limits (rw c.in-Row.is at c.requires.named)
+explain_row_conflict-requires-clause-row c = IsRowOf-inside c.args.problem.now.bounds c.args.work.now c.in-Row.row.now c.requires.work_limits (rw c.in-Row.is at c.requires.named)
 
-pub explain_row_conflict-requires-clause-proper : goal.explain_row_conflict-requires-clause-proper
-explain_row_conflict-requires-clause-proper c = proper_of c.args.p.now.bounds c.args.work.now c.requires.work_limits
-
-pub explain_row_conflict-requires-clause-work_sizes : goal.explain_row_conflict-requires-clause-work_sizes
-explain_row_conflict-requires-clause-work_sizes c = AreBounds-inside c.args.p.now.bounds c.args.work.now c.recall_well_formed.ensures.sizes c.requires.work_limits.inside c.requires.work_limits.ordered
-
-pub explain_row_conflict-requires-clause-need_sizes : goal.explain_row_conflict-requires-clause-need_sizes
-explain_row_conflict-requires-clause-need_sizes c = AreBounds-inside c.args.p.now.bounds c.args.need.now c.recall_well_formed.ensures.sizes c.requires.need_limits.inside c.requires.need_limits.ordered
+pub explain_row_conflict-requires-clause-needed : goal.explain_row_conflict-requires-clause-needed
+explain_row_conflict-requires-clause-needed c =
+    let limits = c.args.problem.now.bounds in
+    let sizes = c.recall_well_formed.ensures.sizes in
+    record {
+      proper = proper_of limits c.args.work.now c.requires.work_limits;
+      inside = c.requires.inside;
+      work_sizes = AreBounds-inside limits c.args.work.now sizes c.requires.work_limits.inside c.requires.work_limits.ordered;
+      need_sizes = AreBounds-inside limits c.args.need.now sizes c.requires.need_limits.inside c.requires.need_limits.ordered;
+    }
 
 pub explain_row_conflict-requires-clause-conflict : goal.explain_row_conflict-requires-clause-conflict
 explain_row_conflict-requires-clause-conflict c = rw c.in-Row.is at c.requires.conflict

@@ -1,4 +1,3 @@
-use Rattle.std.proofs.Common.{refl}
 use Rattle.cgm_learn.proofs.Needs.{added, explained_added}
 use Rattle.cgm_learn.proofs.explaining.need_atom.Goals as goal
 

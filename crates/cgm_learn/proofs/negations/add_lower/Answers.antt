@@ -1,4 +1,4 @@
-use Rattle.std.proofs.Common.{◌++◌, ◌∷◌, [], ◌∙◌, ap, arith, sym}
+use Rattle.std.proofs.Common.{◌++◌, ◌∷◌, [], ◌∙◌, ap, sym}
 use Rattle.cgm_learn.proofs.Negating.{lower_when}
 use Rattle.cgm_learn.proofs.negations.add_lower.Goals as goal
 

@@ -1,4 +1,4 @@
-use Rattle.std.proofs.Common.{◌++◌, ◌∷◌, [], ◌∙◌, ap, arith, sym}
+use Rattle.std.proofs.Common.{◌++◌, ◌∷◌, [], ◌∙◌, ap, sym}
 use Rattle.cgm_learn.proofs.Negating.{upper_when}
 use Rattle.cgm_learn.proofs.negations.add_upper.Goals as goal
 

@@ -1,4 +1,4 @@
-use Rattle.std.proofs.Common.{◌<◌, ◌∙◌, ℕ, sym, arith}
+use Rattle.std.proofs.Common.{◌∙◌, sym, arith}
 use Rattle.cgm_learn.proofs.Boxes.{inside_from}
 use Rattle.cgm_learn.proofs.places.is_inside.Goals as goal
 

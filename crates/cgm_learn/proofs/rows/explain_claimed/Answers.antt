@@ -4,7 +4,7 @@ use Rattle.cgm_atom.specs.Narrowing.{greatest_activity, made_true}
 use Rattle.cgm_trail.specs.TrailState.{IsOpenIn}
 use Rattle.cgm_learn.proofs.Boxes.{negation_open}
 use Rattle.cgm_learn.proofs.Needs.{explained_then}
-use Rattle.cgm_learn.proofs.RowNeeds.{between, sizes_between}
+use Rattle.cgm_learn.proofs.RowNeeds.{between, need_between}
 use Rattle.cgm_learn.proofs.RowGives.{row_atom_still}
 use Rattle.cgm_learn.proofs.rows.explain_claimed.Goals as goal
 
@@ -12,11 +12,9 @@ pub slack_with-requires-clause-undecided : goal.slack_with-requires-clause-undec
 slack_with-requires-clause-undecided c =
     subst (λ (x : Atom). IsOpenIn c.args.work.now x) (sym c.opposite-negated.ensures.negation) (negation_open c.args.work.now c.args.a c.requires.undecided)
 
-pub explain_terms-requires-clause-inside : goal.explain_terms-requires-clause-inside
-explain_terms-requires-clause-inside c = (between c.args.work.now c.args.need.now c.explain_guard.new.need c.requires.proper c.requires.inside c.explain_guard.ensures.explained).inside
-
-pub explain_terms-requires-clause-need_sizes : goal.explain_terms-requires-clause-need_sizes
-explain_terms-requires-clause-need_sizes c = sizes_between c.args.work.now c.args.need.now c.explain_guard.new.need c.requires.proper c.requires.need_sizes c.requires.inside c.explain_guard.ensures.explained
+pub explain_terms-requires-clause-needed : goal.explain_terms-requires-clause-needed
+explain_terms-requires-clause-needed c =
+    need_between c.args.work.now c.args.need.now c.explain_guard.new.need c.requires.needed c.explain_guard.ensures.explained
 
 pub explain_terms-requires-clause-undecided : goal.explain_terms-requires-clause-undecided
 explain_terms-requires-clause-undecided c =
@@ -29,9 +27,9 @@ returns-in-Some-clause-led c =
     let new = c.explain_terms.new.need in
     let r = c.args.row.now in
     let o = c.opposite-negated.result in
-    let inside = (between work c.args.need.now mid c.requires.proper c.requires.inside c.explain_guard.ensures.explained).inside in
-    let both = between work mid new c.requires.proper inside c.explain_terms.ensures.explained in
-    row_atom_still work mid new r c.args.a o (greatest_activity (made_true work o) r.terms) c.in-Some.slack c.requires.proper both.inside c.requires.row.terms c.requires.undecided.known c.opposite-negated.ensures.negation refl
+    let inside = (between work c.args.need.now mid c.requires.needed.proper c.requires.needed.inside c.explain_guard.ensures.explained).inside in
+    let both = between work mid new c.requires.needed.proper inside c.explain_terms.ensures.explained in
+    row_atom_still work mid new r c.args.a o (greatest_activity (made_true work o) r.terms) c.in-Some.slack c.requires.needed.proper both.inside c.requires.row.terms c.requires.undecided.known c.opposite-negated.ensures.negation refl
     (rw c.in-Some.is at c.in_ok-slack_with.ensures) c.explain_guard.ensures.claimed both.more (rw c.as_slice.ensures at c.explain_terms.ensures.sum)
 
 pub returns-in-Some-clause-explained : goal.returns-in-Some-clause-explained

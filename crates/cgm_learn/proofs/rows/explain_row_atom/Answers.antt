@@ -13,5 +13,5 @@ returns-in-Some-clause-led c =
     let new = c.explain_terms.new.need in
     let r = c.args.row.now in
     let most = greatest_activity work r.terms in
-    row_guard_still work new r c.args.a most c.in-Some.slack c.requires.proper (between work c.args.need.now new c.requires.proper c.requires.inside c.explain_terms.ensures.explained).inside c.requires.row.guard c.requires.undecided.not_true refl
+    row_guard_still work new r c.args.a most c.in-Some.slack c.requires.needed.proper (between work c.args.need.now new c.requires.needed.proper c.requires.needed.inside c.explain_terms.ensures.explained).inside c.requires.row.guard c.requires.undecided.not_true refl
     (below_by_slack most r.least c.in-Some.slack c.in-Some.ensures) c.in-Some.ensures c.requires.given (rw c.as_slice.ensures at c.explain_terms.ensures.sum)

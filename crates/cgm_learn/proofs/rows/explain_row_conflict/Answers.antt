@@ -1,24 +1,16 @@
-use Rattle.std.proofs.Common.{refl, subst, ℤ, ◌≤◌, ℕ, pos, List}
-use Rattle.std.specs.Prelude.{◌+ℤ◌, ◌≤ℤ◌}
-use Rattle.std.specs.declared.option.Option.TheVariants.{None}
-use Rattle.cgm_atom.specs.declared.constraints.Var.{Var}
-use Rattle.cgm_atom.specs.Bounds.{Bounds}
-use Rattle.cgm_atom.specs.Laws.{IsSmaller}
+use Rattle.std.proofs.Common.{refl}
 use Rattle.cgm_atom.specs.Narrowing.{greatest_activity}
-use Rattle.cgm_learn.specs.Terms.{HoldsIn}
 use Rattle.cgm_learn.proofs.Needs.{explained_then}
-use Rattle.cgm_learn.proofs.RowNeeds.{between, sizes_between}
+use Rattle.cgm_learn.proofs.RowNeeds.{between, need_between}
 use Rattle.cgm_learn.proofs.RowGives.{not_both_orders, row_refused, row_refused_still}
 use Rattle.cgm_learn.proofs.rows.explain_row_conflict.Goals as goal
 
 pub explain_guard-requires-clause-claimed : goal.explain_guard-requires-clause-claimed
 explain_guard-requires-clause-claimed c = (row_refused c.args.work.now c.args.row.now c.requires.conflict).claimed
 
-pub explain_terms-requires-clause-inside : goal.explain_terms-requires-clause-inside
-explain_terms-requires-clause-inside c = (between c.args.work.now c.args.need.now c.explain_guard.new.need c.requires.proper c.requires.inside c.explain_guard.ensures.explained).inside
-
-pub explain_terms-requires-clause-need_sizes : goal.explain_terms-requires-clause-need_sizes
-explain_terms-requires-clause-need_sizes c = sizes_between c.args.work.now c.args.need.now c.explain_guard.new.need c.requires.proper c.requires.need_sizes c.requires.inside c.explain_guard.ensures.explained
+pub explain_terms-requires-clause-needed : goal.explain_terms-requires-clause-needed
+explain_terms-requires-clause-needed c =
+    need_between c.args.work.now c.args.need.now c.explain_guard.new.need c.requires.needed c.explain_guard.ensures.explained
 
 pub returns-in-None-clause-conflict : goal.returns-in-None-clause-conflict
 returns-in-None-clause-conflict c =
@@ -29,9 +21,9 @@ returns-in-Some-clause-conflict c =
     let work = c.args.work.now in
     let mid = c.explain_guard.new.need in
     let r = c.args.row.now in
-    let inside = (between work c.args.need.now mid c.requires.proper c.requires.inside c.explain_guard.ensures.explained).inside in
+    let inside = (between work c.args.need.now mid c.requires.needed.proper c.requires.needed.inside c.explain_guard.ensures.explained).inside in
     row_refused_still work mid c.explain_terms.new.need r (greatest_activity work r.terms) c.in-Some.slack refl c.in-Some.ensures c.explain_guard.ensures.claimed
-    (between work mid c.explain_terms.new.need c.requires.proper inside c.explain_terms.ensures.explained).more
+    (between work mid c.explain_terms.new.need c.requires.needed.proper inside c.explain_terms.ensures.explained).more
     (rw c.as_slice.ensures at c.explain_terms.ensures.sum)
 
 pub returns-in-Some-clause-explained : goal.returns-in-Some-clause-explained

@@ -17,5 +17,5 @@ returns-clause-sum c =
     let left = c.args.slack - by * c.size_of-size.result in
     subst (λ (b : Bounds). (greatest_term b t.0 t.1.0 +ℤ pos left) ≤ℤ (greatest_term work t.0 t.1.0 +ℤ pos c.args.slack))
     (sym (c.need_atom.ensures.after ∙ ap (made_true need) c.far_moved.ensures))
-    (term_sum work need t.0 t.1 by left c.args.slack (omega (arith, c.requires.known, c.requires.inside.lower_count)) (omega (arith, c.requires.inside.lower_count, c.requires.inside.upper_count, c.requires.proper.same_count))
+    (term_sum work need t.0 t.1 by left c.args.slack (omega (arith, c.requires.known, c.requires.needed.inside.lower_count)) (omega (arith, c.requires.needed.inside.lower_count, c.requires.needed.inside.upper_count, c.requires.needed.proper.same_count))
     (spend by c.size_of-size.result (unsigned_abs t.0) c.args.slack c.size_of-size.ensures.size c.affordable-by.ensures.cost))

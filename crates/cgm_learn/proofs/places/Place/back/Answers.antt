@@ -1,5 +1,5 @@
-use Rattle.std.proofs.Common.{◌-◌, sym, ◌∙◌, arith, ap, true, false, cond}
-use Rattle.cgm_learn.proofs.Changes.{IsBack, one_back, place_after}
+use Rattle.std.proofs.Common.{◌-◌, sym, ◌∙◌, arith}
+use Rattle.cgm_learn.proofs.Changes.{one_back, place_after}
 use Rattle.cgm_learn.proofs.places.Place.back.Goals as goal
 
 pub relax-requires-clause-known : goal.relax-requires-clause-known

@@ -7,4 +7,4 @@ pub returns : goal.returns
 returns g c =
     let trader = c.self.inside.trader in
     subst (λ (w : WorkerState). IsWorker w) c.self.view_is
-    (worker_of (g.T.Trader.problem trader) (g.T.Trader.told trader) (g.T.Trader.number trader) (g.T.Trader.trades trader) c.self.inside.search c.self.inside.ended c.self.invariant)
+    (worker_of c.self.inside.search (g.T.Trader.seat trader) c.self.inside.ended c.self.invariant)

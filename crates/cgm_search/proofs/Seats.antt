@@ -1,0 +1,27 @@
+-- What a trade does to the seat of a worker, and what the search then knows.
+use Rattle.std.proofs.Common.{◌≡◌, List, ◌++◌, sym, ap, ◌∙◌}
+use Rattle.std.specs.Prelude.{Result, Ok, Err, OnOk}
+use Rattle.cgm_atom.specs.declared.entries.Entry.{Entry}
+use Rattle.cgm_atom.specs.Instance.{Instance}
+use Rattle.cgm_log.specs.declared.batches.Batch.{Batch}
+use Rattle.cgm_log.specs.declared.batches.Traded.{Traded}
+use Rattle.cgm_log.specs.Landing.{with_landed}
+use Rattle.cgm_log.specs.Seats.{Seat}
+use Rattle.cgm_log.specs.Trading.{news_of, with_batch}
+use Rattle.cgm_search.specs.declared.searches.Search.{Search}
+use Rattle.cgm_search.specs.Knowing.{seen}
+use Rattle.cgm_search.specs.Searching.{IsTradedIn, Sits}
+use Rattle.cgm_search.specs.Trading.{after_trade}
+use Rattle.cgm_search.proofs.Readiness.{sits_traded}
+
+-- the log of the seat with the batch is what is known with it
+with_batch_known : (s : Search) (seat : Seat) (t : Traded) (b : Batch) → Sits s seat → with_batch seat t b ≡ after_trade s.known t b
+with_batch_known s seat t b h =
+    ap (λ (p : Instance). with_landed p (seat.told ++ news_of t) b) h.same_problem
+    ∙ ap (λ (xs : List Entry). with_landed s.known.problem (xs ++ news_of t) b) h.same_entries
+
+pub told_on_ok : {T E : Type 0} (r : Result T E) (old new : Search) (seat seat' : Seat) (t : Traded) (b copy : Batch) → Sits old seat → IsTradedIn old new → seat'.problem ≡ seat.problem → seat'.number ≡ seat.number → seat'.told ≡ with_batch seat t b → copy ≡ b → OnOk r (seen new.known ≡ after_trade old.known t copy) → OnOk r (Sits new seat')
+told_on_ok (Ok x) old new seat seat' t b copy h same e f told c entries =
+    sits_traded old new seat seat' h same e
+    (told ∙ with_batch_known old seat t b h ∙ ap (λ (a : Batch). after_trade old.known t a) (sym c) ∙ sym entries) f
+told_on_ok (Err x) old new seat seat' t b copy h same e f told c entries = tt

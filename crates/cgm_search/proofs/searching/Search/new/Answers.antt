@@ -1,6 +1,0 @@
-use Rattle.cgm_search.proofs.Readiness.{ready_new}
-use Rattle.cgm_search.proofs.searching.Search.new.Goals as goal
-
-pub returns-clause-ready : goal.returns-clause-ready
-returns-clause-ready c =
-    ready_new c.args.p.now _ c.in_ok-known.ensures.known c.in_ok-known.ensures.problem c.in_ok-known.ensures.nothing c.in_ok-trail.ensures c.in_ok-choice.ensures c.requires.plan c.requires.worker

@@ -1,0 +1,140 @@
+//! Batches, and what becomes of them in a log that isn't closed.
+ghost use Rattle.std.specs.Prelude.{◌≡◌, ◌-◌, ◌+◌, ◌++◌, ◌≤◌, [], ◌∷◌, None, Some, IfOk};
+ghost use Rattle.std.specs.List.{All};
+ghost use Rattle.cgm_atom.specs.Placing.{HintsCanBePlaced, all_placed};
+ghost use Rattle.cgm_learn.specs.Learning.{lemma_by};
+ghost use Rattle.cgm_search.specs.Trading.{kept_of};
+
+use cgm_atom::{Entry, OutOfMemory, Seq, copy_placed};
+use cgm_learn::Learned;
+use cgm_log::{Batch, Fate};
+use std::alloc::Global;
+
+/// A batch that adds nothing.
+pub(crate) fn empty_batch(alloc: Global, worker: u32) -> Batch
+    ensures { result ≡ record { by = worker; lemmas = []; candidate = None } }
+{
+    Batch {
+        by: worker,
+        lemmas: Seq::of(Vec::new(alloc)),
+        candidate: None,
+    }
+}
+
+/// A batch with what was learned as its one lemma.
+pub(crate) fn lemma_batch(alloc: Global, worker: u32, lemma: Learned) -> Result<Batch, OutOfMemory>
+    ensures { IfOk result
+        (λ b. b ≡ record { by = worker; lemmas = lemma_by worker lemma ∷ []; candidate = None }) }
+{
+    let mut lemmas = Vec::new(alloc);
+    lemmas.push(lemma_entry(worker, lemma))?;
+    Ok(Batch {
+        by: worker,
+        lemmas: Seq::of(lemmas),
+        candidate: None,
+    })
+}
+
+fn lemma_entry(worker: u32, lemma: Learned) -> Entry
+    ensures { result ≡ lemma_by worker lemma }
+{
+    let bound = lemma.bound;
+    let Learned { clause, hints, .. } = lemma;
+    Entry::Lemma {
+        by: worker,
+        clause,
+        hints,
+        bound,
+    }
+}
+
+/// A batch with a candidate alone.
+pub(crate) fn candidate_batch(alloc: Global, worker: u32, values: Vec<i64>) -> Batch
+    ensures { result ≡ record { by = worker; lemmas = []; candidate = Some values.items } }
+{
+    Batch {
+        by: worker,
+        lemmas: Seq::of(Vec::new(alloc)),
+        candidate: Some(Seq::of(values)),
+    }
+}
+
+/// An equal batch.
+pub(crate) fn copy_batch(alloc: Global, b: &Batch) -> Result<Batch, OutOfMemory>
+    ensures { IfOk result (λ c. c ≡ b.now) }
+{
+    let lemmas = copy_entries(alloc, b.lemmas.as_slice())?;
+    let candidate = copy_candidate(alloc, &b.candidate)?;
+    Ok(Batch {
+        by: b.by,
+        lemmas: Seq::of(lemmas),
+        candidate,
+    })
+}
+
+fn copy_entries(alloc: Global, entries: &[Entry]) -> Result<Vec<Entry>, OutOfMemory>
+    ensures { IfOk result (λ copies. copies.items ≡ entries.now) }
+{
+    let mut copies = Vec::new(alloc);
+    for entry in entries {
+        copies.push(entry.copy(alloc)?)?;
+    }
+    Ok(copies)
+}
+
+fn copy_candidate(
+    alloc: Global,
+    candidate: &Option<Seq<i64>>,
+) -> Result<Option<Seq<i64>>, OutOfMemory>
+    ensures { IfOk result (λ copy. copy ≡ candidate.now) }
+{
+    match candidate {
+        None => Ok(None),
+        Some(values) => Ok(Some(Seq::of(Vec::from_slice(alloc, values.as_slice())?))),
+    }
+}
+
+/// What landed of a batch whose first lemma has the place `first`, where its candidate had this fate.
+pub(crate) fn landing_of(
+    alloc: Global,
+    b: &Batch,
+    first: u64,
+    fate: &Option<Fate>,
+) -> Result<Vec<Entry>, OutOfMemory>
+    requires first { 1 ≤ first }
+    requires placed { All (HintsCanBePlaced (first - 1)) b.now.lemmas }
+    ensures { IfOk result (λ landing. landing.items
+        ≡ all_placed (first - 1) b.now.lemmas ++ kept_of b.now.by b.now.candidate fate.now) }
+{
+    let mut kept = kept_entries(alloc, b.by, &b.candidate, fate)?;
+    let mut landing = copy_placed(alloc, b.lemmas.as_slice(), first - 1)?;
+    landing.append(&mut kept)?;
+    Ok(landing)
+}
+
+fn kept_entries(
+    alloc: Global,
+    worker: u32,
+    candidate: &Option<Seq<i64>>,
+    fate: &Option<Fate>,
+) -> Result<Vec<Entry>, OutOfMemory>
+    ensures { IfOk result (λ kept. kept.items ≡ kept_of worker candidate.now fate.now) }
+{
+    match candidate {
+        None => Ok(Vec::new(alloc)),
+        Some(values) => match fate {
+            None => Ok(Vec::new(alloc)),
+            Some(Fate::Behind { .. }) => Ok(Vec::new(alloc)),
+            Some(Fate::Kept { .. }) => one_best(alloc, worker, values.as_slice()),
+        },
+    }
+}
+
+fn one_best(alloc: Global, worker: u32, values: &[i64]) -> Result<Vec<Entry>, OutOfMemory>
+    ensures { IfOk result (λ kept. kept.items ≡ Entry.Best worker values.now ∷ []) }
+{
+    let mut kept = Vec::new(alloc);
+    let values = Seq::of(Vec::from_slice(alloc, values)?);
+    kept.push(Entry::Best { by: worker, values })?;
+    Ok(kept)
+}

@@ -1,0 +1,76 @@
+//! Trades.
+ghost use Rattle.std.specs.Prelude.{◌≡◌, ◌+◌, ◌^◌, ◌<◌, ◌≤◌, length, OnOk};
+ghost use Rattle.cgm_atom.specs.Acceptance.{IsAccepted};
+ghost use Rattle.cgm_log.specs.Landing.{IsProper};
+ghost use Rattle.cgm_log.specs.Seats.{KeepsSeat};
+ghost use Rattle.cgm_log.specs.Trading.{IsAnswer};
+ghost use Rattle.cgm_search.specs.Knowing.{IsKnown, seen};
+ghost use Rattle.cgm_search.specs.Searching.{IsTradedIn, Sits};
+ghost use Rattle.cgm_search.specs.Trading.{HasLanded, after_news, after_trade};
+
+use crate::batches::{copy_batch, landing_of};
+use crate::gates::{AFTER_TRADE, BEFORE_TRADE, Gate};
+use crate::knowledge::Known;
+use crate::searches::Search;
+use cgm_atom::OutOfMemory;
+use cgm_log::{Batch, Traded, Trader};
+use std::alloc::Global;
+
+impl Search {
+    /// Trades a batch, and takes up the news and what landed of it.
+    pub(crate) fn exchange<T: Trader, G: Gate>(
+        &mut self,
+        trader: &mut T,
+        gate: &G,
+        batch: Batch,
+    ) -> Result<(), OutOfMemory>
+        requires known { IsKnown self.old.known }
+        requires seat { Sits self.old (T.seat trader.old) }
+        requires proper { IsProper self.old.known.problem (seen self.old.known) batch }
+        requires own { batch.by ≡ self.old.worker }
+        requires left { 1 ≤ (T.seat trader.old).trades }
+        ensures known { OnOk result (IsKnown self.new.known) }
+        ensures told { OnOk result (Sits self.new (T.seat trader.new)) }
+        ensures landed { OnOk result
+            (HasLanded self.old.known.problem (seen self.old.known) batch (seen self.new.known)) }
+        ensures once { OnOk result ((T.seat trader.new).trades + 1 ≡ (T.seat trader.old).trades) }
+        ensures traded { IsTradedIn self.old self.new }
+        ensures seat { KeepsSeat 1 (T.seat trader.old) (T.seat trader.new) }
+    {
+        let copy = copy_batch(self.alloc, &batch)?;
+        gate.arrive(self.worker, BEFORE_TRADE);
+        match trader.trade(batch) {
+            Err(_) => Err(OutOfMemory),
+            Ok(traded) => {
+                gate.arrive(self.worker, AFTER_TRADE);
+                let _count = trader.seen();
+                self.known.take_up(self.alloc, &traded, &copy)
+            }
+        }
+    }
+}
+
+impl Known {
+    /// Takes up the news of an answer, and what landed of the batch.
+    fn take_up(&mut self, alloc: Global, traded: &Traded, batch: &Batch) -> Result<(), OutOfMemory>
+        requires known { IsKnown self.old }
+        requires answer { IsAnswer self.old.problem (after_news self.old traded.now)
+            batch.now traded.now }
+        requires accepted { IsAccepted self.old.problem
+            (after_trade self.old traded.now batch.now) }
+        requires room { length (after_trade self.old traded.now batch.now) < 2 ^ 63 }
+        requires proper { IsProper self.old.problem (seen self.old) batch.now }
+        ensures known { OnOk result (IsKnown self.new) }
+        ensures entries { OnOk result (seen self.new ≡ after_trade self.old traded.now batch.now) }
+        ensures problem { self.new.problem ≡ self.old.problem }
+    {
+        match traded {
+            Traded::Closed { news } => self.absorb_all(alloc, news.as_slice()),
+            Traded::Landed { news, first, fate } => {
+                self.absorb_all(alloc, news.as_slice())?;
+                let landing = landing_of(alloc, batch, *first, fate)?;
+                self.absorb_all(alloc, landing.as_slice())
+            }
+        }
+    }
+}

@@ -1,5 +1,5 @@
 -- The certificate that `solve` wrote is accepted by a later `check`, which gives the same answer.
-use Rattle.std.proofs.Common.{◌≡◌, ℕ, zero, suc, ◌≤◌, ◌⊎◌, List, [], ◌∷◌, length, slice_get, take, ℤ, IfSome, IsSome, IsSomeAnd, Option, Some, None, is_some, refl, sym, ap, ap₂, ◌∙◌, subst, inl, inr, ⊎_elim, arith}
+use Rattle.std.proofs.Common.{◌≡◌, ℕ, zero, suc, ◌≤◌, ◌⊎◌, List, [], ◌∷◌, length, slice_get, take, ℤ, IsSome, IsSomeAnd, Option, Some, None, is_some, refl, sym, ap, ap₂, ◌∙◌, subst, inl, inr, ⊎_elim, arith}
 use Rattle.cgm_base.specs.declared.status.Status.{Status}
 use Rattle.cgm_base.specs.declared.status.Status.TheVariants as statuses
 use Rattle.cgm_shelf.specs.Shelf.{Files, Leaves}
@@ -26,7 +26,7 @@ use Rattle.cgm_report.specs.Report.{realized, unrealizable}
 use Rattle.cgm_cli.specs.CheckOutcome.{HasCertificateOutcome, HasCheckOutcome, HasEntriesOutcome, HasNoEntries}
 use Rattle.cgm_cli.specs.Effects.{IsPrinted, Printing, Shelving, Writing}
 use Rattle.cgm_cli.specs.Inputs.{HasEarlierFaultOutcome, HasFaultOutcome, HasInputOutcome, HasNoModel, HasNoProblem, HasNoText, HasNothingKnown, HasProblemOutcome, IsFileOf, IsInputOf, IsKnownOf, most_bytes}
-use Rattle.cgm_cli.specs.Laws.{Agrees, CertificatesAreAccepted, HasEarlier, IsGoodInput, IsLater, IsOneOf, PrintSame, PrintSameBest}
+use Rattle.cgm_cli.specs.Laws.{Agrees, CertificatesAreAccepted, HasEarlier, IsGoodInput, IsLater, IsOneOf, IsSameEarlier, Names, PrintSame, PrintSameBest}
 use Rattle.cgm_cli.specs.SolveOutcome.{HasSolveOutcome, IsCertified, wanted}
 use Rattle.cgm_cli.proofs.Completing.{no_bytes}
 use Rattle.cgm_cli.proofs.GoodInputs.{HasFile, Lacks, both, of_input, where_told}
@@ -178,25 +178,27 @@ read_as : (o : Option (List ℕ)) (P : List ℕ → Type 0) (text : List ℕ) �
 read_as None P text is holds = absurd is
 read_as (Some file) P text is holds = subst P is holds
 
--- a file that was read has its text still
-kept_file : (shelf : Shelving) (before now : Files) (name : List ℕ) (P : List ℕ → Type 0) → shelf.files ≡ Some before → now name ≡ before name → IsFileOf shelf name P → HasFile now name P
-kept_file shelf before now name P found same file =
+-- a file that was read has its text still, maybe under another name
+kept_file : (shelf : Shelving) (before now : Files) (name again : List ℕ) (P : List ℕ → Type 0) → shelf.files ≡ Some before → now again ≡ before name → IsFileOf shelf name P → HasFile now again P
+kept_file shelf before now name again P found same file =
     let here : IsSomeAnd (before name) (λ text. file.0 ≡ text) = where_told shelf.files before name (λ text. file.0 ≡ text) found file.1.0.told in
     subst (λ o. IsSomeAnd o (λ text. P text × (length text ≤ most_bytes))) (sym same)
     (read_as (before name) (λ text. P text × (length text ≤ most_bytes)) file.0 here (file.1.1, file.1.0.short))
 
-kept_earlier : (shelf : Shelving) (before now : Files) (file : Option (List ℕ)) (earlier : List Pair) → shelf.files ≡ Some before → IfSome file (λ e. now e ≡ before e) → IsKnownOf shelf file earlier → HasEarlier now file earlier
-kept_earlier shelf before now None earlier found same known = known
-kept_earlier shelf before now (Some name) earlier found same known =
-    kept_file shelf before now name (λ text. IsEarlierTextOf text earlier) found same known
+kept_earlier : (shelf : Shelving) (before now : Files) (file again : Option (List ℕ)) (earlier : List Pair) → shelf.files ≡ Some before → IsSameEarlier before now file again → IsKnownOf shelf file earlier → HasEarlier now again earlier
+kept_earlier shelf before now None None earlier found same known = known
+kept_earlier shelf before now None (Some again) earlier found same known = absurd same
+kept_earlier shelf before now (Some name) None earlier found same known = absurd same
+kept_earlier shelf before now (Some name) (Some again) earlier found same known =
+    kept_file shelf before now name again (λ text. IsEarlierTextOf text earlier) found same known
 
 -- the input of `solve` is good still
-good_still : (name cert : List ℕ) (file : Option (List ℕ)) (shelf later : Shelving) (files : Writing) (m : Lists) (lines : List ℕ) (earlier : List Pair) → IsLater name file cert shelf files later → IsInputOf shelf name file m lines earlier → IsEncodable m → IsGoodInput later name file m earlier
-good_still name cert file shelf later files m lines earlier is input encodable = record {
+good_still : (first second : Names) (shelf later : Shelving) (files : Writing) (m : Lists) (lines : List ℕ) (earlier : List Pair) → IsLater first second shelf files later → IsInputOf shelf first.model first.earlier m lines earlier → IsEncodable m → IsGoodInput later second.model second.earlier m earlier
+good_still first second shelf later files m lines earlier is input encodable = record {
   files = is.now;
   told = is.told;
-  model = kept_file shelf is.before is.now name (λ text. IsModelTextOf text m) is.found is.model (model_of_reading shelf name m lines input.model);
-  known = kept_earlier shelf is.before is.now file earlier is.found is.known input.known;
+  model = kept_file shelf is.before is.now first.model second.model (λ text. IsModelTextOf text m) is.found is.model_is (model_of_reading shelf first.model m lines input.model);
+  known = kept_earlier shelf is.before is.now first.earlier second.earlier earlier is.found is.known input.known;
   encodable = encodable;
 }
 
@@ -211,10 +213,10 @@ record IsWritten (now : Files) (cert : List ℕ) (entries : List Entry) : Type 0
   here : now cert ≡ Some text
   text_is : IsTextOf text entries
 
-certificate_written : (name cert : List ℕ) (file : Option (List ℕ)) (shelf later : Shelving) (files : Writing) (entries : List Entry) (is : IsLater name file cert shelf files later) → IsCertified (Some cert) entries files → IsWritten is.now cert entries
-certificate_written name cert file shelf later files entries is certified =
-    let left : Leaves files.before (Some is.after) cert certified.0 = subst (λ new. Leaves files.before new cert certified.0) is.left certified.1.1 in
-    record { text = certified.0; here = is.certificate ∙ written files.before is.after cert certified.0 left; text_is = certified.1.0 }
+certificate_written : (first second : Names) (shelf later : Shelving) (files : Writing) (entries : List Entry) (is : IsLater first second shelf files later) → IsCertified (Some first.cert) entries files → IsWritten is.now second.cert entries
+certificate_written first second shelf later files entries is certified =
+    let left : Leaves files.before (Some is.after) first.cert certified.0 = subst (λ new. Leaves files.before new first.cert certified.0) is.left certified.1.1 in
+    record { text = certified.0; here = is.certificate ∙ written files.before is.after first.cert certified.0 left; text_is = certified.1.0 }
 
 no_entries : (entries : List Entry) (text : List ℕ) (sink : Printing) (status : Status) → IsTextOf text entries → HasNoEntries text sink status → status ≡ statuses.Memory
 no_entries entries text sink statuses.Certificate is fault =
@@ -249,15 +251,15 @@ entries_found later now cert m earlier entries again answer told is (inr outcome
     of_check later now cert m earlier entries again answer told is outcome
 
 -- what comes of the entries that were written, unless `check` lacks something before it has them
-later_entries : (name cert : List ℕ) (file : Option (List ℕ)) (shelf later : Shelving) (files : Writing) (m : Lists) (lines : List ℕ) (earlier : List Pair) (entries : List Entry) (again : Printing) (answer : Status) → IsLater name file cert shelf files later → IsInputOf shelf name file m lines earlier → IsEncodable m → IsCertified (Some cert) entries files → HasInputOutcome (HasProblemOutcome (HasCheckOutcome cert later)) name file later again answer → among answer ⊎ HasEntriesOutcome m earlier entries again answer
-later_entries name cert file shelf later files m lines earlier entries again answer is input encodable certified outcome =
-    let good = good_still name cert file shelf later files m lines earlier is input encodable in
-    let here = certificate_written name cert file shelf later files entries is certified in
+later_entries : (first second : Names) (shelf later : Shelving) (files : Writing) (m : Lists) (lines : List ℕ) (earlier : List Pair) (entries : List Entry) (again : Printing) (answer : Status) → IsLater first second shelf files later → IsInputOf shelf first.model first.earlier m lines earlier → IsEncodable m → IsCertified (Some first.cert) entries files → HasInputOutcome (HasProblemOutcome (HasCheckOutcome second.cert later)) second.model second.earlier later again answer → among answer ⊎ HasEntriesOutcome m earlier entries again answer
+later_entries first second shelf later files m lines earlier entries again answer is input encodable certified outcome =
+    let good = good_still first second shelf later files m lines earlier is input encodable in
+    let here = certificate_written first second shelf later files entries is certified in
     ⊎_elim
     (λ lacks. inl (lacking later answer lacks))
     (λ found. inr found)
-    (entries_found later is.now cert m earlier entries again answer is.told here
-    (of_input (HasCheckOutcome cert later) later name file m earlier again answer good outcome))
+    (entries_found later is.now second.cert m earlier entries again answer is.told here
+    (of_input (HasCheckOutcome second.cert later) later second.model second.earlier m earlier again answer good outcome))
 
 -- ---- the law
 
@@ -267,22 +269,22 @@ given_again answer A gives (inl lacks) = inl lacks
 given_again answer A gives (inr found) = gives found
 
 pub certificates_are_accepted : CertificatesAreAccepted
-certificates_are_accepted name cert file workers plan shelf later files kept sink again work idle statuses.Done answer outcome is checked =
-    let own = answered (HasSolveOutcome (wanted plan (Some cert)) work files) shelf name file sink statuses.Done tt outcome in
+certificates_are_accepted first second workers plan shelf later files kept sink again work idle statuses.Done answer outcome is checked =
+    let own = answered (HasSolveOutcome (wanted plan (Some first.cert)) work files) shelf first.model first.earlier sink statuses.Done tt outcome in
     let printed = own.outcome in
     given_again answer (Agrees statuses.Done sink answer again)
     (realized_again own.m own.earlier printed.entries printed.found sink again answer printed.shown printed.printed)
-    (later_entries name cert file shelf later files own.m own.lines own.earlier printed.entries again answer is own.input own.encodable printed.certified checked)
-certificates_are_accepted name cert file workers plan shelf later files kept sink again work idle statuses.Unrealizable answer outcome is checked =
-    let own = answered (HasSolveOutcome (wanted plan (Some cert)) work files) shelf name file sink statuses.Unrealizable tt outcome in
+    (later_entries first second shelf later files own.m own.lines own.earlier printed.entries again answer is own.input own.encodable printed.certified checked)
+certificates_are_accepted first second workers plan shelf later files kept sink again work idle statuses.Unrealizable answer outcome is checked =
+    let own = answered (HasSolveOutcome (wanted plan (Some first.cert)) work files) shelf first.model first.earlier sink statuses.Unrealizable tt outcome in
     let printed = own.outcome in
     given_again answer (Agrees statuses.Unrealizable sink answer again)
     (unrealizable_again own.m own.earlier printed.entries sink again answer printed.shown printed.printed)
-    (later_entries name cert file shelf later files own.m own.lines own.earlier printed.entries again answer is own.input own.encodable printed.certified checked)
-certificates_are_accepted name cert file workers plan shelf later files kept sink again work idle statuses.Open answer outcome is checked =
-    let own = answered (HasSolveOutcome (wanted plan (Some cert)) work files) shelf name file sink statuses.Open tt outcome in
+    (later_entries first second shelf later files own.m own.lines own.earlier printed.entries again answer is own.input own.encodable printed.certified checked)
+certificates_are_accepted first second workers plan shelf later files kept sink again work idle statuses.Open answer outcome is checked =
+    let own = answered (HasSolveOutcome (wanted plan (Some first.cert)) work files) shelf first.model first.earlier sink statuses.Open tt outcome in
     let printed = own.outcome in
     given_again answer (Agrees statuses.Open sink answer again)
     (open_again own.m own.earlier printed.entries printed.best printed.spent sink again answer printed.solved.0 printed.printed)
-    (later_entries name cert file shelf later files own.m own.lines own.earlier printed.entries again answer is own.input own.encodable printed.certified checked)
-certificates_are_accepted name cert file workers plan shelf later files kept sink again work idle status answer outcome is checked = inr tt
+    (later_entries first second shelf later files own.m own.lines own.earlier printed.entries again answer is own.input own.encodable printed.certified checked)
+certificates_are_accepted first second workers plan shelf later files kept sink again work idle status answer outcome is checked = inr tt

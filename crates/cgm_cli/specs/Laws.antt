@@ -1,5 +1,5 @@
 -- Laws over the outcomes of commands: which statuses come where nothing fails, and that `check` accepts what `solve` wrote.
-use Rattle.std.specs.Prelude.{◌≡◌, ◌≢◌, ◌⊎◌, ℕ, ◌+◌, ◌*◌, ◌^◌, ◌≤◌, List, [], ◌∷◌, length, Contains, IfSome, IsSome, IsSomeAnd, Option, None, Some}
+use Rattle.std.specs.Prelude.{◌≡◌, ◌≢◌, ◌⊎◌, ℕ, ◌+◌, ◌*◌, ◌^◌, ◌≤◌, List, [], ◌∷◌, length, Contains, IsSome, IsSomeAnd, Option, None, Some}
 use Rattle.cgm_base.specs.declared.status.Status.{Status}
 use Rattle.cgm_base.specs.declared.status.Status.TheVariants.{Done, Unrealizable, Certificate, Open, Read, Write, Memory}
 use Rattle.cgm_shelf.specs.Faults.{Rose}
@@ -90,17 +90,30 @@ ShowCompletes =
 
 -- ---- `check` over what `solve` wrote
 
--- the shelf of a later `check` tells the bytes of the model and of the earlier text as `solve` found them, and those of the certificate as `solve` left them
-pub record IsLater (name : List ℕ) (file : Option (List ℕ)) (cert : List ℕ) (shelf : Shelving) (files : Writing) (later : Shelving) : Type 0 where
+-- the names that a run is given: of the model's file, of the earlier text's file where there is one, and of the certificate's file
+pub record Names : Type 0 where
+  pub model : List ℕ
+  pub earlier : Option (List ℕ)
+  pub cert : List ℕ
+
+-- both runs are given an earlier text, and the second finds the bytes that the first found; or neither is given one
+abbrev pub IsSameEarlier : Files → Files → Option (List ℕ) → Option (List ℕ) → Type 0
+IsSameEarlier before now None None = Unit {0}
+IsSameEarlier before now None (Some again) = ⊥
+IsSameEarlier before now (Some name) None = ⊥
+IsSameEarlier before now (Some name) (Some again) = now again ≡ before name
+
+-- the shelf of a later `check`, under names of its own, tells the bytes of the model and of the earlier text as `solve` found them, and those of the certificate as `solve` left them
+pub record IsLater (first second : Names) (shelf : Shelving) (files : Writing) (later : Shelving) : Type 0 where
   pub before : Files
   pub after : Files
   pub now : Files
   pub found : shelf.files ≡ Some before
   pub left : files.after ≡ Some after
   pub told : later.files ≡ Some now
-  pub model : now name ≡ before name
-  pub known : IfSome file (λ e. now e ≡ before e)
-  pub certificate : now cert ≡ after cert
+  pub model_is : now second.model ≡ before first.model
+  pub known : IsSameEarlier before now first.earlier second.earlier
+  pub certificate : now second.cert ≡ after first.cert
 
 -- both printed the same report
 abbrev pub PrintSame : Printing → Printing → Type 0
@@ -120,12 +133,12 @@ Agrees Unrealizable sink status again = (status ≡ Unrealizable) × PrintSame s
 Agrees Open sink status again = (status ≡ Open) × PrintSameBest sink again
 Agrees other sink status again = Unit {0}
 
--- the certificate of an answer is accepted: `check` gives the same answer, unless a read, the sink or memory fails
+-- the certificate of an answer is accepted, also where it was written over the file of the model or of the earlier text: `check` gives the same answer, unless a read, the sink or memory fails
 abbrev pub CertificatesAreAccepted : Type 0
 CertificatesAreAccepted =
-    (name cert : List ℕ) (file : Option (List ℕ)) (workers : ℕ) (plan : Plan) (shelf later : Shelving) (files kept : Writing)
+    (first second : Names) (workers : ℕ) (plan : Plan) (shelf later : Shelving) (files kept : Writing)
     (sink again : Printing) (work idle : Working) (status answer : Status)
-    → HasCommandOutcome (solve name file (Some cert) workers plan) shelf files sink work status
-    → IsLater name file cert shelf files later
-    → HasCommandOutcome (check name cert file) later kept again idle answer
+    → HasCommandOutcome (solve first.model first.earlier (Some first.cert) workers plan) shelf files sink work status
+    → IsLater first second shelf files later
+    → HasCommandOutcome (check second.model second.cert second.earlier) later kept again idle answer
     → IsOneOf answer (Read ∷ Write ∷ Memory ∷ []) ⊎ Agrees status sink answer again

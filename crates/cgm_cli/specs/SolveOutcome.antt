@@ -67,7 +67,7 @@ pub record PrintsUnrealizable (cert : Option (List ℕ)) (files : Writing) (m : 
   pub certified : IsCertified cert entries files
   pub printed : IsPrinted sink unrealizable
 
--- the budget is spent, on one trail that came behind those before; what was found until then was printed
+-- the budget is spent, on one trail that came behind those before; the last best of the entries was printed, and what the trail rests on is among them
 pub record PrintsExhausted (want : Wanted) (work : Working) (files : Writing) (m : Lists) (earlier : List Pair) (sink : Printing) : Type 0 where
   pub best : Option Found
   pub spent : List ℕ

@@ -27,7 +27,8 @@ pub fn show_completes()
 
 /// A later `check`, for the same bytes of the model and the earlier text and the certificate that
 /// `solve` wrote, ends with the same status and the same report, or for `Open` with the same best,
-/// unless a read, the sink or memory fails.
+/// unless a read, the sink or memory fails. It may find these files under other names, as it must
+/// where the certificate was written over the model or the earlier text.
 pub fn certificates_are_accepted()
     ensures { CertificatesAreAccepted }
 {}

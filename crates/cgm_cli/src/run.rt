@@ -1,3 +1,4 @@
+//! The top call: what the program does for its words.
 ghost use Rattle.std.specs.Prelude.{◌≡◌, length, map, option_map};
 ghost use Rattle.std.specs.String.{string_bytes};
 ghost use Rattle.cgm_model.specs.Model.{lists_of};
@@ -31,9 +32,11 @@ use std::alloc::Global;
 /// realization of the model than whose vector no realization's is less (`Done`), or that there is none
 /// (`Unrealizable`). It runs one worker, whatever number of workers is given. `Open` comes only where
 /// this worker made as many moves as its budget says, and no more restarts than it may. Then `work`
-/// gains its trail, and what was found until then is printed. So a budget that no trail can spend
-/// leaves nothing open. With `--cert` the named file holds exactly a certificate of entries that show
-/// the answer by themselves; it is written before the report, and no other file changes.
+/// gains its trail, and the last best of an accepted log that isn't closed is printed, if any. Every
+/// lemma and every best on which a change of the trail rests stands in this log. So a budget that no
+/// trail can spend leaves nothing open. With `--cert` the named file holds exactly a certificate of
+/// entries that show the answer by themselves, for `Open` of that log; it is written before the
+/// report, and no other file changes.
 /// `check MODEL CERT --earlier=FILE` reads such a certificate, whoever made it, and prints what it
 /// shows: a least realization (`Done`), that there is none (`Unrealizable`), or the best of a
 /// certificate that leaves open which realization is least (`Open`).

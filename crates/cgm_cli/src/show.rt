@@ -1,3 +1,4 @@
+//! The command `show`.
 ghost use Rattle.cgm_model.specs.Model.{lists_of};
 ghost use Rattle.cgm_cli.specs.Effects.{printing};
 ghost use Rattle.cgm_cli.specs.Outcome.{HasShowOutcome};

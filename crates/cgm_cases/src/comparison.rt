@@ -1,5 +1,13 @@
-//! Whether a run gave what is wanted.
-use crate::case::{Extent, Output, Run, WantedFile, WantedStatus};
+//! Whether a run gave what its case wants.
+ghost use Rattle.std.specs.Prelude.{◌≡◌, ◌⊎◌, ◌↔◌, ◌++◌, codes, length, take, All, IsTrue, IsNone, option_map};
+ghost use Rattle.std.specs.Option.{option_copied};
+ghost use Rattle.std.specs.String.{string_bytes};
+ghost use Rattle.cgm_base.specs.Status.{code_of};
+ghost use Rattle.cgm_shelf.specs.MemFiles.{files_in};
+ghost use Rattle.cgm_shelf.specs.MemShelf.{mem_files};
+ghost use Rattle.cgm_cases.specs.Agreement.{IsGiven, IsKept, IsLeft, IsOutput, IsWrittenTo};
+
+use crate::case::{Extent, Output, Run, WantedFile};
 use crate::folder::{Folder, bytes_in};
 use cgm_base::Status;
 use cgm_shelf::MemShelf;
@@ -27,76 +35,155 @@ pub(crate) enum Difference<'a> {
 }
 
 /// What differs first between a run and what it must give, or none where nothing does.
-pub(crate) fn first_difference<'a>(run: &'a Run, ended: &Ended<'a>) -> Option<Difference<'a>> {
-    if !is_status(run.status, ended.status) {
+pub(crate) fn first_difference<'a>(run: &'a Run, ended: &Ended<'a>) -> Option<Difference<'a>>
+    ensures { IsNone result ↔ IsGiven run.now (code_of ended.now.status) ended.now.printed.now
+        ended.now.names.now (files_in ended.now.before.now) (mem_files ended.now.after.now) }
+{
+    if ended.status.code() as u64 != run.status.code {
         return Some(Difference::Status);
     }
     if !is_output(&run.output, ended.printed) {
         return Some(Difference::Output);
     }
     match other_file(run.files.as_slice(), ended.after) {
-        Some(file) => return Some(Difference::File(file)),
-        None => {}
-    }
-    match changed_file(run.words.as_slice(), ended) {
-        Some(name) => Some(Difference::Changed(name)),
-        None => None,
+        Some(file) => Some(Difference::File(file)),
+        None => match changed_file(run.words.as_slice(), ended.names, ended.before, ended.after) {
+            Some(name) => Some(Difference::Changed(name)),
+            None => None,
+        },
     }
 }
 
-fn is_status(wanted: WantedStatus, status: Status) -> bool {
-    status.code() as u64 == wanted.code
-}
-
-fn is_output(wanted: &Output, printed: &[u8]) -> bool {
+/// Whether this is the wanted output, or begins with it.
+fn is_output(wanted: &Output, printed: &[u8]) -> bool
+    ensures { IsTrue result ↔ IsOutput wanted.now.extent wanted.now.bytes.items printed.now }
+{
     match wanted.extent {
         Extent::Whole => printed == wanted.bytes.as_slice(),
-        Extent::Front => printed.starts_with(wanted.bytes.as_slice()),
+        Extent::Front => begins_with(printed, wanted.bytes.as_slice()),
     }
+}
+
+/// Whether the bytes begin with these.
+fn begins_with(bytes: &[u8], front: &[u8]) -> bool
+    ensures { IsTrue result ↔ (take (length front.now) bytes.now ≡ front.now) }
+{
+    if bytes.len() < front.len() {
+        return false;
+    }
+    let (begin, _) = bytes.split_at(front.len());
+    begin == front
 }
 
 /// The first wanted file that the shelf doesn't have so.
-fn other_file<'a>(files: &'a [WantedFile], shelf: &MemShelf) -> Option<&'a WantedFile> {
-    files.iter().find(|file| !is_left(file, shelf))
+fn other_file<'a>(files: &'a [WantedFile], shelf: &MemShelf) -> Option<&'a WantedFile>
+    ensures { IsNone result ↔ All (IsLeft (mem_files shelf.now)) files.now }
+{
+    let mut left = files;
+    while let Some((file, rest)) = left.split_first() {
+        if !is_left(file, shelf) {
+            return Some(file);
+        }
+        left = rest;
+    }
+    None
 }
 
-fn is_left(file: &WantedFile, shelf: &MemShelf) -> bool {
-    let wanted = match &file.bytes {
+/// Whether the shelf has the wanted file, or none where none is wanted.
+fn is_left(file: &WantedFile, shelf: &MemShelf) -> bool
+    ensures { IsTrue result ↔ IsLeft (mem_files shelf.now) file.now }
+{
+    are_same(shelf.bytes(file.name.as_str()), wanted_bytes(file))
+}
+
+/// The bytes that the wanted file has.
+fn wanted_bytes(file: &WantedFile) -> Option<&[u8]>
+    ensures { option_copied result ≡ option_map (λ bytes. bytes.items) file.now.bytes }
+{
+    match &file.bytes {
         Some(bytes) => Some(bytes.as_slice()),
         None => None,
-    };
-    are_same(shelf.bytes(file.name.as_str()), wanted)
+    }
 }
 
 /// The first of the names whose file has changed, though no word of the run names it.
-fn changed_file<'a>(words: &[String], ended: &Ended<'a>) -> Option<&'a str> {
-    for name in ended.names {
-        if !is_kept(words, ended, name.as_str()) {
+fn changed_file<'a>(
+    words: &[String],
+    names: &'a [String],
+    before: &Folder,
+    after: &MemShelf,
+) -> Option<&'a str>
+    ensures { IsNone result ↔ All (λ name. IsKept words.now (files_in before.now)
+        (mem_files after.now) (string_bytes name)) names.now }
+{
+    let mut left = names;
+    while let Some((name, rest)) = left.split_first() {
+        if !is_kept(words, name.as_str(), before, after) {
             return Some(name.as_str());
         }
+        left = rest;
     }
     None
 }
 
 /// Whether a file is as before, or is one that a word of the run names.
-fn is_kept(words: &[String], ended: &Ended<'_>, name: &str) -> bool {
-    is_written_to(words, name) || are_same(bytes_in(ended.before, name), ended.after.bytes(name))
+fn is_kept(words: &[String], name: &str, before: &Folder, after: &MemShelf) -> bool
+    ensures { IsTrue result ↔ IsKept words.now (files_in before.now) (mem_files after.now) name.now }
+{
+    if is_written_to(words, name) {
+        return true;
+    }
+    are_same(after.bytes(name), bytes_in(before, name))
 }
 
 /// Whether a word names the file as one that is written.
-fn is_written_to(words: &[String], name: &str) -> bool {
-    words.iter().any(|word| is_joined(word, b"--cert=", name) || is_joined(word, b"--core=", name))
+fn is_written_to(words: &[String], name: &str) -> bool
+    ensures { IsTrue result ↔ IsWrittenTo words.now name.now }
+{
+    let mut left = words;
+    while let Some((word, rest)) = left.split_first() {
+        if names_written(word.as_str(), name) {
+            return true;
+        }
+        left = rest;
+    }
+    false
 }
 
-/// Whether the word is the front and then the name.
-fn is_joined(word: &String, front: &[u8], name: &str) -> bool {
-    word.as_str().as_bytes().strip_prefix(front) == Some(name.as_bytes())
+/// Whether the word names the file as one that is written.
+fn names_written(word: &str, name: &str) -> bool
+    ensures { IsTrue result ↔ ((word.now ≡ codes "--cert=" ++ name.now)
+        ⊎ (word.now ≡ codes "--core=" ++ name.now)) }
+{
+    if is_joined(word.as_bytes(), b"--cert=", name.as_bytes()) {
+        return true;
+    }
+    is_joined(word.as_bytes(), b"--core=", name.as_bytes())
 }
 
-fn are_same(one: Option<&[u8]>, other: Option<&[u8]>) -> bool {
-    match (one, other) {
-        (Some(one), Some(other)) => one == other,
-        (None, None) => true,
-        _ => false,
+/// Whether the bytes are the front and then the rest.
+fn is_joined(bytes: &[u8], front: &[u8], rest: &[u8]) -> bool
+    ensures { IsTrue result ↔ (bytes.now ≡ front.now ++ rest.now) }
+{
+    if bytes.len() < front.len() {
+        return false;
+    }
+    let (begin, end) = bytes.split_at(front.len());
+    if begin != front {
+        return false;
+    }
+    end == rest
+}
+
+/// Whether both have the same bytes, or neither has any.
+fn are_same(one: Option<&[u8]>, other: Option<&[u8]>) -> bool
+    ensures { IsTrue result ↔ (option_copied one.entry ≡ option_copied other.entry) }
+{
+    match one {
+        Some(one) => match other {
+            Some(other) => one == other,
+            None => false,
+        },
+        None => other.is_none(),
     }
 }

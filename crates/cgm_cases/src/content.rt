@@ -1,4 +1,8 @@
 //! Content lines: the bytes that they spell together.
+ghost use Rattle.std.specs.Prelude.{◌≡◌, ℕ, List, ◌++◌, map, IfOk, IfErr, OnOk, IfSome, None, Some};
+ghost use Rattle.cgm_cases.specs.Content.{content, is_open as ends_open, line_bytes, unescaped};
+ghost use Rattle.cgm_cases.specs.Flaws.{OnForm};
+
 use crate::directive::Line;
 use crate::escapes::unescape;
 use crate::flaw::{Fault, Flaw};
@@ -6,7 +10,11 @@ use std::alloc::Global;
 
 /// The bytes of content lines. Each has its line feed, unless a lone backslash takes away the last
 /// one's.
-pub(crate) fn content_of(alloc: Global, lines: &[Line<'_>]) -> Result<Vec<u8>, Flaw> {
+pub(crate) fn content_of(alloc: Global, lines: &[Line<'_>]) -> Result<Vec<u8>, Flaw>
+    ensures bytes { IfOk result (λ bytes. content (map (λ line. line.bytes.now) lines.now)
+        ≡ Some bytes.items) }
+    ensures flaw { IfErr result (OnForm (content (map (λ line. line.bytes.now) lines.now) ≡ None)) }
+{
     let mut bytes = Vec::new(alloc);
     let mut left = lines;
     while let Some((line, after)) = left.split_first() {
@@ -17,7 +25,11 @@ pub(crate) fn content_of(alloc: Global, lines: &[Line<'_>]) -> Result<Vec<u8>, F
 }
 
 /// Adds the bytes of a line.
-fn add_line(alloc: Global, bytes: &mut Vec<u8>, line: Line<'_>, is_last: bool) -> Result<(), Flaw> {
+fn add_line(alloc: Global, bytes: &mut Vec<u8>, line: Line<'_>, is_last: bool) -> Result<(), Flaw>
+    ensures bytes { OnOk result ((more : List ℕ) × ((line_bytes line.entry.bytes.now is_last ≡ Some more)
+        × (bytes.new.items ≡ bytes.old.items ++ more))) }
+    ensures flaw { IfErr result (OnForm (line_bytes line.entry.bytes.now is_last ≡ None)) }
+{
     if !is_open(line.bytes) {
         add_spelled(alloc, bytes, line.number, line.bytes)?;
         bytes.push(b'\n')?;
@@ -34,12 +46,23 @@ fn add_line(alloc: Global, bytes: &mut Vec<u8>, line: Line<'_>, is_last: bool) -
 }
 
 /// Whether the line ends in a backslash that belongs to no escape: in an odd number of backslashes.
-fn is_open(line: &[u8]) -> bool {
-    line.iter().rev().take_while(|byte| **byte == b'\\').count() % 2 == 1
+fn is_open(line: &[u8]) -> bool
+    ensures { result ≡ ends_open line.now }
+{
+    line.iter()
+        .rev()
+        .take_while(|byte| **byte == b'\\')
+        .count()
+        % 2
+        == 1
 }
 
 /// Adds the bytes that are spelled.
-fn add_spelled(alloc: Global, bytes: &mut Vec<u8>, line: u64, spelled: &[u8]) -> Result<(), Flaw> {
+fn add_spelled(alloc: Global, bytes: &mut Vec<u8>, line: u64, spelled: &[u8]) -> Result<(), Flaw>
+    ensures bytes { OnOk result ((more : List ℕ) × ((unescaped spelled.now ≡ Some more)
+        × (bytes.new.items ≡ bytes.old.items ++ more))) }
+    ensures flaw { IfErr result (OnForm (unescaped spelled.now ≡ None)) }
+{
     match unescape(alloc, spelled)? {
         Some(more) => {
             bytes.extend_from_slice(more.as_slice())?;

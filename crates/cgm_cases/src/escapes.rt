@@ -1,10 +1,15 @@
 //! The bytes that a line spells by escapes, and the spelling of bytes.
+ghost use Rattle.std.specs.Prelude.{◌≡◌, ◌<◌, ◌≤◌, [], length, IfOk, IfSome, MatchOption, None, Some, option_map};
+ghost use Rattle.cgm_cases.specs.Content.{after_backslash, after_byte, after_x, digit_value, digits_byte, is_plain as may_stand, letter_byte, unescaped};
+
 use std::alloc::{AllocError, Global};
 use std::fmt::Write;
 
 /// The bytes that the line spells, or none where it has an escape that isn't one or a byte that wants
 /// an escape.
-pub(crate) fn unescape(alloc: Global, line: &[u8]) -> Result<Option<Vec<u8>>, AllocError> {
+pub(crate) fn unescape(alloc: Global, line: &[u8]) -> Result<Option<Vec<u8>>, AllocError>
+    ensures { IfOk result (λ found. option_map (λ bytes. bytes.items) found ≡ unescaped line.now) }
+{
     let mut bytes = Vec::new(alloc);
     let mut left = line;
     while !left.is_empty() {
@@ -20,7 +25,11 @@ pub(crate) fn unescape(alloc: Global, line: &[u8]) -> Result<Option<Vec<u8>>, Al
 }
 
 /// The byte that the front of the line spells, and what follows.
-fn next_byte(line: &[u8]) -> Option<(u8, &[u8])> {
+fn next_byte(line: &[u8]) -> Option<(u8, &[u8])>
+    requires { 0 < length line.now }
+    ensures { MatchOption result (unescaped line.now ≡ None) (λ parts. (unescaped line.now
+        ≡ after_byte (Some parts.0) (unescaped parts.1.now)) × (length parts.1.now < length line.now)) }
+{
     match line.split_first() {
         None => None,
         Some((byte, rest)) => {
@@ -36,19 +45,24 @@ fn next_byte(line: &[u8]) -> Option<(u8, &[u8])> {
 }
 
 /// Whether the byte may stand for itself; the backslash comes before.
-fn is_plain(byte: u8) -> bool {
-    (32..127).contains(&byte)
+fn is_plain(byte: u8) -> bool
+    ensures { result ≡ may_stand byte }
+{
+    byte >= 32 && byte <= 126
 }
 
 /// The byte that is spelled after a backslash, and what follows.
-fn escaped(rest: &[u8]) -> Option<(u8, &[u8])> {
+fn escaped(rest: &[u8]) -> Option<(u8, &[u8])>
+    ensures { MatchOption result (after_backslash rest.now ≡ None) (λ parts. (after_backslash rest.now
+        ≡ after_byte (Some parts.0) (unescaped parts.1.now)) × (length parts.1.now ≤ length rest.now)) }
+{
     match rest.split_first() {
         None => None,
-        Some((mark, after)) => {
-            if *mark == b'x' {
+        Some((letter, after)) => {
+            if *letter == b'x' {
                 hexadecimal(after)
             } else {
-                match letter(*mark) {
+                match byte_of_letter(*letter) {
                     None => None,
                     Some(byte) => Some((byte, after)),
                 }
@@ -58,8 +72,10 @@ fn escaped(rest: &[u8]) -> Option<(u8, &[u8])> {
 }
 
 /// The byte that a letter after a backslash stands for.
-fn letter(mark: u8) -> Option<u8> {
-    match mark {
+fn byte_of_letter(letter: u8) -> Option<u8>
+    ensures { result ≡ letter_byte letter }
+{
+    match letter {
         b'\\' => Some(b'\\'),
         b't' => Some(b'\t'),
         b'r' => Some(b'\r'),
@@ -68,22 +84,46 @@ fn letter(mark: u8) -> Option<u8> {
 }
 
 /// The byte of two digits, and what follows.
-fn hexadecimal(rest: &[u8]) -> Option<(u8, &[u8])> {
-    match rest {
-        [high, low, after @ ..] => match (digit(*high), digit(*low)) {
-            (Some(high), Some(low)) => Some((high * 16 + low, after)),
-            _ => None,
+fn hexadecimal(rest: &[u8]) -> Option<(u8, &[u8])>
+    ensures { MatchOption result (after_x rest.now ≡ None) (λ parts. (after_x rest.now
+        ≡ after_byte (Some parts.0) (unescaped parts.1.now)) × (length parts.1.now ≤ length rest.now)) }
+{
+    match rest.split_first() {
+        None => None,
+        Some((high, after)) => match after.split_first() {
+            None => None,
+            Some((low, after)) => match byte_of_digits(*high, *low) {
+                None => None,
+                Some(byte) => Some((byte, after)),
+            },
         },
-        _ => None,
+    }
+}
+
+/// The byte of two digits.
+fn byte_of_digits(high: u8, low: u8) -> Option<u8>
+    ensures { result ≡ digits_byte high low }
+{
+    match digit(high) {
+        None => None,
+        Some(upper) => match digit(low) {
+            None => None,
+            Some(lower) => Some(upper * 16 + lower),
+        },
     }
 }
 
 /// The value of a hexadecimal digit.
-fn digit(byte: u8) -> Option<u8> {
-    match byte {
-        b'0'..=b'9' => Some(byte - b'0'),
-        b'a'..=b'f' => Some(byte - b'a' + 10),
-        _ => None,
+fn digit(byte: u8) -> Option<u8>
+    ensures value { result ≡ digit_value byte }
+    ensures small { IfSome result (λ value. value < 16) }
+{
+    if byte >= b'0' && byte <= b'9' {
+        Some(byte - b'0')
+    } else if byte >= b'a' && byte <= b'f' {
+        Some(byte - 87)
+    } else {
+        None
     }
 }
 

@@ -1,4 +1,9 @@
 //! The folder of a case: files by their names.
+ghost use Rattle.std.specs.Prelude.{◌≡◌, OnOk};
+ghost use Rattle.std.specs.Option.{option_copied};
+ghost use Rattle.cgm_shelf.specs.MemFiles.{files_in};
+ghost use Rattle.cgm_shelf.specs.Shelf.{OnlyChanges};
+
 use cgm_shelf::MemShelf;
 use std::alloc::{AllocError, Global};
 use std::collections::BTreeMap;
@@ -11,7 +16,9 @@ pub(crate) fn set_file(
     folder: &mut Folder,
     name: &str,
     bytes: &[u8],
-) -> Result<(), AllocError> {
+) -> Result<(), AllocError>
+    ensures { OnOk result (OnlyChanges (files_in folder.old) (files_in folder.new) name.now bytes.now) }
+{
     let key = String::from_str(alloc, name)?;
     let held = Vec::from_slice(alloc, bytes)?;
     folder.insert(key, held)?;
@@ -19,7 +26,9 @@ pub(crate) fn set_file(
 }
 
 /// The bytes of a file, or none where it isn't there.
-pub(crate) fn bytes_in<'f>(folder: &'f Folder, name: &str) -> Option<&'f [u8]> {
+pub(crate) fn bytes_in<'f>(folder: &'f Folder, name: &str) -> Option<&'f [u8]>
+    ensures { option_copied result ≡ files_in folder.now name.now }
+{
     match folder.get(name) {
         Some(bytes) => Some(bytes.as_slice()),
         None => None,

@@ -1,0 +1,4 @@
+pub mod Agreement
+pub mod Content
+pub mod Ending
+pub mod Flaws

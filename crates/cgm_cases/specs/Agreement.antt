@@ -1,6 +1,7 @@
 -- When a run gave what its case wants of it.
 use Rattle.std.specs.Prelude.{◌≡◌, ◌⊎◌, ℕ, List, ◌++◌, length, take, map, codes, All, Any, String, option_map}
 use Rattle.std.specs.String.{string_bytes}
+use Rattle.std.specs.declared.alloc.Global.{Global}
 use Rattle.cgm_shelf.specs.Shelf.{Files}
 use Rattle.cgm_cases.specs.declared.case.Extent.{Extent}
 use Rattle.cgm_cases.specs.declared.case.Extent.TheVariants.{Whole, Front}
@@ -17,17 +18,17 @@ abbrev pub IsLeft : Files → WantedFile → Type 0
 IsLeft files file = files (string_bytes file.name) ≡ option_map (λ bytes. bytes.items) file.bytes
 
 -- a word names this file as one that is written
-abbrev pub IsWrittenTo : List String → List ℕ → Type 0
+abbrev pub IsWrittenTo : List (String Global) → List ℕ → Type 0
 IsWrittenTo words name =
     Any (λ word. (string_bytes word ≡ codes "--cert=" ++ name) ⊎ (string_bytes word ≡ codes "--core=" ++ name)) words
 
 -- a file is as before, or a word names it as one that is written
-abbrev pub IsKept : List String → Files → Files → List ℕ → Type 0
+abbrev pub IsKept : List (String Global) → Files → Files → List ℕ → Type 0
 IsKept words before after name = IsWrittenTo words name ⊎ (after name ≡ before name)
 
 -- the run ended with the wanted status and the wanted output, left each wanted file so, and of the files with these names
 -- it changed none but those that its words name
-pub record IsGiven (run : Run) (code : ℕ) (printed : List ℕ) (names : List String) (before after : Files) : Type 0 where
+pub record IsGiven (run : Run) (code : ℕ) (printed : List ℕ) (names : List (String Global)) (before after : Files) : Type 0 where
   pub status : code ≡ run.status.code
   pub output : IsOutput run.output.extent run.output.bytes.items printed
   pub files : All (IsLeft after) run.files.items

@@ -29,7 +29,7 @@ followed front rest = option_and_then (λ bytes. option_map (λ more. bytes ++ m
 abbrev pub after_byte : Option ℕ → Option (List ℕ) → Option (List ℕ)
 after_byte first rest = option_and_then (λ byte. option_map (λ more. byte ∷ more) rest) first
 
-unfoldable mutual
+abbrev mutual
   -- the bytes that a line spells; none where a byte wants an escape
   pub unescaped : List ℕ → Option (List ℕ)
   unescaped [] = Some []

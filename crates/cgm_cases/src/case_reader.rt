@@ -1,21 +1,25 @@
 //! The cases of a transcript.
+ghost use Rattle.std.specs.Prelude.{◌<◌, ◌≤◌, length, IfOk};
+
 use crate::case::{Case, FailingCall, NamedFile, Piece, Step};
+use crate::content::content_of;
 use crate::directive::{Directive, Keyword, directives_of};
 use crate::flaw::{Fault, Flaw};
 use crate::run_reader::run_of;
-use crate::values::{bytes_of, name_of, no_content, no_text, positive_of};
+use crate::values::{name_of, no_content, no_text, positive_of};
 use std::alloc::Global;
 
 /// The cases of a text, in their order.
 pub(crate) fn cases_of(alloc: Global, text: &[u8]) -> Result<Vec<Case>, Flaw> {
-    let directives = directives_of(alloc, text)?;
+    let held = directives_of(alloc, text)?;
+    let directives = held.as_slice();
     let mut cases = Vec::new(alloc);
-    let mut left = directives.as_slice();
-    while let Some((first, after)) = left.split_first() {
-        let name = case_name(alloc, first, cases.as_slice())?;
-        let (steps, rest) = steps_of(alloc, after)?;
+    let mut at = 0;
+    while at < directives.len() {
+        let name = case_name(alloc, &directives[at], cases.as_slice())?;
+        let (steps, after) = steps_of(alloc, directives, at + 1)?;
         cases.push(Case { name, steps })?;
-        left = rest;
+        at = after;
     }
     Ok(cases)
 }
@@ -43,35 +47,39 @@ fn is_taken(name: &str, cases: &[Case]) -> bool {
     cases.iter().any(|case| case.name.as_str() == name)
 }
 
-/// The steps up to the next case, and what is left from there on.
-fn steps_of<'d, 'a>(
+/// The steps from a place on up to the next case, and the place of that case or of the end.
+fn steps_of(
     alloc: Global,
-    directives: &'d [Directive<'a>],
-) -> Result<(Vec<Step>, &'d [Directive<'a>]), Flaw> {
+    directives: &[Directive<'_>],
+    from: usize,
+) -> Result<(Vec<Step>, usize), Flaw>
+    requires { from ≤ length directives.now }
+    ensures { IfOk result (λ read. (from ≤ read.1) × (read.1 ≤ length directives.now)) }
+{
     let mut steps = Vec::new(alloc);
-    let mut left = directives;
-    while let Some((first, after)) = left.split_first() {
-        if first.keyword == Keyword::Case {
-            return Ok((steps, left));
+    let mut at = from;
+    while at < directives.len() {
+        if directives[at].keyword == Keyword::Case {
+            return Ok((steps, at));
         }
-        let (step, rest) = step_of(alloc, first, after)?;
+        let (step, after) = step_of(alloc, directives, at)?;
         steps.push(step)?;
-        left = rest;
+        at = after;
     }
-    Ok((steps, left))
+    Ok((steps, at))
 }
 
-/// The step of a directive and of those that belong to it, and what is left.
-fn step_of<'d, 'a>(
-    alloc: Global,
-    first: &Directive<'a>,
-    after: &'d [Directive<'a>],
-) -> Result<(Step, &'d [Directive<'a>]), Flaw> {
-    if first.keyword == Keyword::Run {
-        let (run, rest) = run_of(alloc, first, after)?;
-        return Ok((Step::Run(run), rest));
+/// The step of the directive at a place and of those that belong to it, and the place after them.
+fn step_of(alloc: Global, directives: &[Directive<'_>], at: usize) -> Result<(Step, usize), Flaw>
+    requires { at < length directives.now }
+    ensures { IfOk result (λ read. (at < read.1) × (read.1 ≤ length directives.now)) }
+{
+    if directives[at].keyword == Keyword::Run {
+        let (run, after) = run_of(alloc, directives, at)?;
+        return Ok((Step::Run(run), after));
     }
-    Ok((lone_step(alloc, first)?, after))
+    let step = lone_step(alloc, &directives[at])?;
+    Ok((step, at + 1))
 }
 
 /// The step of a directive that stands alone.
@@ -93,7 +101,7 @@ fn lone_step(alloc: Global, directive: &Directive<'_>) -> Result<Step, Flaw> {
 
 fn file_step(alloc: Global, directive: &Directive<'_>) -> Result<Step, Flaw> {
     let name = name_of(alloc, directive)?;
-    let bytes = bytes_of(alloc, directive)?;
+    let bytes = content_of(alloc, directive.content.as_slice())?;
     Ok(Step::File(NamedFile { name, bytes }))
 }
 

@@ -1,5 +1,5 @@
 //! Content lines: the bytes that they spell together.
-ghost use Rattle.std.specs.Prelude.{◌≡◌, ℕ, List, ◌++◌, map, IfOk, IfErr, OnOk, IfSome, None, Some};
+ghost use Rattle.std.specs.Prelude.{◌≡◌, ℕ, List, ◌++◌, ◌==◌, length, take_while, reverse, map, IfOk, IfErr, OnOk, IfSome, None, Some};
 ghost use Rattle.cgm_cases.specs.Content.{content, is_open as ends_open, line_bytes, unescaped};
 ghost use Rattle.cgm_cases.specs.Flaws.{OnForm};
 
@@ -16,10 +16,8 @@ pub(crate) fn content_of(alloc: Global, lines: &[Line<'_>]) -> Result<Vec<u8>, F
     ensures flaw { IfErr result (OnForm (content (map (λ line. line.bytes.now) lines.now) ≡ None)) }
 {
     let mut bytes = Vec::new(alloc);
-    let mut left = lines;
-    while let Some((line, after)) = left.split_first() {
-        add_line(alloc, &mut bytes, *line, after.is_empty())?;
-        left = after;
+    for at in 0..lines.len() {
+        add_line(alloc, &mut bytes, lines[at], at + 1 == lines.len())?;
     }
     Ok(bytes)
 }
@@ -49,12 +47,14 @@ fn add_line(alloc: Global, bytes: &mut Vec<u8>, line: Line<'_>, is_last: bool) -
 fn is_open(line: &[u8]) -> bool
     ensures { result ≡ ends_open line.now }
 {
-    line.iter()
-        .rev()
-        .take_while(|byte| **byte == b'\\')
-        .count()
-        % 2
-        == 1
+    backslashes_at_end(line) % 2 == 1
+}
+
+/// How many backslashes the line ends in.
+fn backslashes_at_end(line: &[u8]) -> usize
+    ensures { result ≡ length (take_while (λ byte. byte == 92) (reverse line.now)) }
+{
+    line.iter().rev().take_while(|byte| **byte == b'\\').count()
 }
 
 /// Adds the bytes that are spelled.

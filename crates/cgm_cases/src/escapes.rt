@@ -1,5 +1,5 @@
 //! The bytes that a line spells by escapes, and the spelling of bytes.
-ghost use Rattle.std.specs.Prelude.{◌≡◌, ◌<◌, ◌≤◌, [], length, IfOk, IfSome, MatchOption, None, Some, option_map};
+ghost use Rattle.std.specs.Prelude.{◌≡◌, ◌<◌, ◌≤◌, [], ◌∷◌, ◌++◌, length, IfOk, IfSome, MatchOption, None, Some, option_map};
 ghost use Rattle.cgm_cases.specs.Content.{after_backslash, after_byte, after_x, digit_value, digits_byte, is_plain as may_stand, letter_byte, unescaped};
 
 use std::alloc::{AllocError, Global};
@@ -30,17 +30,27 @@ fn next_byte(line: &[u8]) -> Option<(u8, &[u8])>
     ensures { MatchOption result (unescaped line.now ≡ None) (λ parts. (unescaped line.now
         ≡ after_byte (Some parts.0) (unescaped parts.1.now)) × (length parts.1.now < length line.now)) }
 {
-    match line.split_first() {
+    match split_off(line) {
         None => None,
         Some((byte, rest)) => {
-            if *byte == b'\\' {
+            if byte == b'\\' {
                 escaped(rest)
-            } else if is_plain(*byte) {
-                Some((*byte, rest))
+            } else if is_plain(byte) {
+                Some((byte, rest))
             } else {
                 None
             }
         }
+    }
+}
+
+/// The first byte, and what follows.
+fn split_off(bytes: &[u8]) -> Option<(u8, &[u8])>
+    ensures { MatchOption result (bytes.now ≡ []) (λ parts. bytes.now ≡ parts.0 ∷ parts.1.now) }
+{
+    match bytes.split_first() {
+        None => None,
+        Some((byte, rest)) => Some((*byte, rest)),
     }
 }
 
@@ -56,13 +66,13 @@ fn escaped(rest: &[u8]) -> Option<(u8, &[u8])>
     ensures { MatchOption result (after_backslash rest.now ≡ None) (λ parts. (after_backslash rest.now
         ≡ after_byte (Some parts.0) (unescaped parts.1.now)) × (length parts.1.now ≤ length rest.now)) }
 {
-    match rest.split_first() {
+    match split_off(rest) {
         None => None,
         Some((letter, after)) => {
-            if *letter == b'x' {
+            if letter == b'x' {
                 hexadecimal(after)
             } else {
-                match byte_of_letter(*letter) {
+                match byte_of_letter(letter) {
                     None => None,
                     Some(byte) => Some((byte, after)),
                 }
@@ -88,11 +98,11 @@ fn hexadecimal(rest: &[u8]) -> Option<(u8, &[u8])>
     ensures { MatchOption result (after_x rest.now ≡ None) (λ parts. (after_x rest.now
         ≡ after_byte (Some parts.0) (unescaped parts.1.now)) × (length parts.1.now ≤ length rest.now)) }
 {
-    match rest.split_first() {
+    match split_off(rest) {
         None => None,
-        Some((high, after)) => match after.split_first() {
+        Some((high, after)) => match split_off(after) {
             None => None,
-            Some((low, after)) => match byte_of_digits(*high, *low) {
+            Some((low, after)) => match byte_of_digits(high, low) {
                 None => None,
                 Some(byte) => Some((byte, after)),
             },

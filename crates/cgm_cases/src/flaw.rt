@@ -1,4 +1,7 @@
 //! Why a text is no transcript.
+ghost use Rattle.std.specs.Prelude.{◌≡◌};
+ghost use Rattle.cgm_cases.specs.declared.flaw.Flaw.TheVariants as flaws;
+
 use std::alloc::{AllocError, AllocFailed};
 
 /// What is wrong with a line.
@@ -52,12 +55,16 @@ pub(crate) enum Flaw {
 }
 
 impl From<AllocError> for Flaw {
+    ghost from_gives = { λ _ flaw. flaw ≡ flaws.Memory };
+
     fn from(_error: AllocError) -> Flaw {
         Flaw::Memory
     }
 }
 
 impl<T: Drop> From<AllocFailed<T>> for Flaw {
+    ghost from_gives = { λ _ flaw. flaw ≡ flaws.Memory };
+
     fn from(_error: AllocFailed<T>) -> Flaw {
         Flaw::Memory
     }

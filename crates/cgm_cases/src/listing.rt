@@ -6,18 +6,16 @@ use std::fs::read_dir;
 use std::io;
 use std::rt::Files;
 
-/// All texts of the folder, in the order of their names: its own are transcripts, those of its folder
-/// `wrong` are transcripts of wrong cases, and those of `broken` are no transcripts.
-pub(crate) fn whole_folder<R: Files + AllocGlobal + Clone + Drop>(
+/// Asks for all texts of the folder, in the order of their names: its own are transcripts, those of
+/// its folder `wrong` are transcripts of wrong cases, and those of `broken` are no transcripts.
+pub(crate) fn take_folder<R: Files + AllocGlobal + Clone + Drop>(
     rt: &R,
-    only: Option<String>,
-) -> Result<Request, Stop> {
-    Ok(Request {
-        files: texts_in(rt, ".", "")?,
-        wrong: texts_in(rt, "wrong", "wrong/")?,
-        broken: texts_in(rt, "broken", "broken/")?,
-        only,
-    })
+    request: &mut Request,
+) -> Result<(), Stop> {
+    request.files = texts_in(rt, ".", "")?;
+    request.wrong = texts_in(rt, "wrong", "wrong/")?;
+    request.broken = texts_in(rt, "broken", "broken/")?;
+    Ok(())
 }
 
 /// The names of a folder's texts behind a front, in their order.

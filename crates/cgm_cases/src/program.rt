@@ -3,10 +3,10 @@ use crate::case::Case;
 use crate::case_reader::cases_of;
 use crate::ending::{Ending, Tally, ending_of};
 use crate::flaw::Flaw;
-use crate::listing::whole_folder;
+use crate::listing::take_folder;
 use crate::request::{Request, request_of};
 use crate::scene::run_case;
-use crate::stop::{Stop, print_stop};
+use crate::stop::{Stop, form_text, print_stop};
 use cgm_shelf::{ReadStop, Shelf, Sink, read_whole, write_whole};
 use std::alloc::Global;
 use std::rt::Files;
@@ -34,13 +34,10 @@ fn answer<R: Files + AllocGlobal + Clone + Drop, F: Shelf, O: Sink>(
     shelf: &mut F,
     out: &mut O,
 ) -> Result<Ending, Stop> {
-    let request = request_of(rt.alloc(), words)?;
-    let is_whole = request.is_empty();
-    let request = if is_whole {
-        whole_folder(rt, request.only)?
-    } else {
-        request
-    };
+    let mut request = request_of(rt.alloc(), words)?;
+    if request.is_empty() {
+        take_folder(rt, &mut request)?;
+    }
     run_request(rt.alloc(), &request, shelf, out)
 }
 
@@ -90,16 +87,23 @@ fn refuse_files<F: Shelf, O: Sink>(
     let mut tally = Tally::NONE;
     for name in names {
         let text = bytes_of(alloc, name.as_str(), shelf)?;
-        match cases_in(alloc, name.as_str(), text.as_slice()) {
-            Ok(_) => tally.count(false),
-            Err(Stop::Memory) => return Err(Stop::Memory),
-            Err(stop) => {
-                print_stop(alloc, out, &stop);
-                tally.count(true);
-            }
-        }
+        let is_told = tell_text(alloc, name.as_str(), text.as_slice(), out)?;
+        tally.count(is_told);
     }
     Ok(tally)
+}
+
+/// Prints at which line a text isn't a transcript, and says whether it isn't one.
+fn tell_text<O: Sink>(alloc: Global, name: &str, text: &[u8], out: &mut O) -> Result<bool, Stop> {
+    match cases_of(alloc, text) {
+        Ok(_) => Ok(false),
+        Err(Flaw::Memory) => Err(Stop::Memory),
+        Err(Flaw::Form { line, fault }) => {
+            let text = form_text(alloc, name, line, fault)?;
+            print(out, text.as_str())?;
+            Ok(true)
+        }
+    }
 }
 
 /// Runs the cases of transcripts, and prints each that differs.

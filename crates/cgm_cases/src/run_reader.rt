@@ -1,63 +1,84 @@
 //! A run of a transcript, and what it must give.
+ghost use Rattle.std.specs.Prelude.{◌<◌, ◌≤◌, length, IfOk, OnOk};
+
 use crate::case::{Extent, Output, Run, WantedFile, WantedStatus};
+use crate::content::content_of;
 use crate::directive::{Directive, Keyword};
 use crate::escapes::unescape;
 use crate::flaw::{Fault, Flaw};
-use crate::values::{bytes_of, name_of, no_content, no_text, number_of, text_of};
+use crate::values::{name_of, no_content, no_text, number_of, text_of};
 use std::alloc::Global;
 
-/// The run of a directive `run` and of those that follow it, and what is left.
-pub(crate) fn run_of<'d, 'a>(
+/// The run of a directive `run` at this place and of those that belong to it, and the place after them.
+pub(crate) fn run_of(
     alloc: Global,
-    first: &Directive<'a>,
-    left: &'d [Directive<'a>],
-) -> Result<(Run, &'d [Directive<'a>]), Flaw> {
-    no_content(first)?;
-    let (words, left) = words_of(alloc, first, left)?;
-    let (status, left) = status_of(first.line, left)?;
-    let (output, left) = output_of(alloc, first.line, left)?;
-    let (files, left) = files_of(alloc, left)?;
+    directives: &[Directive<'_>],
+    first: usize,
+) -> Result<(Run, usize), Flaw>
+    requires { first < length directives.now }
+    ensures { IfOk result (λ read. (first < read.1) × (read.1 ≤ length directives.now)) }
+{
+    let line = directives[first].line;
+    no_content(&directives[first])?;
+    let (words, at) = words_of(alloc, directives, first)?;
+    let status = status_of(directives, at, line)?;
+    let output = output_of(alloc, directives, at + 1, line)?;
+    let (files, after) = files_of(alloc, directives, at + 2)?;
     let run = Run {
-        line: first.line,
+        line,
         words,
         status,
         output,
         files,
     };
-    Ok((run, left))
+    Ok((run, after))
 }
 
-/// The words of a run: those of its own line, or else those of the lines `word` that follow.
-fn words_of<'d, 'a>(
+/// The words of a run, those of its own line or else those of the lines `word` that follow, and the
+/// place after them.
+fn words_of(
     alloc: Global,
-    first: &Directive<'a>,
-    left: &'d [Directive<'a>],
-) -> Result<(Vec<String>, &'d [Directive<'a>]), Flaw> {
-    if first.rest.is_empty() {
-        return word_lines_of(alloc, left);
+    directives: &[Directive<'_>],
+    first: usize,
+) -> Result<(Vec<String>, usize), Flaw>
+    requires { first < length directives.now }
+    ensures { IfOk result (λ read. (first < read.1) × (read.1 ≤ length directives.now)) }
+{
+    let directive = &directives[first];
+    if directive.rest.is_empty() {
+        return word_lines_of(alloc, directives, first + 1);
     }
-    let mut words = Vec::new(alloc);
-    for word in first.rest.split(|byte| *byte == b' ') {
-        words.push(text_of(alloc, first.line, word)?)?;
-    }
-    Ok((words, left))
+    let words = words_in(alloc, directive.line, directive.rest)?;
+    Ok((words, first + 1))
 }
 
-/// The words of the lines `word`.
-fn word_lines_of<'d, 'a>(
-    alloc: Global,
-    directives: &'d [Directive<'a>],
-) -> Result<(Vec<String>, &'d [Directive<'a>]), Flaw> {
+/// The words of a line, which single spaces part.
+fn words_in(alloc: Global, line: u64, bytes: &[u8]) -> Result<Vec<String>, Flaw> {
     let mut words = Vec::new(alloc);
-    let mut left = directives;
-    while let Some((directive, after)) = left.split_first() {
+    for word in bytes.split(|byte| *byte == b' ') {
+        words.push(text_of(alloc, line, word)?)?;
+    }
+    Ok(words)
+}
+
+/// The words of the lines `word` from a place on, and the place after them.
+fn word_lines_of(
+    alloc: Global,
+    directives: &[Directive<'_>],
+    from: usize,
+) -> Result<(Vec<String>, usize), Flaw>
+    requires { from ≤ length directives.now }
+    ensures { IfOk result (λ read. (from ≤ read.1) × (read.1 ≤ length directives.now)) }
+{
+    let mut words = Vec::new(alloc);
+    for at in from..directives.len() {
+        let directive = &directives[at];
         if directive.keyword != Keyword::Word {
-            return Ok((words, left));
+            return Ok((words, at));
         }
         words.push(word_of(alloc, directive)?)?;
-        left = after;
     }
-    Ok((words, left))
+    Ok((words, directives.len()))
 }
 
 /// The word of a line `word`.
@@ -72,49 +93,53 @@ fn word_of(alloc: Global, directive: &Directive<'_>) -> Result<String, Flaw> {
     }
 }
 
-/// The status that the run of this line must end with.
-fn status_of<'d, 'a>(
-    run_line: u64,
-    left: &'d [Directive<'a>],
-) -> Result<(WantedStatus, &'d [Directive<'a>]), Flaw> {
-    match left.split_first() {
-        Some((directive, after)) if directive.keyword == Keyword::Status => {
-            let status = WantedStatus {
-                line: directive.line,
-                code: number_of(directive)?,
-            };
-            Ok((status, after))
-        }
-        _ => Err(Flaw::Form {
-            line: run_line,
-            fault: Fault::NoStatus,
-        }),
+/// The status at this place, which the run of the line must end with.
+fn status_of(directives: &[Directive<'_>], at: usize, run_line: u64) -> Result<WantedStatus, Flaw>
+    ensures { OnOk result (at < length directives.now) }
+{
+    let fault = Flaw::Form {
+        line: run_line,
+        fault: Fault::NoStatus,
+    };
+    if at >= directives.len() {
+        return Err(fault);
     }
+    let directive = &directives[at];
+    if directive.keyword != Keyword::Status {
+        return Err(fault);
+    }
+    Ok(WantedStatus {
+        line: directive.line,
+        code: number_of(directive)?,
+    })
 }
 
-/// The output that the run of this line must give.
-fn output_of<'d, 'a>(
+/// The output at this place, which the run of the line must give.
+fn output_of(
     alloc: Global,
+    directives: &[Directive<'_>],
+    at: usize,
     run_line: u64,
-    left: &'d [Directive<'a>],
-) -> Result<(Output, &'d [Directive<'a>]), Flaw> {
+) -> Result<Output, Flaw>
+    ensures { OnOk result (at < length directives.now) }
+{
     let fault = Flaw::Form {
         line: run_line,
         fault: Fault::NoOutput,
     };
-    match left.split_first() {
-        Some((directive, after)) => match extent_of(directive.keyword) {
-            Some(extent) => {
-                no_text(directive)?;
-                let output = Output {
-                    line: directive.line,
-                    extent,
-                    bytes: bytes_of(alloc, directive)?,
-                };
-                Ok((output, after))
-            }
-            None => Err(fault),
-        },
+    if at >= directives.len() {
+        return Err(fault);
+    }
+    let directive = &directives[at];
+    match extent_of(directive.keyword) {
+        Some(extent) => {
+            no_text(directive)?;
+            Ok(Output {
+                line: directive.line,
+                extent,
+                bytes: content_of(alloc, directive.content.as_slice())?,
+            })
+        }
         None => Err(fault),
     }
 }
@@ -127,31 +152,42 @@ fn extent_of(keyword: Keyword) -> Option<Extent> {
     }
 }
 
-/// The files that the run must leave, and those that must be missing then.
-fn files_of<'d, 'a>(
+/// The files that the run must leave, and those that must be missing then, from a place on, and the
+/// place after them.
+fn files_of(
     alloc: Global,
-    directives: &'d [Directive<'a>],
-) -> Result<(Vec<WantedFile>, &'d [Directive<'a>]), Flaw> {
+    directives: &[Directive<'_>],
+    from: usize,
+) -> Result<(Vec<WantedFile>, usize), Flaw>
+    requires { from ≤ length directives.now }
+    ensures { IfOk result (λ read. (from ≤ read.1) × (read.1 ≤ length directives.now)) }
+{
     let mut files = Vec::new(alloc);
-    let mut left = directives;
-    while let Some((directive, after)) = left.split_first() {
-        match directive.keyword {
-            Keyword::Leaves => files.push(WantedFile {
-                line: directive.line,
-                name: name_of(alloc, directive)?,
-                bytes: Some(bytes_of(alloc, directive)?),
-            })?,
-            Keyword::Missing => {
-                no_content(directive)?;
-                files.push(WantedFile {
-                    line: directive.line,
-                    name: name_of(alloc, directive)?,
-                    bytes: None,
-                })?
-            }
-            _ => return Ok((files, left)),
+    for at in from..directives.len() {
+        match file_of(alloc, &directives[at])? {
+            Some(file) => files.push(file)?,
+            None => return Ok((files, at)),
         }
-        left = after;
     }
-    Ok((files, left))
+    Ok((files, directives.len()))
+}
+
+/// The file that a directive wants to be left or to be missing, or none of another directive.
+fn file_of(alloc: Global, directive: &Directive<'_>) -> Result<Option<WantedFile>, Flaw> {
+    match directive.keyword {
+        Keyword::Leaves => {
+            let name = name_of(alloc, directive)?;
+            let bytes = content_of(alloc, directive.content.as_slice())?;
+            Ok(Some(wanted(directive.line, name, Some(bytes))))
+        }
+        Keyword::Missing => {
+            no_content(directive)?;
+            Ok(Some(wanted(directive.line, name_of(alloc, directive)?, None)))
+        }
+        _ => Ok(None),
+    }
+}
+
+fn wanted(line: u64, name: String, bytes: Option<Vec<u8>>) -> WantedFile {
+    WantedFile { line, name, bytes }
 }

@@ -58,11 +58,19 @@ fn stop_text(alloc: Global, stop: &Stop) -> Result<String, AllocError> {
         ),
         Stop::NoFolder => String::from_str(alloc, "the folder can't be listed\n"),
         Stop::NoFile { name } => format!(in alloc; "{name} can't be read\n"),
-        Stop::NoTranscript { name, line, fault } => {
-            let words = fault.words();
-            format!(in alloc; "{name}: line {line}: {words}\n")
-        }
+        Stop::NoTranscript { name, line, fault } => form_text(alloc, name.as_str(), *line, *fault),
         Stop::NoOutput => String::from_str(alloc, "the output can't be written\n"),
         Stop::Memory => String::from_str(alloc, "no memory\n"),
     }
+}
+
+/// Why a text isn't a transcript.
+pub(crate) fn form_text(
+    alloc: Global,
+    name: &str,
+    line: u64,
+    fault: Fault,
+) -> Result<String, AllocError> {
+    let words = fault.words();
+    format!(in alloc; "{name}: line {line}: {words}\n")
 }

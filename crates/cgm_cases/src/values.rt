@@ -1,7 +1,6 @@
 //! What stands after a directive's word: a name, a number, nothing.
 ghost use Rattle.std.specs.Prelude.{IfOk, ◌≤◌};
 
-use crate::content::content_of;
 use crate::directive::Directive;
 use crate::flaw::{Fault, Flaw};
 use std::alloc::Global;
@@ -64,11 +63,6 @@ fn decimal(digits: &[u8]) -> Option<u64> {
         Ok(text) => text.parse::<u64>().ok(),
         Err(_) => None,
     }
-}
-
-/// The content of a directive with a name or nothing after its word.
-pub(crate) fn bytes_of(alloc: Global, directive: &Directive<'_>) -> Result<Vec<u8>, Flaw> {
-    content_of(alloc, directive.content.as_slice())
 }
 
 /// Refuses content lines where a directive has none.

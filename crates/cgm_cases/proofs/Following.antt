@@ -13,3 +13,9 @@ followed-after_byte front byte (Some more) = ap Some (sym (append_assoc front (b
 pub followed-nothing : (rest : Option (List ℕ)) → followed (Some []) rest ≡ rest
 followed-nothing None = refl
 followed-nothing (Some more) = refl
+
+-- bytes after bytes, all before the rest
+pub followed-append : (front more : List ℕ) (rest : Option (List ℕ))
+    → followed (Some front) (followed (Some more) rest) ≡ followed (Some (front ++ more)) rest
+followed-append front more None = refl
+followed-append front more (Some last) = ap Some (sym (append_assoc front more last))

@@ -1,5 +1,5 @@
 -- When a run gave what its case wants of it.
-use Rattle.std.specs.Prelude.{◌≡◌, ◌⊎◌, ℕ, List, ◌++◌, length, take, map, codes, All, Any, String, option_map}
+use Rattle.std.specs.Prelude.{◌≡◌, ◌⊎◌, ℕ, List, [], ◌∷◌, length, take, drop, codes, All, String, option_map}
 use Rattle.std.specs.String.{string_bytes}
 use Rattle.std.specs.declared.alloc.Global.{Global}
 use Rattle.cgm_shelf.specs.Shelf.{Files}
@@ -17,10 +17,18 @@ IsOutput Front wanted printed = take (length wanted) printed ≡ wanted
 abbrev pub IsLeft : Files → WantedFile → Type 0
 IsLeft files file = files (string_bytes file.name) ≡ option_map (λ bytes. bytes.items) file.bytes
 
--- a word names this file as one that is written
+-- these bytes are the front and then the rest
+abbrev pub IsJoined : List ℕ → List ℕ → List ℕ → Type 0
+IsJoined bytes front rest = (take (length front) bytes ≡ front) × (drop (length front) bytes ≡ rest)
+
+-- the word names this file as one that is written
+abbrev pub Names : List ℕ → List ℕ → Type 0
+Names word name = IsJoined word (codes "--cert=") name ⊎ IsJoined word (codes "--core=") name
+
+-- one of the words does
 abbrev pub IsWrittenTo : List (String Global) → List ℕ → Type 0
-IsWrittenTo words name =
-    Any (λ word. (string_bytes word ≡ codes "--cert=" ++ name) ⊎ (string_bytes word ≡ codes "--core=" ++ name)) words
+IsWrittenTo [] name = ⊥
+IsWrittenTo (word ∷ words) name = Names (string_bytes word) name ⊎ IsWrittenTo words name
 
 -- a file is as before, or a word names it as one that is written
 abbrev pub IsKept : List (String Global) → Files → Files → List ℕ → Type 0

@@ -1,14 +1,14 @@
 //! Whether a run gave what its case wants.
-ghost use Rattle.std.specs.Prelude.{◌≡◌, ◌⊎◌, ◌↔◌, ◌++◌, codes, length, take, All, IsTrue, IsNone, option_map};
+ghost use Rattle.std.specs.Prelude.{◌≡◌, ◌↔◌, length, take, All, IsTrue, IsNone, option_map};
 ghost use Rattle.std.specs.Option.{option_copied};
 ghost use Rattle.std.specs.String.{string_bytes};
 ghost use Rattle.cgm_base.specs.Status.{code_of};
-ghost use Rattle.cgm_shelf.specs.MemFiles.{files_in};
 ghost use Rattle.cgm_shelf.specs.MemShelf.{mem_files};
-ghost use Rattle.cgm_cases.specs.Agreement.{IsGiven, IsKept, IsLeft, IsOutput, IsWrittenTo};
+ghost use Rattle.cgm_cases.specs.Folder.{files_of};
+ghost use Rattle.cgm_cases.specs.Agreement.{IsGiven, IsJoined, IsKept, IsLeft, IsOutput, IsWrittenTo, Names};
 
 use crate::case::{Extent, Output, Run, WantedFile};
-use crate::folder::{Folder, bytes_in};
+use crate::folder::Folder;
 use cgm_base::Status;
 use cgm_shelf::MemShelf;
 
@@ -37,14 +37,24 @@ pub(crate) enum Difference<'a> {
 /// What differs first between a run and what it must give, or none where nothing does.
 pub(crate) fn first_difference<'a>(run: &'a Run, ended: &Ended<'a>) -> Option<Difference<'a>>
     ensures { IsNone result ↔ IsGiven run.now (code_of ended.now.status) ended.now.printed.now
-        ended.now.names.now (files_in ended.now.before.now) (mem_files ended.now.after.now) }
+        ended.now.names.now (files_of ended.now.before.now) (mem_files ended.now.after.now) }
 {
     if ended.status.code() as u64 != run.status.code {
         return Some(Difference::Status);
     }
-    if !is_output(&run.output, ended.printed) {
-        return Some(Difference::Output);
+    if is_output(&run.output, ended.printed) {
+        first_file(run, ended)
+    } else {
+        Some(Difference::Output)
     }
+}
+
+/// The first file that isn't as it must be, or none where each is.
+fn first_file<'a>(run: &'a Run, ended: &Ended<'a>) -> Option<Difference<'a>>
+    ensures { IsNone result ↔ (All (IsLeft (mem_files ended.now.after.now)) run.now.files.items
+        × All (λ name. IsKept run.now.words.items (files_of ended.now.before.now)
+        (mem_files ended.now.after.now) (string_bytes name)) ended.now.names.now) }
+{
     match other_file(run.files.as_slice(), ended.after) {
         Some(file) => Some(Difference::File(file)),
         None => match changed_file(run.words.as_slice(), ended.names, ended.before, ended.after) {
@@ -81,10 +91,11 @@ fn other_file<'a>(files: &'a [WantedFile], shelf: &MemShelf) -> Option<&'a Wante
 {
     let mut left = files;
     while let Some((file, rest)) = left.split_first() {
-        if !is_left(file, shelf) {
+        if is_left(file, shelf) {
+            left = rest;
+        } else {
             return Some(file);
         }
-        left = rest;
     }
     None
 }
@@ -113,27 +124,28 @@ fn changed_file<'a>(
     before: &Folder,
     after: &MemShelf,
 ) -> Option<&'a str>
-    ensures { IsNone result ↔ All (λ name. IsKept words.now (files_in before.now)
+    ensures { IsNone result ↔ All (λ name. IsKept words.now (files_of before.now)
         (mem_files after.now) (string_bytes name)) names.now }
 {
     let mut left = names;
     while let Some((name, rest)) = left.split_first() {
-        if !is_kept(words, name.as_str(), before, after) {
+        if is_kept(words, name.as_str(), before, after) {
+            left = rest;
+        } else {
             return Some(name.as_str());
         }
-        left = rest;
     }
     None
 }
 
 /// Whether a file is as before, or is one that a word of the run names.
 fn is_kept(words: &[String], name: &str, before: &Folder, after: &MemShelf) -> bool
-    ensures { IsTrue result ↔ IsKept words.now (files_in before.now) (mem_files after.now) name.now }
+    ensures { IsTrue result ↔ IsKept words.now (files_of before.now) (mem_files after.now) name.now }
 {
     if is_written_to(words, name) {
         return true;
     }
-    are_same(after.bytes(name), bytes_in(before, name))
+    are_same(after.bytes(name), before.bytes(name))
 }
 
 /// Whether a word names the file as one that is written.
@@ -152,8 +164,7 @@ fn is_written_to(words: &[String], name: &str) -> bool
 
 /// Whether the word names the file as one that is written.
 fn names_written(word: &str, name: &str) -> bool
-    ensures { IsTrue result ↔ ((word.now ≡ codes "--cert=" ++ name.now)
-        ⊎ (word.now ≡ codes "--core=" ++ name.now)) }
+    ensures { IsTrue result ↔ Names word.now name.now }
 {
     if is_joined(word.as_bytes(), b"--cert=", name.as_bytes()) {
         return true;
@@ -163,7 +174,7 @@ fn names_written(word: &str, name: &str) -> bool
 
 /// Whether the bytes are the front and then the rest.
 fn is_joined(bytes: &[u8], front: &[u8], rest: &[u8]) -> bool
-    ensures { IsTrue result ↔ (bytes.now ≡ front.now ++ rest.now) }
+    ensures { IsTrue result ↔ IsJoined bytes.now front.now rest.now }
 {
     if bytes.len() < front.len() {
         return false;

@@ -17,7 +17,11 @@ pub(crate) fn content_of(alloc: Global, lines: &[Line<'_>]) -> Result<Vec<u8>, F
 {
     let mut bytes = Vec::new(alloc);
     for at in 0..lines.len() {
-        add_line(alloc, &mut bytes, lines[at], at + 1 == lines.len())?;
+        let line = lines[at];
+        match add_line(alloc, &mut bytes, line, at + 1 == lines.len()) {
+            Ok(()) => {}
+            Err(flaw) => return Err(flaw),
+        }
     }
     Ok(bytes)
 }

@@ -1,4 +1,6 @@
 //! The program's words.
+ghost use Rattle.std.specs.Prelude.{◌≤◌, length, IfOk};
+
 use crate::stop::Stop;
 use std::alloc::Global;
 
@@ -66,7 +68,9 @@ pub(crate) fn request_of(alloc: Global, words: &[String]) -> Result<Request, Sto
 }
 
 /// The word after `--only`, and what is left.
-fn only_name(alloc: Global, words: &[String]) -> Result<(String, &[String]), Stop> {
+fn only_name(alloc: Global, words: &[String]) -> Result<(String, &[String]), Stop>
+    ensures { IfOk result (λ parts. length parts.1.now ≤ length words.now) }
+{
     match words.split_first() {
         Some((name, rest)) => Ok((String::from_str(alloc, name.as_str())?, rest)),
         None => Err(Stop::Usage),

@@ -1,7 +1,7 @@
 //! One case's run.
 use crate::case::{Case, FailingCall, Piece, Run, Step};
 use crate::comparison::{Ended, first_difference};
-use crate::folder::{Folder, names_of, put_all, set_file, take_back};
+use crate::folder::{Folder, LARGE};
 use crate::telling::{Told, tell_difference};
 use cgm_base::Status;
 use cgm_cli::run_quiet;
@@ -9,9 +9,6 @@ use cgm_shelf::{MemShelf, MemSink};
 use cgm_trail::Work;
 use std::alloc::{AllocError, Global};
 use std::mem;
-
-/// How many bytes a call moves at most where the case doesn't say.
-const LARGE: usize = 1 << 30;
 
 /// Where a case stands: its files, and what the next run's shelf and sink do.
 #[derive(Drop)]
@@ -62,12 +59,7 @@ impl Scene {
     fn take_step(&mut self, step: &Step) -> Result<Option<Told>, AllocError> {
         match step {
             Step::Run(run) => return self.play(run),
-            Step::File(file) => set_file(
-                self.alloc,
-                &mut self.folder,
-                file.name.as_str(),
-                file.bytes.as_slice(),
-            )?,
+            Step::File(file) => self.folder.set(file.name.as_str(), file.bytes.as_slice())?,
             Step::Piece(piece) => self.piece = *piece,
             Step::Fail(call) => self.fail(*call)?,
             Step::Alone => {}
@@ -93,9 +85,9 @@ impl Scene {
         let mut shelf = self.next_shelf()?;
         let mut sink = self.next_sink();
         let status = run_program(self.alloc, run.words.as_slice(), &mut shelf, &mut sink);
-        let names = names_of(self.alloc, &self.folder, run.words.as_slice())?;
+        let names = self.folder.names_with(run.words.as_slice())?;
         let told = self.judge(run, status, &sink, &shelf, names.as_slice())?;
-        take_back(self.alloc, &mut self.folder, &shelf, names.as_slice())?;
+        self.folder.take_all(&shelf, names)?;
         Ok(told)
     }
 
@@ -104,7 +96,7 @@ impl Scene {
         let reads = mem::replace(&mut self.failing_reads, Vec::new(self.alloc));
         let writes = mem::replace(&mut self.failing_writes, Vec::new(self.alloc));
         let mut shelf = MemShelf::new(self.alloc, self.piece.size, reads, writes);
-        put_all(&self.folder, &mut shelf)?;
+        self.folder.put_all(&mut shelf)?;
         Ok(shelf)
     }
 

@@ -23,14 +23,15 @@ pub(crate) fn judge(
     alloc: Global,
     p: &Problem,
     log: &IndexedLog<'_>,
-    by: u32,
+    worker: u32,
     candidate: &Option<Seq<i64>>,
 ) -> Result<Judged, OutOfMemory>
     requires accepted { IsAcceptedState p.now log.now }
     requires room { length log.now.bests < 2 ^ 63 }
     requires solution { IfSome candidate.now (IsSolution p.now) }
     ensures fate { IfOk result (λ j. j.fate ≡ fate_of p.now log.now candidate.now) }
-    ensures kept { IfOk result (λ j. j.kept.items ≡ kept_candidate p.now log.now by candidate.now) }
+    ensures kept { IfOk result
+        (λ j. j.kept.items ≡ kept_candidate p.now log.now worker candidate.now) }
 {
     match candidate {
         None => Ok(Judged {
@@ -39,7 +40,7 @@ pub(crate) fn judge(
         }),
         Some(values) => {
             let fate = find_fate(alloc, p, log, values.as_slice())?;
-            let kept = keep(alloc, by, values.as_slice(), &fate)?;
+            let kept = keep(alloc, worker, values.as_slice(), &fate)?;
             Ok(Judged {
                 fate: Some(fate),
                 kept,
@@ -82,14 +83,14 @@ fn find_fate(
     }
 }
 
-fn keep(alloc: Global, by: u32, values: &[i64], fate: &Fate) -> Result<Vec<Entry>, OutOfMemory>
-    ensures { IfOk result (λ kept. kept.items ≡ kept_entry by values.now fate.now) }
+fn keep(alloc: Global, worker: u32, values: &[i64], fate: &Fate) -> Result<Vec<Entry>, OutOfMemory>
+    ensures { IfOk result (λ kept. kept.items ≡ kept_entry worker values.now fate.now) }
 {
     let mut kept = Vec::new(alloc);
     match fate {
         Fate::Kept { .. } => {
             let values = Seq::of(Vec::from_slice(alloc, values)?);
-            kept.push(Entry::Best { by, values })?;
+            kept.push(Entry::Best { by: worker, values })?;
             Ok(kept)
         }
         Fate::Behind { .. } => Ok(kept),

@@ -22,10 +22,9 @@ pub content_flaw : (front line : List ℕ) (rest : List (List ℕ)) → line_byt
 content_flaw front line rest flaw = ap (λ first. followed (Some front) (followed first (content rest))) flaw
 
 -- the items from a place on are the one there and those after it
-pub items_from : {A : Type 0} (f : A → List ℕ) (xs : List A) (i : ℕ) (x : A) → i < length xs → x ≡ get_or xs i x
-    → map f (drop i xs) ≡ f x ∷ map f (drop (i + 1) xs)
-items_from f xs i x inside here =
-    rw add-one (ap (map f) (drop-cons xs i x inside) ∙ ap (λ first. f first ∷ map f (drop (suc i) xs)) (sym here))
+pub items_from : {A : Type 0} (f : A → List ℕ) (xs : List A) (i : ℕ) (d : A) → i < length xs
+    → map f (drop i xs) ≡ f (get_or xs i d) ∷ map f (drop (i + 1) xs)
+items_from f xs i d inside = rw add-one (ap (map f) (drop-cons xs i d inside))
 
 suc_is_some : (n : ℕ) → false ≡ nat_eq (suc n) 0
 suc_is_some n = grind (arith, nat_tests)
@@ -46,22 +45,22 @@ nothing_after f xs i inside =
     ∙ last_by_length (i + 1) (length xs) (omega arith)
 
 -- the line at a place, whose bytes are known, comes before those after it
-pub content_at_line : {A : Type 0} (f : A → List ℕ) (xs : List A) (i : ℕ) (x : A) (front now : List ℕ)
-    → i < length xs → x ≡ get_or xs i x
-    → (more : List ℕ) × ((line_bytes (f x) (nat_eq (i + 1) (length xs)) ≡ Some more) × (now ≡ front ++ more))
+pub content_at_line : {A : Type 0} (f : A → List ℕ) (xs : List A) (i : ℕ) (d : A) (front now : List ℕ)
+    → i < length xs
+    → (more : List ℕ) × ((line_bytes (f (get_or xs i d)) (nat_eq (i + 1) (length xs)) ≡ Some more) × (now ≡ front ++ more))
     → followed (Some front) (content (map f (drop i xs))) ≡ followed (Some now) (content (map f (drop (i + 1) xs)))
-content_at_line f xs i x front now inside here (more, (found, grown)) =
-    ap (λ lines. followed (Some front) (content lines)) (items_from f xs i x inside here)
-    ∙ content_step front more (f x) (map f (drop (i + 1) xs)) (ap (line_bytes (f x)) (nothing_after f xs i inside) ∙ found)
+content_at_line f xs i d front now inside (more, (found, grown)) =
+    ap (λ lines. followed (Some front) (content lines)) (items_from f xs i d inside)
+    ∙ content_step front more (f (get_or xs i d)) (map f (drop (i + 1) xs)) (ap (line_bytes (f (get_or xs i d))) (nothing_after f xs i inside) ∙ found)
     ∙ ap (λ bytes. followed (Some bytes) (content (map f (drop (i + 1) xs)))) (sym grown)
 
 -- the line at a place that spells nothing leaves no content
-pub content_at_flaw : {A : Type 0} (f : A → List ℕ) (xs : List A) (i : ℕ) (x : A) (front : List ℕ)
-    → i < length xs → x ≡ get_or xs i x → line_bytes (f x) (nat_eq (i + 1) (length xs)) ≡ None
+pub content_at_flaw : {A : Type 0} (f : A → List ℕ) (xs : List A) (i : ℕ) (d : A) (front : List ℕ)
+    → i < length xs → line_bytes (f (get_or xs i d)) (nat_eq (i + 1) (length xs)) ≡ None
     → followed (Some front) (content (map f (drop i xs))) ≡ None
-content_at_flaw f xs i x front inside here flaw =
-    ap (λ lines. followed (Some front) (content lines)) (items_from f xs i x inside here)
-    ∙ content_flaw front (f x) (map f (drop (i + 1) xs)) (ap (line_bytes (f x)) (nothing_after f xs i inside) ∙ flaw)
+content_at_flaw f xs i d front inside flaw =
+    ap (λ lines. followed (Some front) (content lines)) (items_from f xs i d inside)
+    ∙ content_flaw front (f (get_or xs i d)) (map f (drop (i + 1) xs)) (ap (line_bytes (f (get_or xs i d))) (nothing_after f xs i inside) ∙ flaw)
 
 -- what follows from a fact of a flaw of the form is one too
 pub on_form : {P Q : Type 0} → (P → Q) → (flaw : Flaw) → OnForm P flaw → OnForm Q flaw

@@ -1,13 +1,15 @@
 use Rattle.std.proofs.Common.{◌≡◌, ◌∙◌, ℕ}
-use Rattle.std.specs.Prelude.{None}
 use Rattle.cgm_cases.proofs.ContentLines.{content_at_flaw, content_at_line, on_form}
+use Rattle.cgm_cases.specs.declared.directive.Line.{Line}
 use Rattle.cgm_cases.proofs.content.content_of.Goals as goal
 
 pub loop-at-preserved : goal.loop-at-preserved
 loop-at-preserved c =
     c.loop-at.invariant
-    ∙ content_at_line (λ line. line.bytes.now) c.args.lines.now c.loop-at.at c.index-lines-at.result c.loop-at.bytes.items _ c.loop-at-test.true c.index-lines-at.is c.in-Ok.ensures.bytes
+    ∙ content_at_line (λ (line : Line). line.bytes.now) c.args.lines.now c.loop-at.at _ c.loop-at.bytes.items _ c.loop-at-test.true c.in-Ok.ensures.bytes
 
 pub returns-in-Err-clause-flaw : goal.returns-in-Err-clause-flaw
 returns-in-Err-clause-flaw c =
-    on_form (λ none. c.loop-at.invariant ∙ content_at_flaw (λ line. line.bytes.now) c.args.lines.now c.loop-at.at c.index-lines-at.result c.loop-at.bytes.items c.loop-at-test.true c.index-lines-at.is none) c.in-Err.flaw c.in-Err.ensures.flaw
+    on_form (λ none. c.loop-at.invariant
+    ∙ content_at_flaw (λ (line : Line). line.bytes.now) c.args.lines.now c.loop-at.at _ c.loop-at.bytes.items c.loop-at-test.true none)
+    c.in-Err.flaw c.in-Err.ensures.flaw

@@ -11,14 +11,26 @@ use std::alloc::Global;
 use std::process::Abort;
 use std::test::Fail;
 
-/// Does what each statement says, and asserts its answer.
+/// Does what each statement says to the box of a problem, and asserts its answer.
 fn narrow_all(rt: &impl Abort, alloc: Global, case: &str) -> Result<(), Fail> {
     let p = problem_of(rt, alloc, case)?;
     let mut b = BoxState::of(alloc, &p)?;
+    narrow_each(rt, alloc, &p, &mut b, case)
+}
+
+fn narrow_each(
+    rt: &impl Abort,
+    alloc: Global,
+    p: &Problem,
+    b: &mut BoxState,
+    case: &str,
+) -> Result<(), Fail>
+    requires { IsBoxOf p.now.bounds b.old }
+{
     for statement in case.split(';') {
         let (head, rest) = parted(statement);
         assert!(rt;
-            is_met(alloc, &p, &mut b, head, rest)?,
+            is_met(alloc, p, b, head, rest)?,
             "at {statement} in {case}"
         );
     }

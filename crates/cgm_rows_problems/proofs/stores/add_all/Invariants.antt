@@ -1,0 +1,9 @@
+use Rattle.std.proofs.Common.{◌≡◌}
+use Rattle.cgm_clauses.specs.StoreState.{CanNamesLand, IsStoreOf}
+use Rattle.cgm_rows_problems.proofs.stores.add_all.Given as goal
+
+abbrev pub invariant-loop-statement : goal.invariant-loop-statement
+invariant-loop-statement g l = record {
+  store : IsStoreOf l.p l.s;
+  names : CanNamesLand l.first l.s.added;
+}

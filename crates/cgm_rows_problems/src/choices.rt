@@ -1,0 +1,122 @@
+// What orders decide: `order` has a seed, a worker and the decision on the trail's box, `all` a seed,
+// a worker and how many decisions there are until all is fixed, `raise` a variable and how often it
+// is raised, and `heaviest` the decision of the order by conflicts. `none` stands for no decision.
+ghost use Rattle.std.specs.Prelude.{◌≡◌, ◌<◌, length};
+ghost use Rattle.cgm_atom.specs.Instance.{var_count};
+
+use crate::steps::make;
+use crate::words::{atom, parted};
+use cgm_atom::{Atom, Hint, Problem, Var};
+use cgm_split::{Activity, Order, next};
+use cgm_trail::Trail;
+use std::alloc::Global;
+use std::process::Abort;
+use std::test::Fail;
+
+/// More decisions are not followed.
+const MOST: u32 = 100;
+
+/// Whether what a statement says of decisions is so. Variables are raised on the way.
+pub(crate) fn is_chosen(
+    rt: &impl Abort,
+    alloc: Global,
+    p: &Problem,
+    t: &Trail,
+    activity: &mut Activity,
+    statement: &str,
+) -> Result<bool, Fail>
+    requires problem { t.now.problem ≡ p.now }
+    requires order { length activity.old.weights ≡ var_count p.now }
+    ensures { length activity.new.weights ≡ var_count p.now }
+{
+    let (head, rest) = parted(statement);
+    match head {
+        "order" => is_ordered(alloc, p, t, rest),
+        "all" => are_all(rt, alloc, p, rest),
+        "raise" => raise(p, activity, rest),
+        "heaviest" => is_heaviest(p, t, activity, rest),
+        _ => Ok(true),
+    }
+}
+
+fn choice(word: &str) -> Result<Option<Atom>, Fail> {
+    match word {
+        "none" => Ok(None),
+        a => Ok(Some(atom(a)?)),
+    }
+}
+
+fn is_ordered(alloc: Global, p: &Problem, t: &Trail, words: &str) -> Result<bool, Fail>
+    requires { t.now.problem ≡ p.now }
+{
+    let (seed, rest) = parted(words);
+    let (worker, wanted) = parted(rest);
+    let mut order = Order::new(alloc, p, seed.parse()?, worker.parse()?)?;
+    Ok(decision(p, t, &mut order) == choice(wanted)?)
+}
+
+/// What the order decides on the box of a trail.
+fn decision(p: &Problem, t: &Trail, order: &mut Order) -> Option<Atom>
+    requires problem { t.now.problem ≡ p.now }
+    requires order { length order.old.variables ≡ var_count p.now }
+    ensures { order.new ≡ order.old }
+{
+    t.recall_trail();
+    next(t.state(), order)
+}
+
+fn are_all(rt: &impl Abort, alloc: Global, p: &Problem, words: &str) -> Result<bool, Fail> {
+    let (seed, rest) = parted(words);
+    let (worker, count) = parted(rest);
+    let mut order = Order::new(alloc, p, seed.parse()?, worker.parse()?)?;
+    let mut t = Trail::new(alloc, p)?;
+    Ok(follow(rt, p, &mut t, &mut order)? == count.parse::<u32>()?)
+}
+
+/// How many decisions there are until all is fixed. Each is open when it is made.
+fn follow(rt: &impl Abort, p: &Problem, t: &mut Trail, order: &mut Order) -> Result<u32, Fail>
+    requires problem { t.old.problem ≡ p.now }
+    requires order { length order.old.variables ≡ var_count p.now }
+{
+    for made in 0..MOST {
+        match decision(p, t, order) {
+            None => return Ok(made),
+            Some(a) => make(rt, p, t, Hint::Row(0), a)?,
+        }
+    }
+    Ok(MOST)
+}
+
+fn raise(p: &Problem, activity: &mut Activity, words: &str) -> Result<bool, Fail>
+    requires { length activity.old.weights ≡ var_count p.now }
+    ensures { length activity.new.weights ≡ var_count p.now }
+{
+    let (x, times) = parted(words);
+    let x: u32 = x.parse()?;
+    let times: u32 = times.parse()?;
+    if x >= p.vars() {
+        return Ok(false);
+    }
+    raise_often(activity, x, times);
+    Ok(true)
+}
+
+/// Raises a variable many times.
+fn raise_often(activity: &mut Activity, x: u32, times: u32)
+    requires { x < length activity.old.weights }
+    ensures { length activity.new.weights ≡ length activity.old.weights }
+{
+    let mut done = 0;
+    while done < times {
+        activity.raise(Var(x));
+        done += 1;
+    }
+}
+
+fn is_heaviest(p: &Problem, t: &Trail, activity: &Activity, wanted: &str) -> Result<bool, Fail>
+    requires problem { t.now.problem ≡ p.now }
+    requires order { length activity.now.weights ≡ var_count p.now }
+{
+    t.recall_trail();
+    Ok(activity.next(t.state()) == choice(wanted)?)
+}

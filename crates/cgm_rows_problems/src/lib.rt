@@ -1,0 +1,42 @@
+//! Worked examples over problems: values, boxes, the checker, certificates, trails, propagation, orders,
+//! what conflicts teach, trades and whole runs, as tests.
+#![tactic(auto)]
+
+#[cfg(test)]
+mod cert_rows;
+#[cfg(test)]
+mod chain_rows;
+#[cfg(test)]
+mod choices;
+#[cfg(test)]
+mod given;
+#[cfg(test)]
+mod lesson_rows;
+#[cfg(test)]
+mod lessons;
+#[cfg(test)]
+mod narrowing_rows;
+#[cfg(test)]
+mod problems;
+#[cfg(test)]
+mod resting;
+#[cfg(test)]
+mod runs;
+#[cfg(test)]
+mod steps;
+#[cfg(test)]
+mod stores;
+#[cfg(test)]
+mod trades;
+#[cfg(test)]
+mod trail_rows;
+#[cfg(test)]
+mod trails;
+#[cfg(test)]
+mod value_rows;
+#[cfg(test)]
+mod verdict_rows;
+#[cfg(test)]
+mod verdicts;
+#[cfg(test)]
+mod words;

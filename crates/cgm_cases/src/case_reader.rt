@@ -16,8 +16,10 @@ pub(crate) fn cases_of(alloc: Global, text: &[u8]) -> Result<Vec<Case>, Flaw> {
     let mut cases = Vec::new(alloc);
     let mut at = 0;
     while at < directives.len() {
+        let line = directives[at].line;
         let name = case_name(alloc, &directives[at], cases.as_slice())?;
         let (steps, after) = steps_of(alloc, directives, at + 1)?;
+        end_with_run(line, steps.as_slice())?;
         cases.push(Case { name, steps })?;
         at = after;
     }
@@ -41,6 +43,17 @@ fn case_name(alloc: Global, directive: &Directive<'_>, cases: &[Case]) -> Result
         });
     }
     Ok(name)
+}
+
+/// Refuses a case, which begins at this line, whose last step isn't a run: nothing would try it.
+fn end_with_run(line: u64, steps: &[Step]) -> Result<(), Flaw> {
+    match steps.last() {
+        Some(Step::Run(_)) => Ok(()),
+        _ => Err(Flaw::Form {
+            line,
+            fault: Fault::IdleEnd,
+        }),
+    }
 }
 
 fn is_taken(name: &str, cases: &[Case]) -> bool {

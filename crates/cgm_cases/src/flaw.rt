@@ -21,6 +21,7 @@ pub(crate) enum Fault {
     NoStatus,
     NoOutput,
     NoRun,
+    IdleEnd,
 }
 
 impl Fault {
@@ -41,6 +42,7 @@ impl Fault {
             Fault::NoStatus => "a run without status",
             Fault::NoOutput => "a run without prints or begins",
             Fault::NoRun => "what a run gives, where no run stands before",
+            Fault::IdleEnd => "a case that doesn't end with a run",
         }
     }
 }

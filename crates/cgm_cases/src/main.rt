@@ -17,6 +17,8 @@ mod run_reader;
 mod scene;
 mod stop;
 mod telling;
+#[cfg(test)]
+mod tests;
 mod values;
 
 use cgm_cli::words_after_name;

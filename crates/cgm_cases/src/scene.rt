@@ -68,12 +68,13 @@ impl Scene {
     }
 
     /// Has a call of the next run fail. A shelf in memory numbers starts and appends together, and a
-    /// run starts one file at most, before it appends to it. So start K has number K, and append K has
-    /// number K + 1.
+    /// run starts one file at most, before it appends to it. So the start has number 1, there is no
+    /// other one that could fail, and append K has number K + 1.
     fn fail(&mut self, call: FailingCall) -> Result<(), AllocError> {
         match call {
             FailingCall::Read(number) => self.failing_reads.push(number)?,
-            FailingCall::Start(number) => self.failing_writes.push(number)?,
+            FailingCall::Start(1) => self.failing_writes.push(1)?,
+            FailingCall::Start(_) => {}
             FailingCall::Write(number) => self.failing_writes.push(number.saturating_add(1))?,
             FailingCall::Print(number) => self.failing_prints.push(number)?,
         }

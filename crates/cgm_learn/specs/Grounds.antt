@@ -34,7 +34,7 @@ whole_state g = state_with_pending g.state g.pending
 abbrev pub placed_on : GroundState → Hint → Hint
 placed_on g h = placed (length g.state.entries) h
 
--- the hint names an entry of the log, or a pending lemma
+-- of entries the hint names one of the log, of pending lemmas one of these
 abbrev pub IsKnownOn : GroundState → Hint → Type 0
 IsKnownOn g h = IsKnownHint (length g.state.entries) (length g.pending) h
 

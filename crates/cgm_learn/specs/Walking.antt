@@ -97,7 +97,7 @@ pub record IsWalk (g : GroundState) (t : TrailState) (w : Walk) : Type 0 where
   pub place : IsPlaceOf t w.place
   pub needed : IsNeeded g w
 
--- without the atom a box is left that is larger than this one, in which the atom is open; with it the hints lead to conflict
+-- without the atom a box is left that is larger than this one; in this one the atom is open; with it the hints lead to conflict
 pub record IsRest (g : GroundState) (work : Bounds) (w : Walk) (a : Atom) : Type 0 where
   pub limits : IsBoxOf g.problem.bounds w.need
   pub inside : IsSmaller work w.need

@@ -49,7 +49,7 @@ pub record IsReady (s : Search) : Type 0 where
   pub plan : IsPlan s.plan
   pub worker : s.worker < max_workers
 
--- the search knows what its trader was told
+-- the search has the problem of its trader and its own number there, and knows what the trader was told
 pub record Sits (s : Search) (seat : Seat) : Type 0 where
   pub same_problem : seat.problem ≡ s.known.problem
   pub same_entries : seat.told ≡ seen s.known
@@ -62,7 +62,7 @@ pub record IsKept (old new : Search) : Type 0 where
   pub worker : new.worker ≡ old.worker
   pub trail : IsTrailOf old.known.problem old.plan new.trail
 
--- what a trade leaves of a search: all but what it knows of the log
+-- what a trade leaves of a search: problem, trail, order, plan and number stay
 pub record IsTradedIn (old new : Search) : Type 0 where
   pub problem : new.known.problem ≡ old.known.problem
   pub trail : new.trail ≡ old.trail
@@ -100,6 +100,6 @@ IsUnit old new before after (Some stopped.Spent) =
     IsReady new × Sits new after × (new.trail.moves ≡ new.plan.budget)
 IsUnit old new before after (Some stopped.Memory) = Unit {0}
 
--- the seat before one trade more
+-- the seat with one trade more to make
 abbrev pub before_trade : Seat → Seat
 before_trade seat = record seat { trades = seat.trades + 1 }

@@ -1,0 +1,95 @@
+//! Whole runs of the program over transcripts in memory.
+use crate::ending::Ending;
+use crate::program::run_program;
+use cgm_shelf::{MemShelf, MemSink};
+use std::alloc::{AllocError, Global};
+use std::test::Fail;
+
+/// The transcripts: one whose case agrees, one whose case differs, one with a case of each kind, and
+/// a text that is none.
+const TEXTS: &[(&str, &str)] = &[
+    (
+        "good",
+        "case one\nrun fly\nstatus 2\nprints\n  fault usage\n",
+    ),
+    (
+        "wrong",
+        "case one\nrun fly\nstatus 7\nprints\n  fault usage\n",
+    ),
+    (
+        "two",
+        "case one\nrun fly\nstatus 7\nprints\n\ncase second\nrun fly\nstatus 2\nprints\n  fault usage\n",
+    ),
+    ("broken", "case one\nruns\n"),
+];
+
+const USAGE: &str = "usage: cgm_cases [FILE..] [--wrong FILE..] [--broken FILE..] [--only NAME]\n";
+
+/// Words, how the program ends with them, and with what its output ends.
+const ROWS: &[(&str, Ending, &str)] = &[
+    (
+        "good",
+        Ending::Agree,
+        "0 broken texts, 0 told\n0 wrong cases, 0 told\n1 cases, 0 differ\n",
+    ),
+    ("wrong", Ending::Differ, "\n1 cases, 1 differ\n"),
+    ("good wrong", Ending::Differ, "\n2 cases, 1 differ\n"),
+    (
+        "good --wrong wrong",
+        Ending::Agree,
+        "\n1 wrong cases, 1 told\n1 cases, 0 differ\n",
+    ),
+    (
+        "good --wrong good",
+        Ending::Differ,
+        "\n1 wrong cases, 0 told\n1 cases, 0 differ\n",
+    ),
+    (
+        "good --broken broken",
+        Ending::Agree,
+        "1 broken texts, 1 told\n0 wrong cases, 0 told\n1 cases, 0 differ\n",
+    ),
+    (
+        "good --broken good",
+        Ending::Differ,
+        "1 broken texts, 0 told\n0 wrong cases, 0 told\n1 cases, 0 differ\n",
+    ),
+    ("broken", Ending::Unfit, "broken: line 2: no directive\n"),
+    ("nowhere", Ending::Unfit, "nowhere can't be read\n"),
+    ("two", Ending::Differ, "\n2 cases, 1 differ\n"),
+    ("two --only second", Ending::Agree, "\n1 cases, 0 differ\n"),
+    ("good --only other", Ending::Unfit, "\n0 cases, 0 differ\n"),
+    ("good --only", Ending::Unfit, USAGE),
+    ("good --no", Ending::Unfit, USAGE),
+];
+
+fn owned_words(alloc: Global, words: &str) -> Result<Vec<String>, AllocError> {
+    let mut owned = Vec::new(alloc);
+    for word in words.split(' ') {
+        owned.push(String::from_str(alloc, word)?)?;
+    }
+    Ok(owned)
+}
+
+/// A shelf with the transcripts.
+fn shelf_of(alloc: Global) -> Result<MemShelf, AllocError> {
+    let mut shelf = MemShelf::new(alloc, 4096, Vec::new(alloc), Vec::new(alloc));
+    for (name, text) in TEXTS {
+        shelf.put(name, text.as_bytes())?;
+    }
+    Ok(shelf)
+}
+
+#[test]
+fn each_ending(rt: HostRuntime) -> Result<(), Fail> {
+    let alloc = rt.alloc();
+    for (words, ending, printed) in ROWS {
+        let mut shelf = shelf_of(alloc)?;
+        let mut sink = MemSink::new(alloc, 4096, Vec::new(alloc));
+        let owned = owned_words(alloc, words)?;
+        let ended = run_program(&rt, owned.as_slice(), &mut shelf, &mut sink);
+        assert!(rt; ended == *ending, "at {words}");
+        assert!(rt; sink.written().ends_with(printed.as_bytes()), "at {words}");
+    }
+    Ok(())
+}

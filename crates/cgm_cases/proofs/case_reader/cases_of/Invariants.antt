@@ -1,4 +1,4 @@
-use Rattle.std.proofs.Common.{ℕ, ◌-◌, ◌≤◌, length}
+use Rattle.std.proofs.Common.{◌-◌, ◌≤◌, length}
 use Rattle.cgm_cases.proofs.case_reader.cases_of.Given as goal
 
 abbrev pub invariant-loop-at : goal.invariant-loop-at

@@ -1,4 +1,4 @@
-use Rattle.std.proofs.Common.{ℕ, ◌↔◌, length, All}
+use Rattle.std.proofs.Common.{◌↔◌, length, All}
 use Rattle.std.specs.String.{string_bytes}
 use Rattle.cgm_shelf.specs.MemShelf.{mem_files}
 use Rattle.cgm_cases.specs.Agreement.{IsKept}

@@ -1,4 +1,4 @@
-use Rattle.std.proofs.Common.{◌≡◌, ◌∙◌, refl, sym}
+use Rattle.std.proofs.Common.{◌∙◌, refl, sym}
 use Rattle.cgm_cases.proofs.comparison.first_difference.Goals as goal
 
 pub returns-then-is_output : goal.returns-then-is_output

@@ -1,4 +1,4 @@
-use Rattle.std.proofs.Common.{ℕ, List, All, String, refl, sym, subst}
+use Rattle.std.proofs.Common.{List, All, String, refl, sym, subst}
 use Rattle.std.specs.declared.alloc.Global.{Global}
 use Rattle.std.specs.String.{string_bytes}
 use Rattle.cgm_shelf.specs.MemShelf.{mem_files}

@@ -1,4 +1,4 @@
-use Rattle.std.proofs.Common.{ℕ, ◌↔◌, length}
+use Rattle.std.proofs.Common.{◌↔◌, length}
 use Rattle.cgm_cases.specs.Agreement.{IsWrittenTo}
 use Rattle.cgm_cases.proofs.comparison.is_written_to.Given as goal
 

@@ -1,4 +1,4 @@
-use Rattle.std.proofs.Common.{ℕ, ◌↔◌, length, All}
+use Rattle.std.proofs.Common.{◌↔◌, length, All}
 use Rattle.cgm_shelf.specs.MemShelf.{mem_files}
 use Rattle.cgm_cases.specs.Agreement.{IsLeft}
 use Rattle.cgm_cases.proofs.comparison.other_file.Given as goal

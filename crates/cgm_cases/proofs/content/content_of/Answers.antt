@@ -1,4 +1,4 @@
-use Rattle.std.proofs.Common.{◌≡◌, ◌∙◌, ℕ}
+use Rattle.std.proofs.Common.{◌∙◌}
 use Rattle.cgm_cases.proofs.ContentLines.{content_at_flaw, content_at_line, on_form}
 use Rattle.cgm_cases.specs.declared.directive.Line.{Line}
 use Rattle.cgm_cases.proofs.content.content_of.Goals as goal

@@ -1,4 +1,4 @@
-use Rattle.std.proofs.Common.{◌≡◌, ℕ, map, drop}
+use Rattle.std.proofs.Common.{◌≡◌, map, drop}
 use Rattle.std.specs.Prelude.{Some}
 use Rattle.cgm_cases.specs.Content.{followed, content}
 use Rattle.cgm_cases.proofs.content.content_of.Given as goal

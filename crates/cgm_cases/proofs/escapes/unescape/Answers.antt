@@ -1,4 +1,4 @@
-use Rattle.std.proofs.Common.{◌≡◌, ◌∙◌, ap, sym}
+use Rattle.std.proofs.Common.{◌∙◌, ap, sym}
 use Rattle.std.specs.Prelude.{Some}
 use Rattle.cgm_cases.specs.Content.{followed, unescaped}
 use Rattle.cgm_cases.proofs.Following.{followed-after_byte}

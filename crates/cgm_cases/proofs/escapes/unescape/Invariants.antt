@@ -1,4 +1,4 @@
-use Rattle.std.proofs.Common.{◌≡◌, ℕ, length}
+use Rattle.std.proofs.Common.{◌≡◌, length}
 use Rattle.std.specs.Prelude.{Some}
 use Rattle.cgm_cases.specs.Content.{followed, unescaped}
 use Rattle.cgm_cases.proofs.escapes.unescape.Given as goal

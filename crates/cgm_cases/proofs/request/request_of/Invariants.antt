@@ -1,4 +1,4 @@
-use Rattle.std.proofs.Common.{ℕ, length}
+use Rattle.std.proofs.Common.{length}
 use Rattle.cgm_cases.proofs.request.request_of.Given as goal
 
 abbrev pub decreases-loop-word : goal.decreases-loop-word

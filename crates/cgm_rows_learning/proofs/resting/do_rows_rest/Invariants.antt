@@ -1,8 +1,0 @@
-use Rattle.std.proofs.Common.{◌≡◌}
-use Rattle.std.specs.Prelude.{Some}
-use Rattle.std.specs.List.{AllWithin}
-use Rattle.cgm_atom.specs.Narrowing.{left_by_row}
-use Rattle.cgm_rows_learning.proofs.resting.do_rows_rest.Given as goal
-
-abbrev pub invariant-loop-n : goal.invariant-loop-n
-invariant-loop-n l = AllWithin (λ x. left_by_row l.b x ≡ Some l.b) l.p.rows 0 l.n

@@ -1,8 +1,0 @@
-use Rattle.std.proofs.Common.{◌≡◌}
-use Rattle.std.specs.Prelude.{Some}
-use Rattle.std.specs.List.{AllWithin}
-use Rattle.cgm_atom.specs.Narrowing.{left_by_clause}
-use Rattle.cgm_rows_search.proofs.driving.do_clauses_rest.Given as goal
-
-abbrev pub invariant-loop-n : goal.invariant-loop-n
-invariant-loop-n l = AllWithin (λ x. left_by_clause l.b x ≡ Some l.b) l.p.clauses 0 l.n

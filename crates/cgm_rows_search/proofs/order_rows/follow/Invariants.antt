@@ -1,9 +1,0 @@
-use Rattle.std.proofs.Common.{◌≡◌, length}
-use Rattle.cgm_atom.specs.Instance.{var_count}
-use Rattle.cgm_rows_search.proofs.order_rows.follow.Given as goal
-
-abbrev pub invariant-loop-made : goal.invariant-loop-made
-invariant-loop-made g l = record {
-  problem : l.t.problem ≡ l.p;
-  order : length l.order.variables ≡ var_count l.p;
-}

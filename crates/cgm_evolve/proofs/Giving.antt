@@ -1,14 +1,16 @@
--- Lines without a fault, and one line more.
-use Rattle.std.proofs.Common.{◌≡◌, ℕ, ◌++◌, List, [], ◌∷◌, map, Option, None, Some, Result, Ok, refl, sym, ap, ◌∙◌, subst, append-nil}
+-- Lines without a fault, and one line more; the pairs of a text are those that its lines give.
+use Rattle.std.proofs.Common.{◌≡◌, ℕ, ◌+◌, ◌++◌, List, [], ◌∷◌, map, Option, None, Some, Result, Ok, Err, refl, sym, ap, ◌∙◌, subst, append_assoc, append-nil}
 use Rattle.std.specs.List.{filter}
 use Rattle.std.proofs.lemmas.List.{map_push}
 use Rattle.std.proofs.lemmas.List.Elements.{filter-append}
 use Rattle.cgm_lex.specs.declared.token.Flaw.{Flaw}
 use Rattle.cgm_lex.specs.Lexemes.{Lexeme, line_lexemes}
+use Rattle.cgm_lex.specs.Lines.{lines}
+use Rattle.cgm_lex.specs.Readings.{gives, Lead, lacks_header}
+use Rattle.cgm_lex.proofs.Readings.{gives_no_fault, said_at_end}
 use Rattle.cgm_evolve.specs.Line.{header_tokens, pair_tokens}
 use Rattle.cgm_evolve.specs.Pairs.{ArePairs, Pair}
-use Rattle.cgm_evolve.specs.Progress.{Follows, IsPassed}
-use Rattle.cgm_evolve.specs.Text.{Give, has_tokens, pairs_of, tokens_of}
+use Rattle.cgm_evolve.specs.Text.{Follows, Give, IsPassed, IsTextOf, earlier_text, has_tokens, pairs_of, tokens_of}
 use Rattle.cgm_evolve.proofs.Pushing.{ArePairs-push, no_pairs}
 
 abbrev pub good : List Lexeme → Result (List Lexeme) Flaw
@@ -47,3 +49,18 @@ give_more front bytes so_far next g passed =
       said = said_more g.tokens passed.tokens so_far next g.said step.said;
       proper = step.proper g.proper;
     }
+
+-- ---- texts
+
+give_lead : (front ls : List (List ℕ)) (so_far next : Option (List Pair)) (line : ℕ) → Give front so_far → Lead earlier_text so_far line ls (gives next) → Give (front ++ ls) next
+give_lead front [] so_far next line g end =
+    let same : next ≡ so_far = said_at_end (lacks_header so_far) so_far next end in
+    subst (λ ls. Give ls next) (sym (append-nil front)) (subst (Give front) (sym same) g)
+give_lead front (bytes ∷ more) so_far next line g (Ok said, (passed, later)) =
+    subst (λ ls. Give ls next) (append_assoc front (bytes ∷ []) more)
+    (give_lead (front ++ bytes ∷ []) more said next (line + 1) (give_more front bytes so_far said g passed) later)
+give_lead front (bytes ∷ more) so_far next line g (Err fault, (faulty, later)) = absurd (gives_no_fault next line fault later)
+
+pub gives_lines : (text : List ℕ) (pairs : List Pair) → IsTextOf text pairs → Give (lines text) (Some pairs)
+unfolding IsTextOf
+gives_lines text pairs comes = give_lead [] (lines text) None (Some pairs) 1 give_none comes

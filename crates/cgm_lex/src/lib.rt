@@ -1,4 +1,4 @@
-//! The tokens of a text, with their spans, and the first fault.
+//! The tokens of a text, with their spans, and the first fault; and the reader of texts, line by line.
 #![tactic(auto)]
 
 mod bytes;
@@ -6,6 +6,9 @@ mod laws;
 mod lexer;
 mod line;
 mod number;
+pub mod reading;
+mod spelling;
+mod stops;
 mod token;
 
 pub use laws::{
@@ -13,4 +16,5 @@ pub use laws::{
     spans_are_pieces,
 };
 pub use lexer::{tokens, tokens_of_line};
+pub use spelling::is_spelled;
 pub use token::{Flaw, Kind, LexFault, LexStop, Lexed, Token, bytes_of};

@@ -1,7 +1,7 @@
 //! Laws of the text form.
 ghost use Rattle.std.specs.Prelude.{◌≡◌, ℕ, List};
 ghost use Rattle.cgm_model.specs.declared.lists.Lists.{Lists};
-ghost use Rattle.cgm_text.specs.declared.fault.LineFault.{LineFault};
+ghost use Rattle.cgm_lex.specs.declared.stops.LineFault.{LineFault};
 ghost use Rattle.cgm_text.specs.Statements.{WrittenStatement, statement_tokens};
 ghost use Rattle.cgm_text.specs.Text.{IsReading, IsTextOf, HasFault};
 

@@ -13,7 +13,7 @@ mod token;
 
 pub use laws::{
     canonical_line_has_no_feed, canonical_line_is_read_back, line_is_plain, run_is_text,
-    spans_are_pieces,
+    spans_are_pieces, text_fails_once, text_says_one_thing, text_says_or_fails,
 };
 pub use lexer::{tokens, tokens_of_line};
 pub use spelling::is_spelled;

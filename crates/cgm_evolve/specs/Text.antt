@@ -1,6 +1,7 @@
 -- The pairs of an earlier text, and the first fault of a text that has none.
-use Rattle.std.specs.Prelude.{◌≡◌, ℕ, List, [], ◌∷◌, ◌++◌, map, codes, Bool, true, false, Option, None, Some, Result, Ok, Err}
+use Rattle.std.specs.Prelude.{◌≡◌, ℕ, ◌+◌, List, [], ◌∷◌, ◌++◌, length, map, codes, Bool, true, false, Option, None, Some, Result, Ok, Err}
 use Rattle.std.specs.List.{filter, flat_map}
+use Rattle.cgm_base.specs.declared.fault.BadKind.TheVariants as kinds
 use Rattle.cgm_base.specs.Words.{limit_number}
 use Rattle.cgm_lex.specs.declared.stops.LineFault.{LineFault}
 use Rattle.cgm_lex.specs.declared.stops.LineFault.TheVariants as line_faults
@@ -61,6 +62,23 @@ pub record Give (ls : List (List ℕ)) (so_far : Option (List Pair)) : Type 0 wh
   pub lexed : map line_lexemes ls ≡ map (λ ts. Ok ts) tokens
   pub said : filter has_tokens tokens ≡ tokens_of so_far
   pub proper : ArePairs (pairs_of so_far)
+
+-- the line with this number, from 1, has this fault, and the lines before it have none
+pub record IsFirstFaulty (ls : List (List ℕ)) (line : ℕ) (fault : LineFault) : Type 0 where
+  pub front : List (List ℕ)
+  pub bytes : List ℕ
+  pub rest : List (List ℕ)
+  pub split : ls ≡ front ++ bytes ∷ rest
+  pub number : line ≡ length front + 1
+  pub so_far : Option (List Pair)
+  pub given : Give front so_far
+  pub faulty : IsFaulty so_far (line_lexemes bytes) fault
+
+-- no line has a token, which is a fault of line 1
+pub record HasNoHeader (ls : List (List ℕ)) (line : ℕ) (fault : LineFault) : Type 0 where
+  pub given : Give ls None
+  pub first : line ≡ 1
+  pub header : fault ≡ line_faults.Bad kinds.Header
 
 -- why a text isn't read: its first fault, or want of memory
 abbrev pub IsNotRead : List ℕ → TextStop → Type 0

@@ -143,7 +143,7 @@ gives_once one other e = cc
 pub gives_no_fault : {S : Type 0} (said : S) (line : ℕ) (fault : LineFault) → gives said ≡ fails line fault → ⊥
 gives_no_fault said line fault e = cc
 
-fails_once : (S : Type 0) (line other : ℕ) (fault other_fault : LineFault) → ◌≡◌ {A = Outcome S} (fails line fault) (fails other other_fault) → (line ≡ other) × (fault ≡ other_fault)
+pub fails_once : (S : Type 0) (line other : ℕ) (fault other_fault : LineFault) → ◌≡◌ {A = Outcome S} (fails line fault) (fails other other_fault) → (line ≡ other) × (fault ≡ other_fault)
 fails_once S line other fault other_fault e = (cc, cc)
 
 -- a text says one thing at most

@@ -2,10 +2,9 @@
 ghost use Rattle.std.specs.Prelude.{◌≡◌, ◌≤◌, length, IfErr, OnOk};
 ghost use Rattle.cgm_lex.specs.Readings.{IsDecided, IsNotReadAs, IsReadAs, IsReadWhole, LineStep, LineStops, Starts, TextForm, lack_of};
 
-pub use crate::stops::{LineFault, LineStop, TextStop, lexing_stop};
-
 use crate::line::split_line;
 use crate::stops::text_stop;
+pub use crate::stops::{LineFault, LineStop, TextStop, lexing_stop};
 use std::alloc::Global;
 
 /// What the lines of a text make, one after another. It holds what the lines so far said.

@@ -10,7 +10,6 @@ ghost use Rattle.cgm_evolve.specs.Line.{AreFaulty, header_tokens, name_fault};
 ghost use Rattle.cgm_evolve.specs.Pairs.{Pair};
 ghost use Rattle.cgm_evolve.specs.Progress.{IsDraft, IsKept, IsPairAdded, IsPairStop, IsPut, IsStep, IsStopAfter};
 ghost use Rattle.cgm_evolve.specs.Text.{Follows, earlier_text};
-ghost use Rattle.cgm_evolve.proofs.Outcomes.{earlier_text_decided};
 
 use crate::earlier::Earlier;
 use crate::form::{is_end, is_header, pair_of};
@@ -145,8 +144,6 @@ impl Draft for EarlierDraft {
     ghost form = { earlier_text };
 
     ghost holds = { IsDraft };
-
-    ghost decided = { earlier_text_decided };
 
     fn add_line(&mut self, alloc: Global, line: &[u8], number: u32) -> Result<(), LineStop> {
         match tokens_of_line(alloc, line, number) {

@@ -2,8 +2,14 @@
 ghost use Rattle.std.specs.Prelude.{◌≡◌, ◌⊎◌, ℕ, List, Some};
 ghost use Rattle.cgm_lex.specs.declared.stops.LineFault.{LineFault};
 ghost use Rattle.cgm_lex.specs.Lines.{lines};
+ghost use Rattle.cgm_lex.specs.Readings.{IsDecided};
 ghost use Rattle.cgm_evolve.specs.Pairs.{ArePairs, Pair};
-ghost use Rattle.cgm_evolve.specs.Text.{Give, HasFault, HasNoHeader, IsFirstFaulty, IsTextOf, canonical_text};
+ghost use Rattle.cgm_evolve.specs.Text.{Give, HasFault, HasNoHeader, IsFirstFaulty, IsTextOf, canonical_text, earlier_text};
+
+/// The law that after the pairs so far a line comes to one thing, and always to one.
+pub fn earlier_lines_are_decided()
+    ensures { IsDecided earlier_text }
+{}
 
 /// The law that an earlier text has pairs or a first fault: never both, and never neither.
 pub fn earlier_text_has_pairs_or_fault()

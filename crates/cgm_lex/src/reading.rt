@@ -1,6 +1,6 @@
 //! The reader of texts, line by line, over any draft that takes lines.
 ghost use Rattle.std.specs.Prelude.{◌≡◌, ◌≤◌, length, IfErr, OnOk};
-ghost use Rattle.cgm_lex.specs.Readings.{IsDecided, IsNotReadAs, IsReadAs, IsReadWhole, LineStep, LineStops, Starts, TextForm, lack_of};
+ghost use Rattle.cgm_lex.specs.Readings.{IsNotReadAs, IsReadAs, IsReadWhole, LineStep, LineStops, Starts, TextForm, lack_of};
 
 use crate::line::split_line;
 use crate::stops::text_stop;
@@ -28,9 +28,6 @@ pub trait Draft {
     /// What the text lacks that ends here, which is a fault of its first line.
     fn lack(&self) -> Option<LineFault>
         ensures { (said : Said) → holds said self.now → result ≡ lack_of form said };
-
-    /// After what was said so far a line comes to one thing, and always to one.
-    ghost decided: { IsDecided form };
 }
 
 /// Adds the lines of a text to a draft that has none yet.

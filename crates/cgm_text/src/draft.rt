@@ -6,7 +6,6 @@ ghost use Rattle.cgm_text.specs.Line.{AreFirst, AreJudged, IsJudged, header_toke
 ghost use Rattle.cgm_text.specs.Progress.{IsAdded, IsDraft, IsFinished, IsPut, IsStep, IsStop, IsStopAfter, line_stop, tokens_come_to};
 ghost use Rattle.cgm_text.specs.Text.{LineStatement, model_text, rule_line};
 ghost use Rattle.cgm_text.specs.Trees.{seen_all};
-ghost use Rattle.cgm_text.proofs.Outcomes.{model_text_decided};
 
 use crate::depth::nests_deeper;
 use crate::fault::refusal_kind;
@@ -171,8 +170,6 @@ impl Draft for ModelDraft {
     ghost form = { model_text };
 
     ghost holds = { IsDraft };
-
-    ghost decided = { model_text_decided };
 
     fn add_line(&mut self, alloc: Global, line: &[u8], number: u32) -> Result<(), LineStop> {
         match tokens_of_line(alloc, line, number) {

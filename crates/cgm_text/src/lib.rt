@@ -25,7 +25,8 @@ mod written;
 
 pub use cgm_lex::reading::{LineFault, TextStop};
 pub use laws::{
-    text_has_model_or_fault, text_has_one_fault, text_has_one_model, tokens_have_one_statement,
+    lines_are_decided, text_has_model_or_fault, text_has_one_fault, text_has_one_model,
+    tokens_have_one_statement,
 };
 pub use model_printer::print;
 pub use printing_laws::{

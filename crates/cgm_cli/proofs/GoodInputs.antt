@@ -6,10 +6,9 @@ use Rattle.cgm_shelf.specs.Faults.{Rose}
 use Rattle.cgm_shelf.specs.Shelf.{Files, IsMissing, MissingOrRose, WhereTold}
 use Rattle.cgm_model.specs.declared.lists.Lists.{Lists}
 use Rattle.cgm_model.specs.Place.{EachFrom, FirstFailsFrom}
-use Rattle.cgm_text.specs.declared.fault.LineFault.TheVariants as line_faults
+use Rattle.cgm_lex.specs.declared.stops.LineFault.TheVariants as line_faults
 use Rattle.cgm_text.specs.Text.{IsTextOf}
 use Rattle.cgm_text.proofs.Outcomes as models
-use Rattle.cgm_evolve.specs.declared.fault.LineFault.TheVariants as earlier_faults
 use Rattle.cgm_evolve.specs.Pairs.{Pair}
 use Rattle.cgm_evolve.specs.Text.{IsTextOf as IsEarlierTextOf}
 use Rattle.cgm_evolve.proofs.Outcomes as earliers
@@ -92,9 +91,9 @@ same_model shelf files name m read told has is =
 
 no_earlier_fault : (earlier : List Pair) (sink : Printing) (status : Status) (text : List ℕ) → IsEarlierTextOf text earlier → HasEarlierFaultOutcome text sink status → status ≡ statuses.Memory
 no_earlier_fault earlier sink statuses.Earlier text is fault =
-    absurd (earliers.never_both text earlier fault.line (earlier_faults.Bad fault.kind) is fault.fault)
+    absurd (earliers.never_both text earlier fault.line (line_faults.Bad fault.kind) is fault.fault)
 no_earlier_fault earlier sink statuses.Limit text is fault =
-    absurd (earliers.never_both text earlier fault.limit.line (earlier_faults.Limit fault.limit.which) is fault.fault)
+    absurd (earliers.never_both text earlier fault.limit.line (line_faults.Limit fault.limit.which) is fault.fault)
 no_earlier_fault earlier sink statuses.Memory text is fault = refl
 no_earlier_fault earlier sink status text is fault = absurd fault
 

@@ -9,9 +9,8 @@ use Rattle.cgm_base.specs.Words.{limit_number}
 use Rattle.cgm_shelf.specs.Shelf.{WhereTold, MissingOrRose}
 use Rattle.cgm_model.specs.declared.lists.Lists.{Lists}
 use Rattle.cgm_model.specs.Place.{FirstFails}
-use Rattle.cgm_text.specs.declared.fault.LineFault.TheVariants as line_faults
+use Rattle.cgm_lex.specs.declared.stops.LineFault.TheVariants as line_faults
 use Rattle.cgm_text.specs.Text.{IsReading, IsTextOf, HasFault}
-use Rattle.cgm_evolve.specs.declared.fault.LineFault.TheVariants as earlier_faults
 use Rattle.cgm_evolve.specs.Pairs.{Pair}
 use Rattle.cgm_evolve.specs.Text.{IsTextOf as IsEarlierTextOf, HasFault as HasEarlierFault}
 use Rattle.cgm_enc_formula.specs.Measures.{IsWithinMeasure}
@@ -45,12 +44,12 @@ HasFaultOutcome text sink status = ⊥
 pub record IsEarlierFault (text : List ℕ) (sink : Printing) : Type 0 where
   pub line : ℕ
   pub kind : BadKind
-  pub fault : HasEarlierFault text line (earlier_faults.Bad kind)
+  pub fault : HasEarlierFault text line (line_faults.Bad kind)
   pub told : IsTold sink (earlier_fault line kind)
 
 pub record IsEarlierLimitFault (text : List ℕ) (sink : Printing) : Type 0 where
   pub limit : Limit
-  pub fault : HasEarlierFault text limit.line (earlier_faults.Limit limit.which)
+  pub fault : HasEarlierFault text limit.line (line_faults.Limit limit.which)
   pub told : IsTold sink (limit_fault limit)
 
 abbrev pub HasEarlierFaultOutcome : List ℕ → Printing → Status → Type 0

@@ -3,5 +3,4 @@ pub mod Drafts
 pub mod Giving
 pub mod Outcomes
 pub mod Pushing
-pub mod Spelled
 pub mod TextBack

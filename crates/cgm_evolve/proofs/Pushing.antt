@@ -9,8 +9,8 @@ use Rattle.std.proofs.lemmas.List.Quantifiers.{all_pairs_push}
 use Rattle.std.proofs.lemmas.Slice.Eq.{bytes_eq-Decides}
 use Rattle.cgm_base.specs.declared.limit.Which.TheVariants as limits
 use Rattle.cgm_base.specs.Words.{limit_number}
-use Rattle.cgm_model.specs.Name.{is_spelled}
-use Rattle.cgm_evolve.specs.declared.fault.LineFault.{LineFault}
+use Rattle.cgm_lex.specs.Names.{is_spelled}
+use Rattle.cgm_lex.specs.declared.stops.LineFault.{LineFault}
 use Rattle.cgm_evolve.specs.Line.{name_fault}
 use Rattle.cgm_evolve.specs.Pairs.{ArePairs, Pair, truth_in}
 

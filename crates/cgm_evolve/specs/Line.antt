@@ -1,16 +1,15 @@
 -- What a line of an earlier text says, and its fault; the tests stand in the order in which the first that fails is told.
 use Rattle.std.specs.Prelude.{◌≡◌, ◌≢◌, ℕ, ◌⊎◌, pos, Bool, true, false, nat_lt, IsTrue, List, [], ◌∷◌, length, codes, Option, None, Some, Result, Ok, Err, if◌then◌else◌}
 use Rattle.std.specs.Option.{is_some}
-use Rattle.cgm_base.specs.declared.fault.BadKind.{BadKind}
 use Rattle.cgm_base.specs.declared.fault.BadKind.TheVariants as kinds
 use Rattle.cgm_base.specs.declared.limit.Which.TheVariants as limits
 use Rattle.cgm_base.specs.Words.{limit_number}
 use Rattle.cgm_lex.specs.declared.token.Flaw.{Flaw}
-use Rattle.cgm_lex.specs.declared.token.Flaw.TheVariants as flaws
 use Rattle.cgm_lex.specs.Lexemes.{Lexeme, number, word}
-use Rattle.cgm_model.specs.Name.{is_spelled}
-use Rattle.cgm_evolve.specs.declared.fault.LineFault.{LineFault}
-use Rattle.cgm_evolve.specs.declared.fault.LineFault.TheVariants as line_faults
+use Rattle.cgm_lex.specs.Names.{is_spelled}
+use Rattle.cgm_lex.specs.Readings.{flaw_kind}
+use Rattle.cgm_lex.specs.declared.stops.LineFault.{LineFault}
+use Rattle.cgm_lex.specs.declared.stops.LineFault.TheVariants as line_faults
 use Rattle.cgm_evolve.specs.Pairs.{Pair, truth_in}
 
 abbrev pub truth_word : Bool → List ℕ
@@ -28,10 +27,6 @@ pair_tokens p = word p.0 ∷ word (truth_word p.1) ∷ []
 -- the tokens are a word that is spelled as a name, and its truth
 abbrev pub SayPair : List Lexeme → Pair → Type 0
 SayPair tokens p = (tokens ≡ pair_tokens p) × IsTrue (is_spelled p.0)
-
-abbrev pub flaw_kind : Flaw → BadKind
-flaw_kind flaws.BadByte = kinds.BadByte
-flaw_kind flaws.BadNumber = kinds.BadNumber
 
 -- what is wrong with a name after these pairs: it is too long, or is one of theirs
 abbrev pub name_fault : List Pair → List ℕ → Option LineFault

@@ -4,7 +4,7 @@ use Rattle.std.specs.Map.{lookup}
 use Rattle.std.specs.Str.{bytes_eq}
 use Rattle.cgm_base.specs.declared.limit.Which.TheVariants as limits
 use Rattle.cgm_base.specs.Words.{limit_number}
-use Rattle.cgm_model.specs.Name.{is_spelled}
+use Rattle.cgm_lex.specs.Names.{is_spelled}
 
 -- a name and its truth
 abbrev pub Pair : Type 0

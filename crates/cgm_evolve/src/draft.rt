@@ -1,45 +1,31 @@
 //! The pairs of the lines that were read so far.
-ghost use Rattle.std.specs.Prelude.{◌≡◌, ◌≢◌, ◌≤◌, ℕ, List, Option, true, IsTrue, IfOk, IfErr, OnOk, length, map};
+ghost use Rattle.std.specs.Prelude.{◌≡◌, ◌≢◌, List, Option, true, IsTrue, IfOk, IfErr, OnOk, map};
 ghost use Rattle.cgm_base.specs.declared.fault.BadKind.TheVariants.{Header};
-ghost use Rattle.cgm_lex.specs.Lexemes.{IsLineStop, line_lexemes, seen};
-ghost use Rattle.cgm_model.specs.Name.{is_spelled};
-ghost use Rattle.cgm_evolve.specs.declared.fault.LineFault.TheVariants.{Bad};
-ghost use Rattle.cgm_evolve.specs.declared.fault.LineStop.TheVariants.{Faulty};
+ghost use Rattle.cgm_lex.specs.Lexemes.{seen};
+ghost use Rattle.cgm_lex.specs.Names.{is_spelled};
+ghost use Rattle.cgm_lex.specs.declared.stops.LineFault.TheVariants.{Bad};
+ghost use Rattle.cgm_lex.specs.declared.stops.LineStop.TheVariants.{Faulty};
 ghost use Rattle.cgm_evolve.specs.Index.{Indexes};
-ghost use Rattle.cgm_evolve.specs.Line.{AreFaulty, IsFaulty, header_tokens, name_fault};
+ghost use Rattle.cgm_evolve.specs.Line.{AreFaulty, header_tokens, name_fault};
 ghost use Rattle.cgm_evolve.specs.Pairs.{Pair};
-ghost use Rattle.cgm_evolve.specs.Progress.{Follows, IsDraft, IsFinished, IsFinishStop, IsKept, IsPairAdded, IsPairStop, IsPassed, IsPut, IsStep, IsStop, IsStopAfter};
+ghost use Rattle.cgm_evolve.specs.Progress.{IsDraft, IsKept, IsPairAdded, IsPairStop, IsPut, IsStep, IsStopAfter};
+ghost use Rattle.cgm_evolve.specs.Text.{Follows, earlier_text};
 
 use crate::earlier::Earlier;
-use crate::fault::{LineFault, LineStop};
 use crate::form::{is_end, is_header, pair_of};
 use crate::index::Index;
-use crate::reader::EarlierStop;
 use cgm_base::{BadKind, Which, limits};
 use cgm_formula::{Name, OutOfMemory, Parts};
-use cgm_lex::{LexFault, LexStop, Token, tokens_of_line};
+use cgm_lex::reading::{Draft, LineFault, LineStop, lexing_stop};
+use cgm_lex::{Token, tokens_of_line};
 use std::alloc::Global;
 
 /// What the lines so far give.
 #[derive(Drop)]
-pub(crate) struct Draft {
+pub(crate) struct EarlierDraft {
     has_header: bool,
     pairs: Vec<(Name, bool)>,
     index: Index,
-}
-
-fn lex_stop(stop: LexStop) -> LineStop
-    ensures { (number : ℕ) (line : List ℕ) → IsLineStop number line stop → (so_far : Option (List Pair)) → IsStop (IsFaulty so_far (line_lexemes line)) result }
-{
-    match stop {
-        LexStop::Fault(LexFault::BadByte { line: _ }) => LineStop::Faulty(LineFault::Bad(
-            BadKind::BadByte,
-        )),
-        LexStop::Fault(LexFault::BadNumber { line: _ }) => LineStop::Faulty(LineFault::Bad(
-            BadKind::BadNumber,
-        )),
-        LexStop::Memory => LineStop::Memory,
-    }
 }
 
 /// The name with these bytes.
@@ -63,12 +49,12 @@ fn name_fault(index: &Index, name: &[u8]) -> Option<LineFault>
     None
 }
 
-impl Draft {
+impl EarlierDraft {
     /// The draft before the first line.
-    pub(crate) fn new(alloc: Global) -> Draft
+    pub(crate) fn new(alloc: Global) -> EarlierDraft
         ensures { IsDraft None result }
     {
-        Draft {
+        EarlierDraft {
             has_header: false,
             pairs: Vec::new(alloc),
             index: Index::new(alloc),
@@ -135,43 +121,42 @@ impl Draft {
         }
     }
 
-    /// Adds what a line says.
-    pub(crate) fn add_line(
-        &mut self,
-        alloc: Global,
-        line: &[u8],
-        number: u32,
-    ) -> Result<(), LineStop>
-        requires { length line.now ≤ 16777216 }
-        ensures step { OnOk result (IsStep (IsPassed line.now) self.old self.new) }
-        ensures stop { IfErr result (IsStopAfter (λ so_far. IsFaulty so_far (line_lexemes line.now)) self.old) }
-    {
-        match tokens_of_line(alloc, line, number) {
-            Ok(tokens) => self.add_tokens(alloc, line, tokens.as_slice()),
-            Err(stop) => Err(lex_stop(stop)),
-        }
-    }
-
-    /// The earlier realization of the lines so far; there is none before the header.
-    pub(crate) fn finish(self) -> Result<Earlier, EarlierStop>
+    /// The earlier realization of the lines so far.
+    pub(crate) fn finish(self) -> Earlier
         requires { IsKept self }
-        ensures finished { IfOk result (λ e. IsFinished self e.pairs) }
-        ensures stop { IfErr result (IsFinishStop self) }
+        ensures { result.pairs ≡ self.pairs.items }
     {
-        if !self.has_header {
-            return Err(EarlierStop::Bad {
-                line: 1,
-                kind: BadKind::Header,
-            });
-        }
-        let Draft {
+        let EarlierDraft {
             has_header: _,
             pairs,
             index,
         } = self;
-        Ok(Earlier {
+        Earlier {
             pairs: Parts::of(pairs),
             index,
-        })
+        }
+    }
+}
+
+impl Draft for EarlierDraft {
+    ghost Said = { Option (List Pair) };
+
+    ghost form = { earlier_text };
+
+    ghost holds = { IsDraft };
+
+    fn add_line(&mut self, alloc: Global, line: &[u8], number: u32) -> Result<(), LineStop> {
+        match tokens_of_line(alloc, line, number) {
+            Ok(tokens) => self.add_tokens(alloc, line, tokens.as_slice()),
+            Err(stop) => Err(lexing_stop(stop)),
+        }
+    }
+
+    fn lack(&self) -> Option<LineFault> {
+        if self.has_header {
+            None
+        } else {
+            Some(LineFault::Bad(BadKind::Header))
+        }
     }
 }

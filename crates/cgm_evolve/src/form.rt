@@ -4,8 +4,7 @@ ghost use Rattle.cgm_lex.specs.Lexemes.{Lexeme, number, seen, word};
 ghost use Rattle.cgm_evolve.specs.Line.{SayPair, header_tokens, truth_word};
 ghost use Rattle.cgm_evolve.specs.Pairs.{Pair};
 
-use crate::spelling::is_spelled;
-use cgm_lex::{Kind, Token, bytes_of};
+use cgm_lex::{Kind, Token, bytes_of, is_spelled};
 
 /// Says whether this is the word.
 fn is(word: &[u8], text: &str) -> bool

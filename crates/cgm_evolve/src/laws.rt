@@ -1,8 +1,15 @@
 //! Laws of the earlier text.
-ghost use Rattle.std.specs.Prelude.{◌≡◌, ℕ, List};
-ghost use Rattle.cgm_evolve.specs.declared.fault.LineFault.{LineFault};
+ghost use Rattle.std.specs.Prelude.{◌≡◌, ◌⊎◌, ℕ, List, Some};
+ghost use Rattle.cgm_lex.specs.declared.stops.LineFault.{LineFault};
+ghost use Rattle.cgm_lex.specs.Lines.{lines};
+ghost use Rattle.cgm_lex.specs.Readings.{IsDecided};
 ghost use Rattle.cgm_evolve.specs.Pairs.{ArePairs, Pair};
-ghost use Rattle.cgm_evolve.specs.Text.{HasFault, IsTextOf, canonical_text};
+ghost use Rattle.cgm_evolve.specs.Text.{Give, HasFault, HasNoHeader, IsFirstFaulty, IsTextOf, canonical_text, earlier_text};
+
+/// The law that after the pairs so far a line comes to one thing, and always to one.
+pub fn earlier_lines_are_decided()
+    ensures { IsDecided earlier_text }
+{}
 
 /// The law that an earlier text has pairs or a first fault: never both, and never neither.
 pub fn earlier_text_has_pairs_or_fault()
@@ -10,6 +17,20 @@ pub fn earlier_text_has_pairs_or_fault()
         → IsTextOf text pairs → ¬ HasFault text line fault }
     ensures some { (text : List ℕ) → ((pairs : List Pair) → ¬ IsTextOf text pairs)
         → ¬ ((line : ℕ) (fault : LineFault) → ¬ HasFault text line fault) }
+{}
+
+/// The law that the lines with tokens of an earlier text are the header and then those of its pairs,
+/// in order, which are spelled as names, short and distinct.
+pub fn earlier_text_is_header_and_pairs()
+    ensures { (text : List ℕ) (pairs : List Pair) → IsTextOf text pairs
+        → Give (lines text) (Some pairs) }
+{}
+
+/// The law that the first fault of an earlier text is that of its first faulty line, after lines that
+/// give pairs, or that no line has a token.
+pub fn earlier_text_fails_at_its_first_faulty_line()
+    ensures { (text : List ℕ) (line : ℕ) (fault : LineFault) → HasFault text line fault
+        → IsFirstFaulty (lines text) line fault ⊎ HasNoHeader (lines text) line fault }
 {}
 
 /// The law that an earlier text has one list of pairs at most.

@@ -4,23 +4,21 @@
 mod costs;
 mod draft;
 mod earlier;
-mod fault;
 mod form;
 mod index;
 mod laws;
 mod leaves;
-mod line;
 mod printer;
 mod reader;
-mod spelling;
 
+pub use cgm_lex::reading::{LineFault, TextStop as EarlierStop};
 pub use costs::{effort, familiarity};
 pub use earlier::Earlier;
-pub use fault::LineFault;
 pub use laws::{
-    canonical_earlier_text_is_read_back, earlier_text_has_one_fault, earlier_text_has_one_list,
-    earlier_text_has_pairs_or_fault,
+    canonical_earlier_text_is_read_back, earlier_lines_are_decided,
+    earlier_text_fails_at_its_first_faulty_line, earlier_text_has_one_fault,
+    earlier_text_has_one_list, earlier_text_has_pairs_or_fault, earlier_text_is_header_and_pairs,
 };
 pub use leaves::is_leaf_task;
 pub use printer::print_earlier;
-pub use reader::{EarlierStop, read_earlier};
+pub use reader::read_earlier;

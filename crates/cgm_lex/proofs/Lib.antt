@@ -7,5 +7,7 @@ pub mod Passing
 pub mod Places
 pub mod Plain
 pub mod Printing
+pub mod Readings
 pub mod Spanning
+pub mod Spelled
 pub mod Splits

@@ -112,6 +112,17 @@ fn feed_in(text: &[u8]) -> Option<usize>
     text.iter().position(|byte| *byte == b'\n')
 }
 
+/// Takes the first line off a text, without its line feed; none where the text has no line feed.
+pub(crate) fn split_line(text: &[u8]) -> Option<(&[u8], &[u8])>
+    ensures { MatchOption result (lines text.now ≡ text.now ∷ []) (λ parts. (lines text.now
+        ≡ parts.0.now ∷ lines parts.1.now) × (length parts.0.now + length parts.1.now < length text.now)) }
+{
+    match feed_in(text) {
+        None => None,
+        Some(end) => Some((&text[..end], &text[end + 1..])),
+    }
+}
+
 /// The place of the first line feed at or after this place, or the text's end.
 pub(crate) fn line_end(text: &[u8], from: usize) -> usize
     requires { from ≤ length text.now }

@@ -1,18 +1,8 @@
--- Which bytes are a name: a letter or `_`, then letters, digits, `_`, `-` and `.`, and no reserved word.
-use Rattle.std.specs.Prelude.{ℕ, Bool, false, ◌&&◌, ◌||◌, not, ◌==◌, List, [], ◌∷◌, codes}
-use Rattle.std.specs.List.{list_all, list_any}
+-- Which bytes are a name: what is spelled as one and is no reserved word.
+use Rattle.std.specs.Prelude.{ℕ, Bool, ◌&&◌, not, List, [], ◌∷◌, codes}
+use Rattle.std.specs.List.{list_any}
 use Rattle.std.specs.Str.{bytes_eq}
-use Rattle.std.specs.Char.{is_ascii_alphabetic, is_ascii_digit}
-
-abbrev pub starts_name : ℕ → Bool
-starts_name b = is_ascii_alphabetic b || (b == 95)
-
-abbrev pub continues_name : ℕ → Bool
-continues_name b = starts_name b || is_ascii_digit b || (b == 45) || (b == 46)
-
-abbrev pub is_spelled : List ℕ → Bool
-is_spelled [] = false
-is_spelled (b ∷ bs) = starts_name b && list_all continues_name bs
+use Rattle.cgm_lex.specs.Names.{is_spelled}
 
 -- the words of formulas and the built-in quantities
 abbrev pub reserved : List (List ℕ)

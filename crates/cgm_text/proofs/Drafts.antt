@@ -1,14 +1,20 @@
 -- What one more line makes of what the reader has so far.
-use Rattle.std.proofs.Common.{◌≡◌, ◌≢◌, ℕ, ◌+◌, Bool, true, false, List, [], ◌∷◌, ◌++◌, Option, None, Some, Result, Ok, Err, OnOk, IfOk, IfErr, refl, sym, ap, ◌∙◌, subst, true≢false}
+use Rattle.std.proofs.Common.{◌≡◌, ◌≢◌, ℕ, Bool, true, false, List, [], ◌∷◌, ◌++◌, Option, None, Some, Result, Ok, Err, OnOk, IfErr, refl, sym, ap, ◌∙◌, subst, true≢false}
 use Rattle.std.specs.Option.{option_map}
 use Rattle.std.proofs.lemmas.List.{append-nil, append_assoc}
 use Rattle.cgm_base.specs.declared.fault.BadKind.TheVariants as kinds
 use Rattle.cgm_base.specs.declared.limit.Which.TheVariants as limits
+use Rattle.cgm_lex.specs.declared.stops.LineFault.{LineFault}
+use Rattle.cgm_lex.specs.declared.stops.LineFault.TheVariants as line_faults
+use Rattle.cgm_lex.specs.declared.stops.LineStop.{LineStop}
+use Rattle.cgm_lex.specs.declared.stops.LineStop.TheVariants as line_stops
+use Rattle.cgm_lex.specs.declared.stops.TextStop.{TextStop}
+use Rattle.cgm_lex.specs.declared.stops.TextStop.TheVariants as stops
 use Rattle.cgm_lex.specs.declared.token.Flaw.{Flaw}
-use Rattle.cgm_lex.specs.declared.token.Flaw.TheVariants as flaws
-use Rattle.cgm_lex.specs.declared.token.LexFault.TheVariants as lex_faults
-use Rattle.cgm_lex.specs.Lexemes.{Lexeme, line_lexemes, IsFaultOf}
-use Rattle.cgm_lex.specs.Lines.{lines}
+use Rattle.cgm_lex.specs.declared.token.LexStop.{LexStop}
+use Rattle.cgm_lex.specs.Lexemes.{Lexeme, IsLineStop, line_lexemes}
+use Rattle.cgm_lex.specs.Readings.{gives, Comes, IsFlawed, IsNotReadAs, IsReadAs, IsStopBy, LineStep, LineStops, lacks_header, lexing_stop}
+use Rattle.cgm_lex.proofs.Readings.{flawed, lacks_nothing, stop_by_more}
 use Rattle.cgm_model.specs.declared.lists.Lists.{Lists}
 use Rattle.cgm_model.specs.declared.lists.Statement.{Statement}
 use Rattle.cgm_model.specs.declared.stop.AddStop.{AddStop}
@@ -16,17 +22,12 @@ use Rattle.cgm_model.specs.declared.stop.AddStop.TheVariants as add_stops
 use Rattle.cgm_model.specs.Lists.{no_lists, added}
 use Rattle.cgm_model.specs.Model.{lists_of}
 use Rattle.cgm_model.specs.Statement.{IsNotAdded}
-use Rattle.cgm_text.specs.declared.draft.Draft.{Draft}
-use Rattle.cgm_text.specs.declared.fault.LineFault.{LineFault}
-use Rattle.cgm_text.specs.declared.fault.LineFault.TheVariants as line_faults
-use Rattle.cgm_text.specs.declared.fault.LineStop.{LineStop}
-use Rattle.cgm_text.specs.declared.fault.LineStop.TheVariants as line_stops
+use Rattle.cgm_text.specs.declared.draft.ModelDraft.{ModelDraft}
 use Rattle.cgm_text.specs.declared.reader.Reading.{Reading}
-use Rattle.cgm_text.specs.declared.reader.TextStop.{TextStop}
 use Rattle.cgm_text.specs.Line.{Verdict, nothing, header, says, faulty, header_tokens, written, IsFormJudged, IsNamedJudged, IsJudged, AreFirst, AreJudged, AreShallowJudged, AreLexemesJudged, ComesTo, nests_too_deep}
 use Rattle.cgm_text.specs.Meaning.{statement_of}
-use Rattle.cgm_text.specs.Progress.{IsAdded, IsDraft, IsFinished, IsFinishStop, IsMade, IsNoFault, IsPut, IsReadWhole, IsStep, IsStop, IsStopAfter, line_stop, stop_at, tokens_come_to}
-use Rattle.cgm_text.specs.Text.{LineStatement, on_line, all_added, model_of, rule_line, rule_lines, Outcome, gives, fails, after_line, IsOutcome, Lead, HasStatements, HasFault, IsReading, IsNotRead}
+use Rattle.cgm_text.specs.Progress.{IsAdded, IsDraft, IsFinished, IsMade, IsPut, IsStep, IsStop, IsStopAfter, line_stop, tokens_come_to}
+use Rattle.cgm_text.specs.Text.{LineComesTo, LineStatement, on_line, all_added, model_of, model_text, rule_line, rule_lines, HasFault, HasStatements, IsReading, IsNotRead}
 
 -- lists
 
@@ -63,7 +64,7 @@ on_ok_more : {X : Type 0} (A B : Type 0) (r : Result X LineStop) → (A → B) �
 on_ok_more A B (Ok x) more a = more a
 on_ok_more A B (Err stop) more a = tt
 
-pub put_added : {X : Type 0} (tokens : List Lexeme) (line : ℕ) (s : Statement) (old new : Draft) (r : Result X LineStop) → IsMade old.builder tokens s → OnOk r (IsPut line s old new) → OnOk r (IsAdded line tokens old new)
+pub put_added : {X : Type 0} (tokens : List Lexeme) (line : ℕ) (s : Statement) (old new : ModelDraft) (r : Result X LineStop) → IsMade old.builder tokens s → OnOk r (IsPut line s old new) → OnOk r (IsAdded line tokens old new)
 put_added tokens line s old new r made put =
     on_ok_more (IsPut line s old new) (IsAdded line tokens old new) r
     (λ is. record {
@@ -85,19 +86,20 @@ there : (deep : Bool) (before : Option Lists) (tokens : List Lexeme) (v : Verdic
 there deep before [] v some e judged = absurd (some refl)
 there deep before (token ∷ tokens) v some e judged = subst (λ b. AreShallowJudged b before (token ∷ tokens) v) (sym e) judged
 
-pub nothing_step : (tokens : List Lexeme) (line : ℕ) (draft : Draft) → tokens ≡ [] → IsStep (tokens_come_to tokens) line draft draft
+pub nothing_step : (tokens : List Lexeme) (line : ℕ) (draft : ModelDraft) → tokens ≡ [] → IsStep (tokens_come_to tokens) line draft draft
 nothing_step tokens line draft e so_far is = record {
   verdict = nothing;
   judged = subst (λ ts. tokens_come_to ts (option_map model_of so_far) nothing) (sym e) refl;
-  no_fault = tt;
+  next = so_far;
+  passes = refl;
   leaves = is;
 }
 
-pub deep_stop : (tokens : List Lexeme) (draft : Draft) → tokens ≢ [] → nests_too_deep tokens ≡ true → IsStopAfter (tokens_come_to tokens) draft (line_stops.Faulty (line_faults.Limit limits.FormulaDepth))
+pub deep_stop : (tokens : List Lexeme) (draft : ModelDraft) → tokens ≢ [] → nests_too_deep tokens ≡ true → IsStopAfter (tokens_come_to tokens) draft (line_stops.Faulty (line_faults.Limit limits.FormulaDepth))
 deep_stop tokens draft some deep so_far is =
     there true (option_map model_of so_far) tokens (faulty (line_faults.Limit limits.FormulaDepth)) some deep refl
 
-pub statement_step : (tokens : List Lexeme) (line : ℕ) (old new : Draft) → tokens ≢ [] → nests_too_deep tokens ≡ false → old.has_header ≡ true → IsAdded line tokens old new → IsStep (tokens_come_to tokens) line old new
+pub statement_step : (tokens : List Lexeme) (line : ℕ) (old new : ModelDraft) → tokens ≢ [] → nests_too_deep tokens ≡ false → old.has_header ≡ true → IsAdded line tokens old new → IsStep (tokens_come_to tokens) line old new
 statement_step tokens line old new some shallow begun is_added None is = absurd (true≢false (sym begun ∙ is.header))
 statement_step tokens line old new some shallow begun is_added (Some said) is =
     let s = is_added.statement in
@@ -105,7 +107,8 @@ statement_step tokens line old new some shallow begun is_added (Some said) is =
     record {
       verdict = says s;
       judged = there false (Some (model_of said)) tokens (says s) some shallow judged;
-      no_fault = tt;
+      next = Some (said ++ on_line line s ∷ []);
+      passes = refl;
       leaves = record {
         header = is_added.header ∙ begun;
         lists = is_added.lists ∙ (ap (λ m. added m s) is.lists ∙ sym (all_added_push no_lists said (on_line line s)));
@@ -113,139 +116,101 @@ statement_step tokens line old new some shallow begun is_added (Some said) is =
       };
     }
 
-pub added_step : {X : Type 0} (tokens : List Lexeme) (line : ℕ) (old new : Draft) (r : Result X LineStop) → tokens ≢ [] → nests_too_deep tokens ≡ false → old.has_header ≡ true → OnOk r (IsAdded line tokens old new) → OnOk r (IsStep (tokens_come_to tokens) line old new)
+pub added_step : {X : Type 0} (tokens : List Lexeme) (line : ℕ) (old new : ModelDraft) (r : Result X LineStop) → tokens ≢ [] → nests_too_deep tokens ≡ false → old.has_header ≡ true → OnOk r (IsAdded line tokens old new) → OnOk r (IsStep (tokens_come_to tokens) line old new)
 added_step tokens line old new r some shallow begun is_added =
     on_ok_more (IsAdded line tokens old new) (IsStep (tokens_come_to tokens) line old new) r (statement_step tokens line old new some shallow begun) is_added
 
-pub statement_stop : (tokens : List Lexeme) (draft : Draft) (stop : LineStop) → tokens ≢ [] → nests_too_deep tokens ≡ false → draft.has_header ≡ true → IsStop (AreJudged draft.builder tokens) stop → IsStopAfter (tokens_come_to tokens) draft stop
+pub statement_stop : (tokens : List Lexeme) (draft : ModelDraft) (stop : LineStop) → tokens ≢ [] → nests_too_deep tokens ≡ false → draft.has_header ≡ true → IsStop (AreJudged draft.builder tokens) stop → IsStopAfter (tokens_come_to tokens) draft stop
 statement_stop tokens draft stop some shallow begun judged None is = absurd (true≢false (sym begun ∙ is.header))
 statement_stop tokens draft stop some shallow begun judged (Some said) is =
     stop_more (AreJudged draft.builder tokens) (tokens_come_to tokens (Some (model_of said))) stop
     (λ fault j. there false (Some (model_of said)) tokens (faulty fault) some shallow (subst (λ m. AreJudged m tokens (faulty fault)) is.lists j)) judged
 
-pub header_step : (tokens : List Lexeme) (line : ℕ) (old new : Draft) → tokens ≢ [] → nests_too_deep tokens ≡ false → old.has_header ≡ false → tokens ≡ header_tokens → new.has_header ≡ true → new.builder ≡ old.builder → new.rule_lines.items ≡ old.rule_lines.items → IsStep (tokens_come_to tokens) line old new
+pub header_step : (tokens : List Lexeme) (line : ℕ) (old new : ModelDraft) → tokens ≢ [] → nests_too_deep tokens ≡ false → old.has_header ≡ false → tokens ≡ header_tokens → new.has_header ≡ true → new.builder ≡ old.builder → new.rule_lines.items ≡ old.rule_lines.items → IsStep (tokens_come_to tokens) line old new
 header_step tokens line old new some shallow unbegun is_header begun lists_are lines_are None is = record {
   verdict = header;
   judged = there false None tokens header some shallow is_header;
-  no_fault = tt;
+  next = Some [];
+  passes = refl;
   leaves = record { header = begun; lists = lists_are ∙ is.lists; lines = lines_are ∙ is.lines };
 }
 header_step tokens line old new some shallow unbegun is_header begun lists_are lines_are (Some said) is =
     absurd (true≢false (sym is.header ∙ unbegun))
 
-pub header_stop : (tokens : List Lexeme) (draft : Draft) (stop : LineStop) → tokens ≢ [] → nests_too_deep tokens ≡ false → draft.has_header ≡ false → IsStop (AreFirst tokens) stop → IsStopAfter (tokens_come_to tokens) draft stop
+pub header_stop : (tokens : List Lexeme) (draft : ModelDraft) (stop : LineStop) → tokens ≢ [] → nests_too_deep tokens ≡ false → draft.has_header ≡ false → IsStop (AreFirst tokens) stop → IsStopAfter (tokens_come_to tokens) draft stop
 header_stop tokens draft stop some shallow unbegun first None is =
     stop_more (AreFirst tokens) (tokens_come_to tokens None) stop (λ fault f. there false None tokens (faulty fault) some shallow f) first
 header_stop tokens draft stop some shallow unbegun first (Some said) is = absurd (true≢false (sym is.header ∙ unbegun))
 
 -- lines
 
-line_step : (line : List ℕ) (tokens : List Lexeme) (number : ℕ) (old new : Draft) → line_lexemes line ≡ Ok tokens → IsStep (tokens_come_to tokens) number old new → IsStep (λ before. ComesTo before line) number old new
-line_step line tokens number old new e step =
-    subst (λ (r : Result (List Lexeme) Flaw). IsStep (λ before v. AreLexemesJudged before r v) number old new) (sym e) step
+judged_line : (line : List ℕ) (tokens : List Lexeme) (before : Option Lists) (v : Verdict) → line_lexemes line ≡ Ok tokens → tokens_come_to tokens before v → ComesTo before line v
+judged_line line tokens before v e judged = subst (λ (r : Result (List Lexeme) Flaw). AreLexemesJudged before r v) (sym e) judged
 
-line_stops_too : (line : List ℕ) (tokens : List Lexeme) (draft : Draft) (stop : LineStop) → line_lexemes line ≡ Ok tokens → IsStopAfter (tokens_come_to tokens) draft stop → IsStopAfter (λ before. ComesTo before line) draft stop
-line_stops_too line tokens draft stop e stopped =
-    subst (λ (r : Result (List Lexeme) Flaw). IsStopAfter (λ before v. AreLexemesJudged before r v) draft stop) (sym e) stopped
+line_step : (line : List ℕ) (tokens : List Lexeme) (number : ℕ) (old new : ModelDraft) → line_lexemes line ≡ Ok tokens → IsStep (tokens_come_to tokens) number old new → LineStep model_text IsDraft number line old new
+line_step line tokens number old new e step so_far is =
+    let s = step so_far is in
+    (s.next, ((s.verdict, (judged_line line tokens (option_map model_of so_far) s.verdict e s.judged, sym s.passes)), s.leaves))
 
-pub line_steps : {X : Type 0} (line : List ℕ) (tokens : List Lexeme) (number : ℕ) (old new : Draft) (r : Result X LineStop) → line_lexemes line ≡ Ok tokens → OnOk r (IsStep (tokens_come_to tokens) number old new) → OnOk r (IsStep (λ before. ComesTo before line) number old new)
+pub line_steps : {X : Type 0} (line : List ℕ) (tokens : List Lexeme) (number : ℕ) (old new : ModelDraft) (r : Result X LineStop) → line_lexemes line ≡ Ok tokens → OnOk r (IsStep (tokens_come_to tokens) number old new) → OnOk r (LineStep model_text IsDraft number line old new)
 line_steps line tokens number old new r e step =
-    on_ok_more (IsStep (tokens_come_to tokens) number old new) (IsStep (λ before. ComesTo before line) number old new) r (line_step line tokens number old new e) step
+    on_ok_more (IsStep (tokens_come_to tokens) number old new) (LineStep model_text IsDraft number line old new) r (line_step line tokens number old new e) step
 
-pub line_stopped : {X : Type 0} (line : List ℕ) (tokens : List Lexeme) (draft : Draft) (r : Result X LineStop) → line_lexemes line ≡ Ok tokens → IfErr r (IsStopAfter (tokens_come_to tokens) draft) → IfErr r (IsStopAfter (λ before. ComesTo before line) draft)
-line_stopped line tokens draft (Ok x) e stopped = tt
-line_stopped line tokens draft (Err stop) e stopped = line_stops_too line tokens draft stop e stopped
+-- a faulty verdict is the fault of the line
+stop_by_verdict : (P : Verdict → Type 0) (Q : LineFault → Type 0) (stop : LineStop) → ((fault : LineFault) → P (faulty fault) → Q fault) → IsStop P stop → IsStopBy Q stop
+stop_by_verdict P Q (line_stops.Faulty fault) more p = more fault p
+stop_by_verdict P Q line_stops.Memory more p = tt
 
-flawed : (before : Option Lists) (line : List ℕ) (flaw : Flaw) (v : Verdict) → line_lexemes line ≡ Err flaw → AreLexemesJudged before (Err flaw) v → ComesTo before line v
-flawed before line flaw v e judged = subst (λ (r : Result (List Lexeme) Flaw). AreLexemesJudged before r v) (sym e) judged
+line_stops_too : (line : List ℕ) (tokens : List Lexeme) (number : ℕ) (draft : ModelDraft) (stop : LineStop) → line_lexemes line ≡ Ok tokens → IsStopAfter (tokens_come_to tokens) draft stop → LineStops model_text IsDraft number line draft stop
+line_stops_too line tokens number draft stop e stopped so_far is =
+    stop_by_verdict (tokens_come_to tokens (option_map model_of so_far)) (λ fault. LineComesTo so_far number line (Err fault)) stop
+    (λ fault judged. (faulty fault, (judged_line line tokens (option_map model_of so_far) (faulty fault) e judged, refl))) (stopped so_far is)
 
-pub byte_fault : (number at : ℕ) (line : List ℕ) (before : Option Lists) → IsFaultOf number line (lex_faults.BadByte at) → ComesTo before line (faulty (line_faults.Bad kinds.BadByte))
-byte_fault number at line before (flaws.BadByte, is) = flawed before line flaws.BadByte _ is.0 refl
-byte_fault number at line before (flaws.BadNumber, is) = let no = is.1 in cc
+pub line_stopped : {X : Type 0} (line : List ℕ) (tokens : List Lexeme) (number : ℕ) (draft : ModelDraft) (r : Result X LineStop) → line_lexemes line ≡ Ok tokens → IfErr r (IsStopAfter (tokens_come_to tokens) draft) → IfErr r (LineStops model_text IsDraft number line draft)
+line_stopped line tokens number draft (Ok x) e stopped = tt
+line_stopped line tokens number draft (Err stop) e stopped = line_stops_too line tokens number draft stop e stopped
 
-pub number_fault : (number at : ℕ) (line : List ℕ) (before : Option Lists) → IsFaultOf number line (lex_faults.BadNumber at) → ComesTo before line (faulty (line_faults.Bad kinds.BadNumber))
-number_fault number at line before (flaws.BadByte, is) = let no = is.1 in cc
-number_fault number at line before (flaws.BadNumber, is) = flawed before line flaws.BadNumber _ is.0 refl
+-- a line with a flaw
+flawed_line : (line : List ℕ) (number : ℕ) (so_far : Option (List LineStatement)) (fault : LineFault) → IsFlawed line fault → LineComesTo so_far number line (Err fault)
+flawed_line line number so_far fault (flaw, (e, is)) =
+    let judged : AreLexemesJudged (option_map model_of so_far) (Err flaw) (faulty fault) = ap faulty is in
+    (faulty fault, (subst (λ (r : Result (List Lexeme) Flaw). AreLexemesJudged (option_map model_of so_far) r (faulty fault)) (sym e) judged, refl))
+
+pub flawed_stops : (line : List ℕ) (number : ℕ) (draft : ModelDraft) (stop : LexStop) → IsLineStop number line stop → LineStops model_text IsDraft number line draft (lexing_stop stop)
+flawed_stops line number draft stop is so_far keeps =
+    stop_by_more (IsFlawed line) (λ fault. LineComesTo so_far number line (Err fault)) (lexing_stop stop) (flawed_line line number so_far) (flawed number line stop is)
+
+-- the end
+
+pub nothing_lacks : (draft : ModelDraft) (so_far : Option (List LineStatement)) → draft.has_header ≡ true → IsDraft so_far draft → None ≡ lacks_header so_far
+nothing_lacks draft None begun is = absurd (true≢false (sym begun ∙ is.header))
+nothing_lacks draft (Some said) begun is = refl
+
+pub header_lacks : (draft : ModelDraft) (so_far : Option (List LineStatement)) → draft.has_header ≡ false → IsDraft so_far draft → Some (line_faults.Bad kinds.Header) ≡ lacks_header so_far
+header_lacks draft None unbegun is = refl
+header_lacks draft (Some said) unbegun is = absurd (true≢false (sym is.header ∙ unbegun))
 
 -- texts
 
--- the reader has these statements so far, and the text comes to what the rest comes to after them
-pub record IsReadTo (text : List ℕ) (number : ℕ) (rest : List ℕ) (draft : Draft) : Type 0 where
-  pub so_far : Option (List LineStatement)
-  pub keeps : IsDraft so_far draft
-  pub leads : (o : Outcome) → Lead so_far number (lines rest) o → Lead None 1 (lines text) o
-
-outcome_later : (number : ℕ) (v : Verdict) (o : Outcome) (A : Type 0) → IsNoFault v → A → IsOutcome number v o A
-outcome_later number nothing o A fine a = a
-outcome_later number header o A fine a = a
-outcome_later number (says s) o A fine a = a
-outcome_later number (faulty fault) o A fine a = absurd fine
-
-pub read_begins : (text : List ℕ) (draft : Draft) → IsDraft None draft → IsReadTo text 1 text draft
-read_begins text draft empty = record { so_far = None; keeps = empty; leads = λ o lead. lead }
-
-pub read_goes_on : (text line rest after : List ℕ) (number : ℕ) (old new : Draft) → lines rest ≡ line ∷ lines after → IsReadTo text number rest old → IsStep (λ before. ComesTo before line) number old new → IsReadTo text (number + 1) after new
-read_goes_on text line rest after number old new split read step =
-    let steps = step read.so_far read.keeps in
-    record {
-      so_far = after_line read.so_far number steps.verdict;
-      keeps = steps.leaves;
-      leads = λ o lead.
-          let later = outcome_later number steps.verdict o (Lead (after_line read.so_far number steps.verdict) (number + 1) (lines after) o) steps.no_fault lead in
-          let here : Lead read.so_far number (line ∷ lines after) o = (steps.verdict, (steps.judged, later)) in
-          read.leads o (subst (λ ls. Lead read.so_far number ls o) (sym split) here);
-    }
-
-fault_leads : (text line rest : List ℕ) (more : List (List ℕ)) (number : ℕ) (draft : Draft) (fault : LineFault) → lines rest ≡ line ∷ more → (read : IsReadTo text number rest draft) → ComesTo (option_map model_of read.so_far) line (faulty fault) → HasFault text number fault
+pub not_read : (text : List ℕ) (stop : TextStop) → IsNotReadAs model_text text stop → IsNotRead text stop
 unfolding HasFault
-fault_leads text line rest more number draft fault split read comes =
-    let here : Lead read.so_far number (line ∷ more) (fails number fault) = (faulty fault, (comes, refl)) in
-    read.leads (fails number fault) (subst (λ ls. Lead read.so_far number ls (fails number fault)) (sym split) here)
+not_read text (stops.Bad line kind) is = is
+not_read text (stops.Limit limit) is = is
+not_read text stops.Memory is = tt
 
-not_read_by : (text line rest : List ℕ) (more : List (List ℕ)) (number : ℕ) (draft : Draft) (stop : LineStop) → lines rest ≡ line ∷ more → (read : IsReadTo text number rest draft) → IsStop (ComesTo (option_map model_of read.so_far) line) stop → IsNotRead text (stop_at number stop)
-not_read_by text line rest more number draft (line_stops.Faulty (line_faults.Bad kind)) split read comes =
-    fault_leads text line rest more number draft (line_faults.Bad kind) split read comes
-not_read_by text line rest more number draft (line_stops.Faulty (line_faults.Limit which)) split read comes =
-    (fault_leads text line rest more number draft (line_faults.Limit which) split read comes, refl)
-not_read_by text line rest more number draft line_stops.Memory split read comes = tt
+no_lack : (fault : LineFault) → Some fault ≡ None → ⊥
+no_lack fault e = cc
 
-pub read_stops : (text line rest : List ℕ) (more : List (List ℕ)) (number : ℕ) (draft : Draft) (stop : LineStop) → lines rest ≡ line ∷ more → IsReadTo text number rest draft → IsStopAfter (λ before. ComesTo before line) draft stop → IsNotRead text (stop_at number stop)
-read_stops text line rest more number draft stop split read stopped =
-    not_read_by text line rest more number draft stop split read (stopped read.so_far read.keeps)
-
-finished_by : (text : List ℕ) (so_far : Option (List LineStatement)) (draft : Draft) (reading : Reading) → ((o : Outcome) → Lead so_far 0 [] o → Lead None 1 (lines text) o) → IsDraft so_far draft → IsFinished draft reading → IsReading text (lists_of reading.model) reading.rule_lines.items
+finished_by : (text : List ℕ) (so_far : Option (List LineStatement)) (draft : ModelDraft) (reading : Reading) → Comes model_text text (gives so_far) → IsDraft so_far draft → IsFinished draft reading → IsReading text (lists_of reading.model) reading.rule_lines.items
 unfolding HasStatements
-finished_by text None draft reading leads is finished = absurd (true≢false (sym finished.header ∙ is.header))
-finished_by text (Some said) draft reading leads is finished = record {
+finished_by text None draft reading comes is finished =
+    absurd (no_lack (line_faults.Bad kinds.Header) (lacks_nothing model_text text None comes))
+finished_by text (Some said) draft reading comes is finished = record {
   said = said;
-  has = leads (gives said) refl;
+  has = comes;
   model_is = finished.model ∙ is.lists;
   lines_are = finished.lines ∙ is.lines;
 }
 
-unfinished_by : (text : List ℕ) (so_far : Option (List LineStatement)) (draft : Draft) (stop : TextStop) → ((o : Outcome) → Lead so_far 0 [] o → Lead None 1 (lines text) o) → IsDraft so_far draft → IsFinishStop draft stop → IsNotRead text stop
-unfolding HasFault
-unfinished_by text (Some said) draft stop leads is finished = absurd (true≢false (sym is.header ∙ finished.header))
-unfinished_by text None draft stop leads is finished =
-    subst (IsNotRead text) (sym finished.stop_is) (leads (fails 1 (line_faults.Bad kinds.Header)) refl)
-
--- the last line, which no line feed ends
-pub read_ends : (text rest : List ℕ) (number : ℕ) (old new : Draft) → lines rest ≡ rest ∷ [] → IsReadTo text number rest old → IsStep (λ before. ComesTo before rest) number old new → IsReadWhole text new
-read_ends text rest number old new split read step =
-    let steps = step read.so_far read.keeps in
-    record {
-      so_far = after_line read.so_far number steps.verdict;
-      keeps = steps.leaves;
-      leads = λ o lead.
-          let later = outcome_later number steps.verdict o (Lead (after_line read.so_far number steps.verdict) (number + 1) [] o) steps.no_fault lead in
-          let here : Lead read.so_far number (rest ∷ []) o = (steps.verdict, (steps.judged, later)) in
-          read.leads o (subst (λ ls. Lead read.so_far number ls o) (sym split) here);
-    }
-
-pub finished : (text : List ℕ) (draft : Draft) (r : Result Reading TextStop) → IsReadWhole text draft → IfOk r (IsFinished draft) → IfOk r (λ reading. IsReading text (lists_of reading.model) reading.rule_lines.items)
-finished text draft (Ok reading) read is = finished_by text read.so_far draft reading read.leads read.keeps is
-finished text draft (Err stop) read is = tt
-
-pub unfinished : (text : List ℕ) (draft : Draft) (r : Result Reading TextStop) → IsReadWhole text draft → IfErr r (IsFinishStop draft) → IfErr r (IsNotRead text)
-unfinished text draft (Ok reading) read is = tt
-unfinished text draft (Err stop) read is = unfinished_by text read.so_far draft stop read.leads read.keeps is
+pub finished : (text : List ℕ) (draft : ModelDraft) (reading : Reading) → IsReadAs model_text IsDraft text draft → IsFinished draft reading → IsReading text (lists_of reading.model) reading.rule_lines.items
+finished text draft reading read is = finished_by text read.said draft reading read.comes read.keeps is

@@ -9,8 +9,8 @@ use Rattle.cgm_lex.specs.Lexemes.{Lexeme, colon, number, word}
 use Rattle.cgm_lex.specs.Spelling.{IsPlain}
 use Rattle.cgm_lex.proofs.Plain.{run_is_utf8}
 use Rattle.cgm_model.specs.declared.lists.Lists.{Lists}
-use Rattle.cgm_text.specs.declared.fault.LineFault.TheVariants as line_faults
-use Rattle.cgm_text.specs.declared.fault.LineStop.{LineStop}
+use Rattle.cgm_lex.specs.declared.stops.LineFault.TheVariants as line_faults
+use Rattle.cgm_lex.specs.declared.stops.LineStop.{LineStop}
 use Rattle.cgm_text.specs.declared.written.Sort.{Sort}
 use Rattle.cgm_text.specs.Line.{Verdict, faulty, no_word, no_form, written, HasForm, IsNamedJudged, AreJudged}
 use Rattle.cgm_text.specs.Meaning.{declared_words, statement_of}

@@ -13,7 +13,6 @@ pub mod Proper
 pub mod Right
 pub mod Spaces
 pub mod Spellings
-pub mod Splits
 pub mod StatementsBack
 pub mod Terms
 pub mod TextBack

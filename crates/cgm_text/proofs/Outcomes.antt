@@ -1,60 +1,32 @@
 -- A text has one outcome, and always one: its statements or its first fault.
-use Rattle.std.proofs.Common.{◌≡◌, ℕ, ◌+◌, List, [], ◌∷◌, Option, None, Some, refl, sym, ap, ◌∙◌, subst}
+use Rattle.std.proofs.Common.{◌≡◌, ℕ, List, Option, None, Some, Result, refl, sym, ap, ◌∙◌}
 use Rattle.std.specs.Option.{option_map}
 use Rattle.cgm_base.specs.declared.fault.BadKind.TheVariants as kinds
-use Rattle.cgm_lex.specs.Lines.{lines}
+use Rattle.cgm_lex.specs.declared.stops.LineFault.{LineFault}
+use Rattle.cgm_lex.specs.declared.stops.LineFault.TheVariants as line_faults
+use Rattle.cgm_lex.specs.Readings.{gives, Comes, IsDecided}
+use Rattle.cgm_lex.proofs.Readings.{lacks_nothing, one_first_fault, one_text, text_or_fault, text_or_fault_some}
 use Rattle.cgm_model.specs.declared.lists.Lists.{Lists}
-use Rattle.cgm_text.specs.declared.fault.LineFault.{LineFault}
-use Rattle.cgm_text.specs.declared.fault.LineFault.TheVariants as line_faults
-use Rattle.cgm_text.specs.Line.{Verdict, nothing, header, says, faulty}
-use Rattle.cgm_text.specs.Text.{LineStatement, Outcome, gives, fails, after_line, IsOutcome, IsEnd, Lead, model_of, rule_lines, HasStatements, HasFault, IsReading, IsTextOf}
+use Rattle.cgm_text.specs.Text.{LineComesTo, LineStatement, after_line, model_of, model_text, rule_lines, HasStatements, HasFault, IsReading, IsTextOf}
 use Rattle.cgm_text.proofs.Verdicts.{verdict_once, verdict_some}
 
-outcome_once : (line : ℕ) (v : Verdict) (o p : Outcome) (A B : Type 0) → IsOutcome line v o A → IsOutcome line v p B → (A → B → o ≡ p) → o ≡ p
-outcome_once line nothing o p A B a b later = later a b
-outcome_once line header o p A B a b later = later a b
-outcome_once line (says s) o p A B a b later = later a b
-outcome_once line (faulty fault) o p A B a b later = a ∙ sym b
+line_once : (so_far : Option (List LineStatement)) (line : ℕ) (bytes : List ℕ) (a b : Result (Option (List LineStatement)) LineFault) → LineComesTo so_far line bytes a → LineComesTo so_far line bytes b → a ≡ b
+line_once so_far line bytes a b (v, (comes, is)) (w, (comes_too, is_too)) =
+    is ∙ (ap (after_line so_far line) (verdict_once (option_map model_of so_far) bytes v w comes comes_too) ∙ sym is_too)
 
-end_once : (so_far : Option (List LineStatement)) (o p : Outcome) → IsEnd so_far o → IsEnd so_far p → o ≡ p
-end_once None o p a b = a ∙ sym b
-end_once (Some said) o p a b = a ∙ sym b
+line_some : (so_far : Option (List LineStatement)) (line : ℕ) (bytes : List ℕ) → ((r : Result (Option (List LineStatement)) LineFault) → ¬ LineComesTo so_far line bytes r) → ⊥
+line_some so_far line bytes none =
+    verdict_some (option_map model_of so_far) bytes (λ v comes. none (after_line so_far line v) (v, (comes, refl)))
 
-lead_once : (so_far : Option (List LineStatement)) (line : ℕ) (ls : List (List ℕ)) (o p : Outcome) → Lead so_far line ls o → Lead so_far line ls p → o ≡ p
-lead_once so_far line [] o p a b = end_once so_far o p a b
-lead_once so_far line (bytes ∷ more) o p a b =
-    let same = verdict_once (option_map model_of so_far) bytes b.0 a.0 b.1.0 a.1.0 in
-    let b' = subst (λ v. IsOutcome line v p (Lead (after_line so_far line v) (line + 1) more p)) same b.1.1 in
-    outcome_once line a.0 o p (Lead (after_line so_far line a.0) (line + 1) more o) (Lead (after_line so_far line a.0) (line + 1) more p) a.1.1 b' (lead_once (after_line so_far line a.0) (line + 1) more o p)
+pub model_text_decided : IsDecided model_text
+model_text_decided = record { one = line_once; some = line_some }
 
-outcome_some : (line : ℕ) (v : Verdict) (L : Outcome → Type 0) → (((o : Outcome) → ¬ L o) → ⊥) → ((o : Outcome) → ¬ IsOutcome line v o (L o)) → ⊥
-outcome_some line nothing L later none = later none
-outcome_some line header L later none = later none
-outcome_some line (says s) L later none = later none
-outcome_some line (faulty fault) L later none = none (fails line fault) refl
-
-end_some : (so_far : Option (List LineStatement)) → ((o : Outcome) → ¬ IsEnd so_far o) → ⊥
-end_some None none = none (fails 1 (line_faults.Bad kinds.Header)) refl
-end_some (Some said) none = none (gives said) refl
-
-lead_some : (so_far : Option (List LineStatement)) (line : ℕ) (ls : List (List ℕ)) → ((o : Outcome) → ¬ Lead so_far line ls o) → ⊥
-lead_some so_far line [] none = end_some so_far none
-lead_some so_far line (bytes ∷ more) none =
-    verdict_some (option_map model_of so_far) bytes (λ v comes.
-    outcome_some line v (λ o. Lead (after_line so_far line v) (line + 1) more o) (lead_some (after_line so_far line v) (line + 1) more) (λ o is. none o (v, (comes, is))))
-
-gives_once : (one other : List LineStatement) → gives one ≡ gives other → one ≡ other
-gives_once one other e = cc
-
-gives_no_fault : (said : List LineStatement) (line : ℕ) (fault : LineFault) → gives said ≡ fails line fault → ⊥
-gives_no_fault said line fault e = cc
-
-fails_once : (line other : ℕ) (fault other_fault : LineFault) → fails line fault ≡ fails other other_fault → (line ≡ other) × (fault ≡ other_fault)
-fails_once line other fault other_fault e = (cc, cc)
+said_once : (one other : List LineStatement) → Some one ≡ Some other → one ≡ other
+said_once one other e = cc
 
 statements_once : (text : List ℕ) (one other : List LineStatement) → HasStatements text one → HasStatements text other → one ≡ other
 unfolding HasStatements
-statements_once text one other a b = gives_once one other (lead_once None 1 (lines text) (gives one) (gives other) a b)
+statements_once text one other a b = said_once one other (one_text model_text model_text_decided text (Some one) (Some other) a b)
 
 pub one_model : (text : List ℕ) (one other : Lists) → IsTextOf text one → IsTextOf text other → one ≡ other
 one_model text one other a b =
@@ -66,18 +38,20 @@ one_reading text one other rules other_rules a b =
 
 pub never_both : (text : List ℕ) (m : Lists) (line : ℕ) (fault : LineFault) → IsTextOf text m → HasFault text line fault → ⊥
 unfolding HasStatements HasFault
-never_both text m line fault a b =
-    gives_no_fault a.0 line fault (lead_once None 1 (lines text) (gives a.0) (fails line fault) a.1.0 b)
+never_both text m line fault a b = text_or_fault model_text model_text_decided text (Some a.0) line fault a.1.0 b
 
-no_outcome : (text : List ℕ) → ((m : Lists) → ¬ IsTextOf text m) → ((line : ℕ) (fault : LineFault) → ¬ HasFault text line fault) → (o : Outcome) → ¬ Lead None 1 (lines text) o
-unfolding HasStatements HasFault
-no_outcome text no_model no_fault (gives said) lead = no_model (model_of said) (said, (lead, refl))
-no_outcome text no_model no_fault (fails line fault) lead = no_fault line fault lead
+no_lack : (fault : LineFault) → Some fault ≡ None → ⊥
+no_lack fault e = cc
+
+no_text : (text : List ℕ) → ((m : Lists) → ¬ IsTextOf text m) → (so_far : Option (List LineStatement)) → ¬ Comes model_text text (gives so_far)
+unfolding HasStatements
+no_text text no_model None comes = no_lack (line_faults.Bad kinds.Header) (lacks_nothing model_text text None comes)
+no_text text no_model (Some said) comes = no_model (model_of said) (said, (comes, refl))
 
 pub never_neither : (text : List ℕ) → ((m : Lists) → ¬ IsTextOf text m) → ((line : ℕ) (fault : LineFault) → ¬ HasFault text line fault) → ⊥
-never_neither text no_model no_fault = lead_some None 1 (lines text) (no_outcome text no_model no_fault)
+unfolding HasFault
+never_neither text no_model no_fault = text_or_fault_some model_text model_text_decided text (no_text text no_model) no_fault
 
 pub one_fault : (text : List ℕ) (line other : ℕ) (fault other_fault : LineFault) → HasFault text line fault → HasFault text other other_fault → (line ≡ other) × (fault ≡ other_fault)
 unfolding HasFault
-one_fault text line other fault other_fault a b =
-    fails_once line other fault other_fault (lead_once None 1 (lines text) (fails line fault) (fails other other_fault) a b)
+one_fault text line other fault other_fault a b = one_first_fault model_text model_text_decided text line other fault other_fault a b

@@ -16,6 +16,7 @@ use Rattle.cgm_formula.specs.declared.formula.Number.{Number}
 use Rattle.cgm_formula.specs.Nodes.{names as names_in, comparisons}
 use Rattle.cgm_lex.specs.Lexemes.{Lexeme, line_lexemes, word}
 use Rattle.cgm_lex.specs.Lines.{lines}
+use Rattle.cgm_lex.specs.Readings.{Lead, gives}
 use Rattle.cgm_lex.specs.Spelling.{IsPlain, spelled_line}
 use Rattle.cgm_lex.proofs.Printing.{line_is_read, line_has_no_feed}
 use Rattle.cgm_model.specs.declared.lists.Element.{Element}
@@ -42,7 +43,7 @@ use Rattle.cgm_text.specs.Canonical.{canonical_text, name_at, statement_lines, w
 use Rattle.cgm_text.specs.Line.{ComesTo, AreLexemesJudged, AreShallowJudged, IsNamedJudged, header_tokens, nests_too_deep, nothing, header, says, written as form_written}
 use Rattle.cgm_text.specs.Meaning.{statement_of}
 use Rattle.cgm_text.specs.Statements.{WrittenStatement, statement_tokens}
-use Rattle.cgm_text.specs.Text.{HasStatements, IsTextOf, Lead, LineStatement, all_added, gives, model_of, on_line}
+use Rattle.cgm_text.specs.Text.{HasStatements, IsTextOf, LineStatement, all_added, model_of, model_text, on_line}
 use Rattle.cgm_text.specs.Uses.{first_fault, statement_uses}
 use Rattle.cgm_text.proofs.Drafts.{all_added_push}
 use Rattle.cgm_text.proofs.Spellings.{name_plain}
@@ -255,9 +256,10 @@ abbrev AllHaveWidth : List Statement → Type 0
 AllHaveWidth ss = AllByRecursion HasWidth ss
 
 lead : (m p : Lists) (said : List LineStatement) (line : ℕ) (ss : List Statement) → model_of said ≡ p → IsWellFormed p → StandInOrder p ss → after p ss ≡ m → AllHaveWidth ss
-    → Lead (Some said) line (lines (statement_lines m ss)) (gives (said ++ tagged line ss))
+    → Lead model_text (Some said) line (lines (statement_lines m ss)) (gives (Some (said ++ tagged line ss)))
 unfolding tagged
-lead m p said line [] is w stand e wide = (nothing, (refl, ap gives (append-nil said)))
+lead m p said line [] is w stand e wide =
+    (Ok (Some said), ((nothing, (refl, refl)), ap (λ (xs : List LineStatement). gives (Some xs)) (append-nil said)))
 lead m p said line (s ∷ ss) is w stand e wide =
     let proper = stand.0 in
     let allowed = stand.1 in
@@ -270,9 +272,9 @@ lead m p said line (s ∷ ss) is w stand e wide =
     let next = said ++ on_line line s ∷ [] in
     let is_next : model_of next ≡ added p s = all_added_push no_lists said (on_line line s) ∙ ap (λ (q : Lists). added q s) is in
     let later = lead m (added p s) next (line + 1) ss is_next after_w stand.2 e wide.1 in
-    let later_here : Lead (Some next) (line + 1) (lines (statement_lines m ss)) (gives (said ++ on_line line s ∷ tagged (line + 1) ss)) =
-    subst (λ (xs : List LineStatement). Lead (Some next) (line + 1) (lines (statement_lines m ss)) (gives xs)) (append_assoc said (on_line line s ∷ []) (tagged (line + 1) ss)) later in
-    subst (λ (bs : List (List ℕ)). Lead (Some said) line bs (gives (said ++ on_line line s ∷ tagged (line + 1) ss))) (sym (line_first (statement_tokens v) (statement_lines m ss) plain_)) (says s, (comes_said, later_here))
+    let later_here : Lead model_text (Some next) (line + 1) (lines (statement_lines m ss)) (gives (Some (said ++ on_line line s ∷ tagged (line + 1) ss))) =
+    subst (λ (xs : List LineStatement). Lead model_text (Some next) (line + 1) (lines (statement_lines m ss)) (gives (Some xs))) (append_assoc said (on_line line s ∷ []) (tagged (line + 1) ss)) later in
+    subst (λ (bs : List (List ℕ)). Lead model_text (Some said) line bs (gives (Some (said ++ on_line line s ∷ tagged (line + 1) ss)))) (sym (line_first (statement_tokens v) (statement_lines m ss) plain_)) (Ok (Some next), ((says s, (comes_said, refl)), later_here))
 
 all_tagged : (p : Lists) (line : ℕ) (ss : List Statement) → all_added p (tagged line ss) ≡ after p ss
 unfolding tagged
@@ -291,6 +293,6 @@ text_back m w wide =
     let ss = statements_of m in
     let rest = statement_lines m ss in
     let body_lead = lead m no_lists [] 2 ss refl IsWellFormed-none (stands_in_order m w) (after_all m) wide in
-    let whole : Lead None 1 (lines (whole_line header_tokens ++ rest)) (gives (tagged 2 ss)) =
-    subst (λ (bs : List (List ℕ)). Lead None 1 bs (gives (tagged 2 ss))) (sym (line_first header_tokens rest header_plain)) (header, (header_comes, body_lead)) in
+    let whole : Lead model_text None 1 (lines (whole_line header_tokens ++ rest)) (gives (Some (tagged 2 ss))) =
+    subst (λ (bs : List (List ℕ)). Lead model_text None 1 bs (gives (Some (tagged 2 ss)))) (sym (line_first header_tokens rest header_plain)) (Ok (Some []), ((header, (header_comes, refl)), body_lead)) in
     (tagged 2 ss, (whole, sym (all_tagged no_lists 2 ss ∙ after_all m)))

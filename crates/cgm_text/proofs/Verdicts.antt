@@ -15,9 +15,10 @@ use Rattle.cgm_model.specs.Lists.{added}
 use Rattle.cgm_model.specs.Statement.{IsAllowed, IsNotAdded, refusal}
 use Rattle.cgm_model.proofs.Refusals.{IsAllowed-passed, IsNotAdded-refused}
 use Rattle.cgm_model.proofs.Verdicts.{refused_not_allowed, refused_once}
-use Rattle.cgm_text.specs.declared.fault.LineFault.{LineFault}
-use Rattle.cgm_text.specs.declared.fault.LineFault.TheVariants as line_faults
-use Rattle.cgm_text.specs.Line.{Verdict, nothing, header, says, faulty, refusal_kind, flaw_kind, Form, no_word, no_form, written, HasForm, IsRefusedAs, IsJudged, IsNamedJudged, IsFormJudged, AreJudged, AreFirst, AreShallowJudged, nests_too_deep, AreLexemesJudged, ComesTo}
+use Rattle.cgm_lex.specs.declared.stops.LineFault.{LineFault}
+use Rattle.cgm_lex.specs.declared.stops.LineFault.TheVariants as line_faults
+use Rattle.cgm_lex.specs.Readings.{flaw_kind}
+use Rattle.cgm_text.specs.Line.{Verdict, nothing, header, says, faulty, refusal_kind, Form, no_word, no_form, written, HasForm, IsRefusedAs, IsJudged, IsNamedJudged, IsFormJudged, AreJudged, AreFirst, AreShallowJudged, nests_too_deep, AreLexemesJudged, ComesTo}
 use Rattle.cgm_text.specs.Meaning.{statement_of}
 use Rattle.cgm_text.specs.Statements.{sort_of, body}
 use Rattle.cgm_text.specs.Uses.{first_fault, statement_uses}

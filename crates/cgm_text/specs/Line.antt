@@ -5,16 +5,16 @@ use Rattle.cgm_base.specs.declared.fault.BadKind.TheVariants as kinds
 use Rattle.cgm_base.specs.declared.limit.Which.TheVariants as limits
 use Rattle.cgm_base.specs.Words.{limit_number}
 use Rattle.cgm_lex.specs.declared.token.Flaw.{Flaw}
-use Rattle.cgm_lex.specs.declared.token.Flaw.TheVariants as flaws
 use Rattle.cgm_lex.specs.Lexemes.{Lexeme, number, word, line_lexemes}
+use Rattle.cgm_lex.specs.Readings.{flaw_kind}
 use Rattle.cgm_model.specs.declared.lists.Lists.{Lists}
 use Rattle.cgm_model.specs.declared.lists.Statement.{Statement}
 use Rattle.cgm_model.specs.declared.stop.AddStop.TheVariants as stops
 use Rattle.cgm_model.specs.declared.stop.Fault.{Fault}
 use Rattle.cgm_model.specs.declared.stop.Fault.TheVariants as faults
 use Rattle.cgm_model.specs.Statement.{IsAllowed, IsRefused}
-use Rattle.cgm_text.specs.declared.fault.LineFault.{LineFault}
-use Rattle.cgm_text.specs.declared.fault.LineFault.TheVariants as line_faults
+use Rattle.cgm_lex.specs.declared.stops.LineFault.{LineFault}
+use Rattle.cgm_lex.specs.declared.stops.LineFault.TheVariants as line_faults
 use Rattle.cgm_text.specs.declared.written.Sort.{Sort}
 use Rattle.cgm_text.specs.Meaning.{statement_of}
 use Rattle.cgm_text.specs.Statements.{WrittenStatement, sort_word, statement_tokens, BeginsNoStatement}
@@ -26,10 +26,6 @@ pub data Verdict : Type 0 where
   header : Verdict
   says : Statement → Verdict
   faulty : LineFault → Verdict
-
-abbrev pub flaw_kind : Flaw → BadKind
-flaw_kind flaws.BadByte = kinds.BadByte
-flaw_kind flaws.BadNumber = kinds.BadNumber
 
 abbrev pub refusal_kind : Fault → BadKind
 refusal_kind faults.Name = kinds.Name

@@ -1,10 +1,7 @@
 -- What the reader keeps of the lines so far, and what one more line makes of it.
 use Rattle.std.specs.Prelude.{◌≡◌, ℕ, true, false, List, [], ◌++◌, Option, None, Some, Ok}
 use Rattle.std.specs.Option.{option_map}
-use Rattle.cgm_base.specs.declared.fault.BadKind.TheVariants as kinds
-use Rattle.cgm_base.specs.Words.{limit_number}
 use Rattle.cgm_lex.specs.Lexemes.{Lexeme}
-use Rattle.cgm_lex.specs.Lines.{lines}
 use Rattle.cgm_model.specs.declared.lists.Lists.{Lists}
 use Rattle.cgm_model.specs.declared.lists.Statement.{Statement}
 use Rattle.cgm_model.specs.declared.stop.AddStop.{AddStop}
@@ -12,17 +9,15 @@ use Rattle.cgm_model.specs.declared.stop.AddStop.TheVariants as add_stops
 use Rattle.cgm_model.specs.Lists.{no_lists, added}
 use Rattle.cgm_model.specs.Model.{lists_of}
 use Rattle.cgm_model.specs.Statement.{IsAllowed}
-use Rattle.cgm_text.specs.declared.draft.Draft.{Draft}
-use Rattle.cgm_text.specs.declared.fault.LineFault.TheVariants as line_faults
-use Rattle.cgm_text.specs.declared.fault.LineStop.{LineStop}
-use Rattle.cgm_text.specs.declared.fault.LineStop.TheVariants as line_stops
+use Rattle.cgm_text.specs.declared.draft.ModelDraft.{ModelDraft}
+use Rattle.cgm_lex.specs.declared.stops.LineFault.TheVariants as line_faults
+use Rattle.cgm_lex.specs.declared.stops.LineStop.{LineStop}
+use Rattle.cgm_lex.specs.declared.stops.LineStop.TheVariants as line_stops
 use Rattle.cgm_text.specs.declared.reader.Reading.{Reading}
-use Rattle.cgm_text.specs.declared.reader.TextStop.{TextStop}
-use Rattle.cgm_text.specs.declared.reader.TextStop.TheVariants as stops
-use Rattle.cgm_text.specs.Line.{Verdict, nothing, header, says, faulty, refusal_kind, AreJudged, AreLexemesJudged}
+use Rattle.cgm_text.specs.Line.{Verdict, says, faulty, refusal_kind, AreJudged, AreLexemesJudged}
 use Rattle.cgm_text.specs.Meaning.{statement_of}
 use Rattle.cgm_text.specs.Statements.{WrittenStatement, statement_tokens}
-use Rattle.cgm_text.specs.Text.{LineStatement, Lead, Outcome, after_line, model_of, rule_line, rule_lines}
+use Rattle.cgm_text.specs.Text.{LineStatement, after_line, model_of, rule_line, rule_lines}
 use Rattle.cgm_text.specs.Uses.{first_fault, statement_uses}
 
 -- a stop is the fault that this says of, or want of memory
@@ -37,81 +32,57 @@ pub record IsMade (m : Lists) (tokens : List Lexeme) (s : Statement) : Type 0 wh
   pub names : first_fault m (statement_uses source) ≡ None
   pub meaning : statement_of m source ≡ s
 
-pub record IsBegun (said : List LineStatement) (draft : Draft) : Type 0 where
+pub record IsBegun (said : List LineStatement) (draft : ModelDraft) : Type 0 where
   pub header : draft.has_header ≡ true
   pub lists : draft.builder ≡ model_of said
   pub lines : draft.rule_lines.items ≡ rule_lines said
 
-pub record IsEmpty (draft : Draft) : Type 0 where
+pub record IsEmpty (draft : ModelDraft) : Type 0 where
   pub header : draft.has_header ≡ false
   pub lists : draft.builder ≡ no_lists
   pub lines : draft.rule_lines.items ≡ []
 
 -- the reader has these statements so far, or none before the header
-abbrev pub IsDraft : Option (List LineStatement) → Draft → Type 0
+abbrev pub IsDraft : Option (List LineStatement) → ModelDraft → Type 0
 IsDraft None draft = IsEmpty draft
 IsDraft (Some said) draft = IsBegun said draft
 
-abbrev pub IsNoFault : Verdict → Type 0
-IsNoFault nothing = Unit {0}
-IsNoFault header = Unit {0}
-IsNoFault (says s) = Unit {0}
-IsNoFault (faulty fault) = ⊥
-
--- after what it had so far, the reader has what a line with this number adds, which is no fault by `P`
-pub record Steps (P : Option Lists → Verdict → Type 0) (line : ℕ) (so_far : Option (List LineStatement)) (draft : Draft) : Type 0 where
+-- after what it had so far, the reader has what a line with this number makes of it by `P`, which is no fault
+pub record Steps (P : Option Lists → Verdict → Type 0) (line : ℕ) (so_far : Option (List LineStatement)) (draft : ModelDraft) : Type 0 where
   pub verdict : Verdict
   pub judged : P (option_map model_of so_far) verdict
-  pub no_fault : IsNoFault verdict
-  pub leaves : IsDraft (after_line so_far line verdict) draft
+  pub next : Option (List LineStatement)
+  pub passes : after_line so_far line verdict ≡ Ok next
+  pub leaves : IsDraft next draft
 
-abbrev pub IsStep : (Option Lists → Verdict → Type 0) → ℕ → Draft → Draft → Type 0
+abbrev pub IsStep : (Option Lists → Verdict → Type 0) → ℕ → ModelDraft → ModelDraft → Type 0
 IsStep P line old new = (so_far : Option (List LineStatement)) → IsDraft so_far old → Steps P line so_far new
 
-abbrev pub IsStopAfter : (Option Lists → Verdict → Type 0) → Draft → LineStop → Type 0
+abbrev pub IsStopAfter : (Option Lists → Verdict → Type 0) → ModelDraft → LineStop → Type 0
 IsStopAfter P old stop = (so_far : Option (List LineStatement)) → IsDraft so_far old → IsStop (P (option_map model_of so_far)) stop
 
 abbrev pub tokens_come_to : List Lexeme → Option Lists → Verdict → Type 0
 tokens_come_to tokens before v = AreLexemesJudged before (Ok tokens) v
 
--- why a text isn't read that stops at this line
-abbrev pub stop_at : ℕ → LineStop → TextStop
-stop_at line (line_stops.Faulty (line_faults.Bad kind)) = stops.Bad line kind
-stop_at line (line_stops.Faulty (line_faults.Limit which)) =
-    stops.Limit (record { which = which; number = limit_number which; line = line })
-stop_at line line_stops.Memory = stops.Memory
-
 -- the statement is allowed, and added on the line with this number
-pub record IsPut (line : ℕ) (s : Statement) (old new : Draft) : Type 0 where
+pub record IsPut (line : ℕ) (s : Statement) (old new : ModelDraft) : Type 0 where
   pub allowed : IsAllowed old.builder s
   pub header : new.has_header ≡ old.has_header
   pub lists : new.builder ≡ added old.builder s
   pub lines : new.rule_lines.items ≡ old.rule_lines.items ++ rule_line line s
 
 -- the statement of the tokens is added, on the line with this number
-pub record IsAdded (line : ℕ) (tokens : List Lexeme) (old new : Draft) : Type 0 where
+pub record IsAdded (line : ℕ) (tokens : List Lexeme) (old new : ModelDraft) : Type 0 where
   pub statement : Statement
   pub judged : AreJudged old.builder tokens (says statement)
   pub header : new.has_header ≡ old.has_header
   pub lists : new.builder ≡ added old.builder statement
   pub lines : new.rule_lines.items ≡ old.rule_lines.items ++ rule_line line statement
 
--- the reader has these statements at the end of the text, which comes to what they do
-pub record IsReadWhole (text : List ℕ) (draft : Draft) : Type 0 where
-  pub so_far : Option (List LineStatement)
-  pub keeps : IsDraft so_far draft
-  pub leads : (o : Outcome) → Lead so_far 0 [] o → Lead None 1 (lines text) o
-
--- a draft with a header gives its model and the lines of its rules
-pub record IsFinished (draft : Draft) (reading : Reading) : Type 0 where
-  pub header : draft.has_header ≡ true
+-- a draft gives its model and the lines of its rules
+pub record IsFinished (draft : ModelDraft) (reading : Reading) : Type 0 where
   pub model : lists_of reading.model ≡ draft.builder
   pub lines : reading.rule_lines.items ≡ draft.rule_lines.items
-
--- a draft without a header has the fault that there is none
-pub record IsFinishStop (draft : Draft) (stop : TextStop) : Type 0 where
-  pub header : draft.has_header ≡ false
-  pub stop_is : stop ≡ stops.Bad 1 kinds.Header
 
 -- the stop of a line whose statement isn't added
 abbrev pub line_stop : AddStop → LineStop

@@ -1,17 +1,16 @@
 -- The statements of a text with their lines, the model that these give, and the first fault of a text that has none.
-use Rattle.std.specs.Prelude.{◌≡◌, ℕ, ◌+◌, List, [], ◌∷◌, ◌++◌, Option, None, Some}
+use Rattle.std.specs.Prelude.{◌≡◌, ℕ, List, [], ◌∷◌, ◌++◌, Option, None, Some, Result, Ok, Err}
 use Rattle.std.specs.Option.{option_map}
-use Rattle.cgm_base.specs.declared.fault.BadKind.TheVariants as kinds
 use Rattle.cgm_base.specs.Words.{limit_number}
-use Rattle.cgm_lex.specs.Lines.{lines}
+use Rattle.cgm_lex.specs.Readings.{TextForm, gives, fails, Comes, lacks_header}
 use Rattle.cgm_model.specs.declared.lists.Lists.{Lists}
 use Rattle.cgm_model.specs.declared.lists.Statement.{Statement}
 use Rattle.cgm_model.specs.declared.lists.Statement.TheVariants as statements
 use Rattle.cgm_model.specs.Lists.{no_lists, added}
-use Rattle.cgm_text.specs.declared.fault.LineFault.{LineFault}
-use Rattle.cgm_text.specs.declared.fault.LineFault.TheVariants as line_faults
-use Rattle.cgm_text.specs.declared.reader.TextStop.{TextStop}
-use Rattle.cgm_text.specs.declared.reader.TextStop.TheVariants as stops
+use Rattle.cgm_lex.specs.declared.stops.LineFault.{LineFault}
+use Rattle.cgm_lex.specs.declared.stops.LineFault.TheVariants as line_faults
+use Rattle.cgm_lex.specs.declared.stops.TextStop.{TextStop}
+use Rattle.cgm_lex.specs.declared.stops.TextStop.TheVariants as stops
 use Rattle.cgm_text.specs.Line.{Verdict, nothing, header, says, faulty, ComesTo}
 
 -- a statement with the number of its line, from 1
@@ -41,42 +40,29 @@ abbrev pub rule_lines : List LineStatement → List ℕ
 rule_lines [] = []
 rule_lines (s ∷ rest) = rule_line s.line s.statement ++ rule_lines rest
 
-pub data Outcome : Type 0 where
-  gives : List LineStatement → Outcome
-  fails : ℕ → LineFault → Outcome
+-- the statements so far after a line with this number, where there are none before the header; or the line's fault
+abbrev pub after_line : Option (List LineStatement) → ℕ → Verdict → Result (Option (List LineStatement)) LineFault
+after_line so_far line nothing = Ok so_far
+after_line so_far line header = Ok (Some [])
+after_line so_far line (says s) = Ok (option_map (λ said. said ++ on_line line s ∷ []) so_far)
+after_line so_far line (faulty fault) = Err fault
 
--- the statements so far after a line with this number, where there are none before the header
-abbrev pub after_line : Option (List LineStatement) → ℕ → Verdict → Option (List LineStatement)
-after_line so_far line nothing = so_far
-after_line so_far line header = Some []
-after_line so_far line (says s) = option_map (λ said. said ++ on_line line s ∷ []) so_far
-after_line so_far line (faulty fault) = so_far
+-- what a line with this number makes of the statements so far
+abbrev pub LineComesTo : Option (List LineStatement) → ℕ → List ℕ → Result (Option (List LineStatement)) LineFault → Type 0
+LineComesTo so_far line bytes r =
+    (v : Verdict) × (ComesTo (option_map model_of so_far) bytes v × (r ≡ after_line so_far line v))
 
--- a text that ends before its header has the fault that there is none, in its first line
-abbrev pub IsEnd : Option (List LineStatement) → Outcome → Type 0
-IsEnd None outcome = outcome ≡ fails 1 (line_faults.Bad kinds.Header)
-IsEnd (Some said) outcome = outcome ≡ gives said
-
--- a faulty line ends the text; after another one it is as the lines after it say
-abbrev pub IsOutcome : ℕ → Verdict → Outcome → Type 0 → Type 0
-IsOutcome line nothing outcome later = later
-IsOutcome line header outcome later = later
-IsOutcome line (says s) outcome later = later
-IsOutcome line (faulty fault) outcome later = outcome ≡ fails line fault
-
--- what these lines come to after the statements so far; the first of them has the number `line`
-abbrev pub Lead : Option (List LineStatement) → ℕ → List (List ℕ) → Outcome → Type 0
-Lead so_far line [] outcome = IsEnd so_far outcome
-Lead so_far line (bytes ∷ more) outcome =
-    (v : Verdict) × (ComesTo (option_map model_of so_far) bytes v × IsOutcome line v outcome (Lead (after_line so_far line v) (line + 1) more outcome))
+-- the form of model texts: statements, each on a line, after a header
+abbrev pub model_text : TextForm (Option (List LineStatement))
+model_text = record { begins = None; comes = LineComesTo; lacks = lacks_header }
 
 -- the text has these statements and no fault
 unfoldable pub HasStatements : List ℕ → List LineStatement → Type 0
-HasStatements text said = Lead None 1 (lines text) (gives said)
+HasStatements text said = Comes model_text text (gives (Some said))
 
 -- the text's first faulty line, from 1, and what is wrong with it
 unfoldable pub HasFault : List ℕ → ℕ → LineFault → Type 0
-HasFault text line fault = Lead None 1 (lines text) (fails line fault)
+HasFault text line fault = Comes model_text text (fails line fault)
 
 -- the text is one of this model, with these lines of its rules
 pub record IsReading (text : List ℕ) (m : Lists) (lines_of_rules : List ℕ) : Type 0 where

@@ -1,28 +1,27 @@
 //! The model of the lines that were read so far.
-ghost use Rattle.std.specs.Prelude.{◌≡◌, ◌↔◌, ◌≤◌, ℕ, List, [], ◌∷◌, true, false, if◌then◌else◌, length, All, Option, None, Some, IsTrue, IfOk, IfErr, OnOk};
-ghost use Rattle.cgm_lex.specs.Lexemes.{IsLineStop};
+ghost use Rattle.std.specs.Prelude.{◌≡◌, ◌↔◌, ℕ, List, [], ◌∷◌, true, false, if◌then◌else◌, All, Option, None, IsTrue, IfErr, OnOk};
 ghost use Rattle.cgm_lex.specs.Spelling.{IsPlain};
-ghost use Rattle.cgm_model.specs.declared.lists.Lists.{Lists};
 ghost use Rattle.cgm_model.specs.Statement.{IsProper};
-ghost use Rattle.cgm_text.specs.Line.{AreFirst, AreJudged, ComesTo, IsJudged, header_tokens, nests_too_deep};
-ghost use Rattle.cgm_text.specs.Progress.{IsAdded, IsDraft, IsFinished, IsFinishStop, IsPut, IsStep, IsStop, IsStopAfter, line_stop, tokens_come_to};
-ghost use Rattle.cgm_text.specs.Text.{rule_line};
+ghost use Rattle.cgm_text.specs.Line.{AreFirst, AreJudged, IsJudged, header_tokens, nests_too_deep};
+ghost use Rattle.cgm_text.specs.Progress.{IsAdded, IsDraft, IsFinished, IsPut, IsStep, IsStop, IsStopAfter, line_stop, tokens_come_to};
+ghost use Rattle.cgm_text.specs.Text.{LineStatement, model_text, rule_line};
 ghost use Rattle.cgm_text.specs.Trees.{seen_all};
 
 use crate::depth::nests_deeper;
-use crate::fault::{LineFault, LineStop, refusal_kind};
+use crate::fault::refusal_kind;
 use crate::judge::statement_of_tokens;
-use crate::reader::{Reading, TextStop};
+use crate::reader::Reading;
 use crate::shape::is_end;
 use crate::take::{take_exact, take_number};
 use cgm_base::{BadKind, Which, limits};
-use cgm_lex::{LexFault, LexStop, Token, tokens_of_line};
+use cgm_lex::reading::{Draft, LineFault, LineStop, lexing_stop};
+use cgm_lex::{Token, tokens_of_line};
 use cgm_model::{AddStop, ModelBuilder, Statement};
 use std::alloc::Global;
 
 /// What the lines so far make.
 #[derive(Drop)]
-pub(crate) struct Draft {
+pub(crate) struct ModelDraft {
     has_header: bool,
     builder: ModelBuilder,
     rule_lines: Vec<u32>,
@@ -60,26 +59,12 @@ fn add_stop(stop: AddStop) -> LineStop
     }
 }
 
-fn lex_stop(stop: LexStop) -> LineStop
-    ensures { (number : ℕ) (line : List ℕ) → IsLineStop number line stop → (before : Option Lists) → IsStop (ComesTo before line) result }
-{
-    match stop {
-        LexStop::Fault(LexFault::BadByte { line: _ }) => LineStop::Faulty(LineFault::Bad(
-            BadKind::BadByte,
-        )),
-        LexStop::Fault(LexFault::BadNumber { line: _ }) => LineStop::Faulty(LineFault::Bad(
-            BadKind::BadNumber,
-        )),
-        LexStop::Memory => LineStop::Memory,
-    }
-}
-
-impl Draft {
+impl ModelDraft {
     /// The draft before the first line.
-    pub(crate) fn new(alloc: Global) -> Draft
+    pub(crate) fn new(alloc: Global) -> ModelDraft
         ensures { IsDraft None result }
     {
-        Draft {
+        ModelDraft {
             has_header: false,
             builder: ModelBuilder::new(alloc),
             rule_lines: Vec::new(alloc),
@@ -163,42 +148,41 @@ impl Draft {
         }
     }
 
-    /// Adds what a line says.
-    pub(crate) fn add_line(
-        &mut self,
-        alloc: Global,
-        line: &[u8],
-        number: u32,
-    ) -> Result<(), LineStop>
-        requires { length line.now ≤ 16777216 }
-        ensures step { OnOk result (IsStep (λ before. ComesTo before line.now) number self.old self.new) }
-        ensures stop { IfErr result (IsStopAfter (λ before. ComesTo before line.now) self.old) }
+    /// The model of the lines so far.
+    pub(crate) fn finish(self) -> Reading
+        ensures { IsFinished self result }
     {
-        match tokens_of_line(alloc, line, number) {
-            Ok(tokens) => self.add_tokens(alloc, line, tokens.as_slice(), number),
-            Err(stop) => Err(lex_stop(stop)),
-        }
-    }
-
-    /// The model of the lines so far; there is none before the header.
-    pub(crate) fn finish(self) -> Result<Reading, TextStop>
-        ensures finished { IfOk result (IsFinished self) }
-        ensures stop { IfErr result (IsFinishStop self) }
-    {
-        if !self.has_header {
-            return Err(TextStop::Bad {
-                line: 1,
-                kind: BadKind::Header,
-            });
-        }
-        let Draft {
+        let ModelDraft {
             has_header: _,
             builder,
             rule_lines,
         } = self;
-        Ok(Reading {
+        Reading {
             model: builder.finish(),
             rule_lines,
-        })
+        }
+    }
+}
+
+impl Draft for ModelDraft {
+    ghost Said = { Option (List LineStatement) };
+
+    ghost form = { model_text };
+
+    ghost holds = { IsDraft };
+
+    fn add_line(&mut self, alloc: Global, line: &[u8], number: u32) -> Result<(), LineStop> {
+        match tokens_of_line(alloc, line, number) {
+            Ok(tokens) => self.add_tokens(alloc, line, tokens.as_slice(), number),
+            Err(stop) => Err(lexing_stop(stop)),
+        }
+    }
+
+    fn lack(&self) -> Option<LineFault> {
+        if self.has_header {
+            None
+        } else {
+            Some(LineFault::Bad(BadKind::Header))
+        }
     }
 }

@@ -1,25 +1,9 @@
-//! Why a line of a model text isn't taken.
+//! Why a statement of a model text isn't taken.
 ghost use Rattle.std.specs.Prelude.{◌≡◌};
 ghost use Rattle.cgm_text.specs.Line.{refusal_kind};
 
-use cgm_base::{BadKind, Which};
+use cgm_base::BadKind;
 use cgm_model::Fault;
-
-/// What is wrong with a line.
-#[derive(Clone, Copy, PartialEq, Eq)]
-pub enum LineFault {
-    Bad(BadKind),
-    /// A quantity that passes its limit.
-    Limit(Which),
-}
-
-/// Why a line isn't added to those before it.
-#[derive(Clone, Copy)]
-pub(crate) enum LineStop {
-    Faulty(LineFault),
-    /// There is no memory for it.
-    Memory,
-}
 
 /// The kind of a refused statement.
 pub(crate) fn refusal_kind(fault: Fault) -> BadKind

@@ -8,7 +8,6 @@ ghost use Rattle.cgm_text.specs.Progress.{IsMade, IsStop};
 ghost use Rattle.cgm_text.specs.Statements.{sort_word, statement_in};
 ghost use Rattle.cgm_text.specs.Trees.{seen_all};
 
-use crate::fault::{LineFault, LineStop};
 use crate::form::statement_of_sort;
 use crate::keyword::sort_of_word;
 use crate::meaning::statement;
@@ -17,6 +16,7 @@ use crate::take::{bytes_in, take_word};
 use crate::written::{FormStop, Sort, Written};
 use cgm_base::BadKind;
 use cgm_lex::Token;
+use cgm_lex::reading::{LineFault, LineStop};
 use cgm_model::{ModelBuilder, Statement};
 use std::alloc::Global;
 

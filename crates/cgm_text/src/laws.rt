@@ -1,9 +1,15 @@
 //! Laws of the text form.
 ghost use Rattle.std.specs.Prelude.{◌≡◌, ℕ, List};
 ghost use Rattle.cgm_model.specs.declared.lists.Lists.{Lists};
-ghost use Rattle.cgm_text.specs.declared.fault.LineFault.{LineFault};
+ghost use Rattle.cgm_lex.specs.declared.stops.LineFault.{LineFault};
+ghost use Rattle.cgm_lex.specs.Readings.{IsDecided};
 ghost use Rattle.cgm_text.specs.Statements.{WrittenStatement, statement_tokens};
-ghost use Rattle.cgm_text.specs.Text.{IsReading, IsTextOf, HasFault};
+ghost use Rattle.cgm_text.specs.Text.{IsReading, IsTextOf, HasFault, model_text};
+
+/// The law that after the statements so far a line comes to one thing, and always to one.
+pub fn lines_are_decided()
+    ensures { IsDecided model_text }
+{}
 
 /// The law that a text has a model or a first fault: never both, and never neither.
 pub fn text_has_model_or_fault()

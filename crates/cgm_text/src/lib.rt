@@ -10,7 +10,6 @@ mod formula_printer;
 mod judge;
 mod keyword;
 mod laws;
-mod line;
 mod linear;
 mod meaning;
 mod model_printer;
@@ -24,12 +23,13 @@ mod take;
 mod word;
 mod written;
 
-pub use fault::LineFault;
+pub use cgm_lex::reading::{LineFault, TextStop};
 pub use laws::{
-    text_has_model_or_fault, text_has_one_fault, text_has_one_model, tokens_have_one_statement,
+    lines_are_decided, text_has_model_or_fault, text_has_one_fault, text_has_one_model,
+    tokens_have_one_statement,
 };
 pub use model_printer::print;
 pub use printing_laws::{
     canonical_formula_is_read_back, canonical_statement_is_read_back, canonical_text_is_read_back,
 };
-pub use reader::{Reading, TextStop, read};
+pub use reader::{Reading, read};

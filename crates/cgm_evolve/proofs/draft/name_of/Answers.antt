@@ -1,5 +1,5 @@
 use Rattle.std.proofs.Common.{◌∙◌}
-use Rattle.cgm_evolve.proofs.Spelled.{spelled_utf8}
+use Rattle.cgm_lex.proofs.Spelled.{spelled_utf8}
 use Rattle.cgm_evolve.proofs.draft.name_of.Goals as goal
 
 pub returns : goal.returns

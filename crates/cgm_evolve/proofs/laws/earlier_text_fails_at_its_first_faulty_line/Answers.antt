@@ -1,0 +1,5 @@
+use Rattle.cgm_evolve.proofs.Giving.{fault_is_first}
+use Rattle.cgm_evolve.proofs.laws.earlier_text_fails_at_its_first_faulty_line.Goals as goal
+
+pub returns : goal.returns
+returns c = fault_is_first

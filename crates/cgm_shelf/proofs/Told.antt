@@ -1,10 +1,10 @@
 -- The steps of the loops over a shelf or a sink, where it tells its files or its bytes.
-use Rattle.std.proofs.Common.{◌≡◌, ℕ, ◌+◌, ◌<◌, ◌≤◌, List, ◌++◌, length, take, drop, Some, None, IfSome, IsSomeAnd, sym, ◌∙◌, append_assoc, arith}
+use Rattle.std.proofs.Common.{◌≡◌, ℕ, ◌+◌, ◌<◌, ◌≤◌, List, ◌++◌, length, take, drop, Some, None, IfSome, IsSomeAnd, option_map, sym, ◌∙◌, append_assoc, arith}
 use Rattle.std.proofs.lemmas.List.{length-append, length-take-le, length-drop, drop-drop, take-append-drop}
 use Rattle.std.proofs.Math.Seq.{take-add}
 use Rattle.std.specs.declared.option.Option.{Option}
-use Rattle.cgm_shelf.specs.Sink.{Adds}
-use Rattle.cgm_shelf.specs.Shelf.{Files, WhereTold, Leaves, Appends, OnlyChanges, ReadsFrom, ReadsNext}
+use Rattle.cgm_shelf.specs.Sink.{Adds, SinkState}
+use Rattle.cgm_shelf.specs.Shelf.{Files, WhereTold, Leaves, Appends, OnlyChanges, OnlyReads, ReadsFrom, ReadsNext, ShelfState}
 
 -- these bytes are the front of the named file, where the shelf tells it
 abbrev pub IsFront : Option Files → List ℕ → List ℕ → Type 0
@@ -55,7 +55,18 @@ Leaves-append (Some before) (Some files) last name done more left append =
 pub take_on : (bytes rest : List ℕ) (done count : ℕ) → rest ≡ drop done bytes → take done bytes ++ take count rest ≡ take (done + count) bytes
 take_on bytes rest done count e = rw e (sym (take-add done count bytes))
 
+more_added : (first middle last : Option (List ℕ)) (done more : List ℕ) → middle ≡ option_map (λ before. before ++ done) first → last ≡ option_map (λ before. before ++ more) middle → last ≡ option_map (λ before. before ++ (done ++ more)) first
+more_added None middle last done more one two = rw one at two
+more_added (Some before) middle last done more one two = rw (← append_assoc) (rw one at two)
+
 -- bytes that are added after others are added with them
-pub Adds-more : (first middle last : Option (List ℕ)) (done more : List ℕ) → Adds first middle done → Adds middle last more → Adds first last (done ++ more)
-Adds-more None middle last done more one two = rw one at two
-Adds-more (Some before) middle last done more one two = rw (← append_assoc) (rw one at two)
+pub Adds-more : (first middle last : SinkState) (done more : List ℕ) → Adds first middle done → Adds middle last more → Adds first last (done ++ more)
+Adds-more first middle last done more one two = more_added first.written middle.written last.written done more one two
+
+-- reads after reads are reads
+pub reads_on : (first middle last : ShelfState) → OnlyReads first middle → OnlyReads middle last → OnlyReads first last
+reads_on first middle last one two = record {
+  files = two.files ∙ one.files;
+  writes = two.writes ∙ one.writes;
+  later = omega (arith, one.later, two.later);
+}

@@ -10,10 +10,13 @@ use Rattle.cgm_shelf.specs.Shelf.{Files, AllBelow}
 abbrev pub files_in : BTreeMap (String Global) (Vec ℕ Global) → Files
 files_in map name = option_map (λ v. v.items) (get_by_text map name)
 
-is_small : (o : Option (Vec ℕ Global)) → IfSome (option_map (λ v. v.items) o) (λ bytes. length bytes < 2 ^ 63)
+is_small :
+    (o : Option (Vec ℕ Global))
+    → IfSome (option_map (λ v. v.items) o) (λ bytes. length bytes < 2 ^ 63)
 is_small None = tt
 is_small (Some v) = omega (arith, v.ok.0, v.ok.1, v.small)
 
 -- a vector has fewer than 2^63 bytes
-pub files_small : (map : BTreeMap (String Global) (Vec ℕ Global)) → AllBelow (2 ^ 63) (Some (files_in map))
+pub files_small :
+    (map : BTreeMap (String Global) (Vec ℕ Global)) → AllBelow (2 ^ 63) (Some (files_in map))
 files_small map = λ name. is_small (get_by_text map name)

@@ -1,8 +1,8 @@
 -- What a shelf in memory shows: its files, its plan of failing calls and its counts.
-use Rattle.std.specs.Prelude.{◌≡◌, ◌⊎◌, ℕ, min, List, length, drop, None, Contains}
+use Rattle.std.specs.Prelude.{◌≡◌, ◌⊎◌, ℕ, min, List, length, drop, None, Some, Contains}
 use Rattle.cgm_shelf.specs.Faults.{next}
 use Rattle.cgm_shelf.specs.MemFiles.{files_in}
-use Rattle.cgm_shelf.specs.Shelf.{Files}
+use Rattle.cgm_shelf.specs.Shelf.{Files, ShelfState}
 use Rattle.cgm_shelf.specs.declared.mem_shelf.MemShelf.{MemShelf}
 
 -- the files of the shelf
@@ -16,6 +16,14 @@ read_faults_of shelf = shelf.reads.faults
 -- how many starts and appends have failed
 abbrev pub write_faults_of : MemShelf → ℕ
 write_faults_of shelf = shelf.writes.faults
+
+-- what contracts see of it: it tells its files
+abbrev pub mem_shelf_state : MemShelf → ShelfState
+mem_shelf_state shelf = record {
+  files = Some (mem_files shelf);
+  read_faults = read_faults_of shelf;
+  write_faults = write_faults_of shelf;
+}
 
 -- how many calls have failed for want of memory
 abbrev pub refused_of : MemShelf → ℕ
@@ -93,11 +101,13 @@ Lacks shelf name = mem_files shelf name ≡ None
 
 -- a planned fault of a start, or want of memory, and what each does to the counts
 abbrev pub FailsStart : MemShelf → MemShelf → Type 0
-FailsStart old new = (IsFailingWrite old × AddsWriteFault old new) ⊎ (¬ IsFailingWrite old × AddsRefusal old new)
+FailsStart old new =
+    (IsFailingWrite old × AddsWriteFault old new) ⊎ (¬ IsFailingWrite old × AddsRefusal old new)
 
 -- a name that isn't there, or a planned fault of a read, and what each does to the counts
 abbrev pub FailsRead : MemShelf → MemShelf → List ℕ → Type 0
-FailsRead old new name = (Lacks old name × KeepsFaults old new) ⊎ (IsFailingRead old × AddsReadFault old new)
+FailsRead old new name =
+    (Lacks old name × KeepsFaults old new) ⊎ (IsFailingRead old × AddsReadFault old new)
 
 -- a name that isn't there, a planned fault of an append, or want of memory, and what each does to the counts
 abbrev pub FailsAppend : MemShelf → MemShelf → List ℕ → Type 0

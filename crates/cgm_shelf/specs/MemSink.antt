@@ -1,6 +1,7 @@
 -- What a sink in memory shows: its bytes, its plan of failing writes and its counts.
-use Rattle.std.specs.Prelude.{◌≡◌, ◌⊎◌, ℕ, List, Contains}
+use Rattle.std.specs.Prelude.{◌≡◌, ◌⊎◌, ℕ, List, Some, Contains}
 use Rattle.cgm_shelf.specs.Faults.{next}
+use Rattle.cgm_shelf.specs.Sink.{SinkState}
 use Rattle.cgm_shelf.specs.declared.mem_sink.MemSink.{MemSink}
 
 -- the bytes written so far
@@ -10,6 +11,10 @@ bytes_of sink = sink.bytes.items
 -- how many writes have failed
 abbrev pub faults_of : MemSink → ℕ
 faults_of sink = sink.writes.faults
+
+-- what contracts see of it: it tells its bytes
+abbrev pub mem_sink_state : MemSink → SinkState
+mem_sink_state sink = record { written = Some (bytes_of sink); faults = faults_of sink }
 
 -- how many writes have failed for want of memory
 abbrev pub refused_of : MemSink → ℕ
@@ -53,4 +58,5 @@ IsFailingWrite sink = Contains (failing_writes sink) (next (writes_made sink))
 
 -- a planned fault, or want of memory, and what each does to the counts
 abbrev pub FailsWrite : MemSink → MemSink → Type 0
-FailsWrite old new = (IsFailingWrite old × AddsFault old new) ⊎ (¬ IsFailingWrite old × AddsRefusal old new)
+FailsWrite old new =
+    (IsFailingWrite old × AddsFault old new) ⊎ (¬ IsFailingWrite old × AddsRefusal old new)

@@ -1,4 +1,4 @@
-// The calls of one kind that a shelf or a sink in memory takes.
+//! The calls of one kind that a shelf or a sink in memory takes.
 ghost use Rattle.std.specs.Prelude.{◌≡◌, ◌↔◌, ◌≤◌, IsTrue, Contains};
 ghost use Rattle.cgm_shelf.specs.Faults.{next};
 

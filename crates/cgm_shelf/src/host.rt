@@ -1,6 +1,8 @@
-// The host's files and its standard output. They tell no content: what the host does is trusted.
-ghost use Rattle.std.specs.Prelude.{◌≡◌, ◌<◌, ◌≤◌, length, None, MatchResult, IfOk, IsErr};
+//! The host's files and its standard output. They tell no content: what the host does is trusted.
+ghost use Rattle.std.specs.Prelude.{◌≡◌, ◌<◌, ◌≤◌, ◌^◌, length, MatchResult, IfOk, IsErr};
 ghost use Rattle.cgm_shelf.specs.Faults.{HasCause, CountsFault};
+ghost use Rattle.cgm_shelf.specs.Shelf.{IsAppend, IsRead, IsStart, untold_shelf};
+ghost use Rattle.cgm_shelf.specs.Sink.{IsWrite, untold_sink};
 
 use crate::{Failed, Shelf, Sink};
 use std::fs::{File, OpenOptions};
@@ -18,8 +20,7 @@ pub struct FileShelf<'a, R: Files> {
 impl<'a, R: Files> FileShelf<'a, R> {
     /// The files that this runtime reaches, with no faults so far.
     pub fn new(rt: &'a R) -> FileShelf<'a, R>
-        ensures reads { ⟦<FileShelf<'a, R> as Shelf>⟧.read_faults result ≡ 0 }
-        ensures writes { ⟦<FileShelf<'a, R> as Shelf>⟧.write_faults result ≡ 0 }
+        ensures { ⟦<FileShelf<'a, R> as Shelf>⟧.state result ≡ untold_shelf 0 0 }
     {
         FileShelf {
             rt,
@@ -30,26 +31,38 @@ impl<'a, R: Files> FileShelf<'a, R> {
 }
 
 impl<R: Files> Shelf for FileShelf<'_, R> {
-    ghost files = { λ _. None };
-
-    ghost read_faults = { λ shelf. shelf.read_faults };
-
-    ghost write_faults = { λ shelf. shelf.write_faults };
+    ghost state = { λ shelf. untold_shelf shelf.read_faults shelf.write_faults };
 
     ghost small = { λ _. tt };
 
-    fn start(&mut self, name: &str) -> Result<(), Failed> {
+    fn start(&mut self, name: &str) -> Result<(), Failed>
+        ensures start { IsStart (untold_shelf self.old.read_faults self.old.write_faults)
+            (untold_shelf self.new.read_faults self.new.write_faults) name.now result }
+
+        ensures counts { CountsFault self.old.write_faults self.new.write_faults result }
+    {
         counted(start_file(self.rt, name), &mut self.write_faults)
     }
 
-    fn read(&mut self, name: &str, at: u64, buf: &mut [u8]) -> Result<usize, Failed> {
+    fn read(&mut self, name: &str, at: u64, buf: &mut [u8]) -> Result<usize, Failed>
+        requires { at < 2 ^ 63 }
+        ensures read { IsRead (untold_shelf self.old.read_faults self.old.write_faults)
+            (untold_shelf self.new.read_faults self.new.write_faults) name.now at buf.new result }
+
+        ensures counts { CountsFault self.old.read_faults self.new.read_faults result }
+    {
         let room = LAST_PLACE - at;
         let most = buf.len().min(room as usize);
         let (front, _) = buf.split_at_mut(most);
         counted(read_file(self.rt, name, at, front), &mut self.read_faults)
     }
 
-    fn append(&mut self, name: &str, piece: &[u8]) -> Result<usize, Failed> {
+    fn append(&mut self, name: &str, piece: &[u8]) -> Result<usize, Failed>
+        ensures append { IsAppend (untold_shelf self.old.read_faults self.old.write_faults)
+            (untold_shelf self.new.read_faults self.new.write_faults) name.now piece.now result }
+
+        ensures counts { CountsFault self.old.write_faults self.new.write_faults result }
+    {
         counted(append_file(self.rt, name, piece), &mut self.write_faults)
     }
 }
@@ -117,18 +130,21 @@ pub struct OutSink<'a, R: Print> {
 impl<'a, R: Print> OutSink<'a, R> {
     /// The output of this runtime, with no faults so far.
     pub fn new(rt: &'a R) -> OutSink<'a, R>
-        ensures { ⟦<OutSink<'a, R> as Sink>⟧.faults result ≡ 0 }
+        ensures { ⟦<OutSink<'a, R> as Sink>⟧.state result ≡ untold_sink 0 }
     {
         OutSink { rt, faults: 0 }
     }
 }
 
 impl<R: Print> Sink for OutSink<'_, R> {
-    ghost written = { λ _. None };
+    ghost state = { λ sink. untold_sink sink.faults };
 
-    ghost faults = { λ sink. sink.faults };
+    fn write(&mut self, piece: &[u8]) -> Result<usize, Failed>
+        ensures write { IsWrite (untold_sink self.old.faults) (untold_sink self.new.faults)
+            piece.now result }
 
-    fn write(&mut self, piece: &[u8]) -> Result<usize, Failed> {
+        ensures counts { CountsFault self.old.faults self.new.faults result }
+    {
         counted(print_some(self.rt, piece), &mut self.faults)
     }
 }

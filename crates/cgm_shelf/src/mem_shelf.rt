@@ -1,8 +1,7 @@
-// A shelf in memory, whose calls fail by a plan.
-ghost use Rattle.std.specs.Prelude.{◌≡◌, ◌<◌, ◌≤◌, ◌^◌, ◌+◌, ℕ, min, List, [], length, take, drop, Some, None, option_copied, IsSome, IsSomeAnd, IfOk, OnOk, OnErr, IsErr};
-ghost use Rattle.cgm_shelf.specs.Faults.{HasCause};
+//! A shelf in memory, whose calls fail by a plan.
+ghost use Rattle.std.specs.Prelude.{◌≡◌, ◌<◌, ◌≤◌, ◌^◌, ℕ, min, List, length, take, drop, Some, None, option_copied, IsSome, IsSomeAnd, IfOk, OnOk, OnErr, IsErr};
 ghost use Rattle.cgm_shelf.specs.MemFiles.{files_in, files_small};
-ghost use Rattle.cgm_shelf.specs.Shelf.{IsMissing, WhereTold, MissingOrRose, OnlyChanges, Leaves, Appends, ReadsFrom};
+ghost use Rattle.cgm_shelf.specs.Shelf.{Appends, IsAppend, IsRead, IsStart, OnlyChanges};
 
 use crate::calls::Calls;
 use crate::{Failed, OutOfMemory, Shelf};
@@ -146,22 +145,15 @@ fn set_bytes(
 }
 
 impl Shelf for MemShelf {
-    ghost use Rattle.cgm_shelf.specs.MemShelf.{mem_files, read_faults_of, write_faults_of, piece_of, moved, KeepsPlan, CountsRead, CountsWrite, IsFailingRead, IsFailingWrite, KeepsFaults, FailsStart, FailsRead, FailsAppend};
+    ghost use Rattle.cgm_shelf.specs.MemShelf.{mem_files, mem_shelf_state, piece_of, moved, KeepsPlan, CountsRead, CountsWrite, IsFailingRead, IsFailingWrite, KeepsFaults, FailsStart, FailsRead, FailsAppend};
 
-    ghost files = { λ shelf. Some (mem_files shelf) };
-
-    ghost read_faults = { read_faults_of };
-
-    ghost write_faults = { write_faults_of };
+    ghost state = { mem_shelf_state };
 
     ghost small = { λ shelf. files_small shelf.files };
 
     fn start(&mut self, name: &str) -> Result<(), Failed>
-        ensures ok { OnOk result (Leaves (Some (mem_files self.old)) (Some (mem_files self.new))
-            name.now []) }
-        ensures err { OnErr result (Some (mem_files self.new) ≡ Some (mem_files self.old)) }
-        ensures reads { read_faults_of self.new ≡ read_faults_of self.old }
-        ensures cause { HasCause (write_faults_of self.old) (write_faults_of self.new) result }
+        ensures start { IsStart (mem_shelf_state self.old) (mem_shelf_state self.new) name.now
+            result }
 
         ensures planned { IsFailingWrite self.old → IsErr result }
         ensures fails { OnErr result (FailsStart self.old self.new) }
@@ -186,17 +178,8 @@ impl Shelf for MemShelf {
 
     fn read(&mut self, name: &str, at: u64, buf: &mut [u8]) -> Result<usize, Failed>
         requires { at < 2 ^ 63 }
-        ensures within { IfOk result (λ count. count ≤ length buf.new) }
-        ensures place { IfOk result (λ count. at + count < 2 ^ 63) }
-        ensures bytes { IfOk result
-            (λ count. WhereTold (Some (mem_files self.old)) name.now (λ file. ReadsFrom file at buf.new count)) }
-        ensures files { Some (mem_files self.new) ≡ Some (mem_files self.old) }
-        ensures writes { write_faults_of self.new ≡ write_faults_of self.old }
-        ensures later { read_faults_of self.old ≤ read_faults_of self.new }
-        ensures cause { OnErr result (MissingOrRose (Some (mem_files self.old)) name.now
-            (read_faults_of self.old) (read_faults_of self.new)) }
-        ensures missing { IsMissing (Some (mem_files self.old)) name.now → IsErr result
-            × (read_faults_of self.new ≡ read_faults_of self.old) }
+        ensures read { IsRead (mem_shelf_state self.old) (mem_shelf_state self.new) name.now at
+            buf.new result }
 
         ensures planned { IsFailingRead self.old → IsErr result }
         ensures fails { OnErr result (FailsRead self.old self.new name.now) }
@@ -221,17 +204,8 @@ impl Shelf for MemShelf {
     }
 
     fn append(&mut self, name: &str, piece: &[u8]) -> Result<usize, Failed>
-        ensures within { IfOk result (λ count. count ≤ length piece.now) }
-        ensures some { IfOk result (λ count. 0 < length piece.now → 0 < count) }
-        ensures ok { IfOk result
-            (λ count. Appends (Some (mem_files self.old)) (Some (mem_files self.new)) name.now (take count piece.now)) }
-        ensures err { OnErr result (Some (mem_files self.new) ≡ Some (mem_files self.old)) }
-        ensures reads { read_faults_of self.new ≡ read_faults_of self.old }
-        ensures later { write_faults_of self.old ≤ write_faults_of self.new }
-        ensures cause { OnErr result (MissingOrRose (Some (mem_files self.old)) name.now
-            (write_faults_of self.old) (write_faults_of self.new)) }
-        ensures missing { IsMissing (Some (mem_files self.old)) name.now → IsErr result
-            × (write_faults_of self.new ≡ write_faults_of self.old) }
+        ensures append { IsAppend (mem_shelf_state self.old) (mem_shelf_state self.new) name.now
+            piece.now result }
 
         ensures planned { IsFailingWrite self.old → IsErr result }
         ensures fails { OnErr result (FailsAppend self.old self.new name.now) }

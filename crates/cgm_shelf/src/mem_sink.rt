@@ -1,7 +1,6 @@
-// A sink in memory, whose writes fail by a plan, and a sink that takes all.
-ghost use Rattle.std.specs.Prelude.{◌≡◌, ◌<◌, ◌≤◌, min, [], length, take, Some, None, IfOk, OnOk, OnErr, IsErr};
-ghost use Rattle.cgm_shelf.specs.Faults.{HasCause};
-ghost use Rattle.cgm_shelf.specs.Sink.{Adds};
+//! A sink in memory, whose writes fail by a plan, and a sink that takes all.
+ghost use Rattle.std.specs.Prelude.{◌≡◌, ◌≤◌, min, [], length, IfOk, OnOk, OnErr, IsErr};
+ghost use Rattle.cgm_shelf.specs.Sink.{IsWrite, untold_sink};
 
 use crate::calls::Calls;
 use crate::{Failed, Sink};
@@ -64,19 +63,13 @@ impl MemSink {
 }
 
 impl Sink for MemSink {
-    ghost use Rattle.cgm_shelf.specs.MemSink.{bytes_of, faults_of, piece_of, CountsWrite, IsFailingWrite, KeepsFaults, FailsWrite};
+    ghost use Rattle.cgm_shelf.specs.MemSink.{mem_sink_state, piece_of, CountsWrite, IsFailingWrite, KeepsFaults, FailsWrite};
 
-    ghost written = { λ sink. Some (bytes_of sink) };
-
-    ghost faults = { faults_of };
+    ghost state = { mem_sink_state };
 
     fn write(&mut self, piece: &[u8]) -> Result<usize, Failed>
-        ensures within { IfOk result (λ count. count ≤ length piece.now) }
-        ensures some { IfOk result (λ count. 0 < length piece.now → 0 < count) }
-        ensures ok { IfOk result (λ count. Adds (Some (bytes_of self.old)) (Some (bytes_of
-            self.new)) (take count piece.now)) }
-        ensures err { OnErr result (Some (bytes_of self.new) ≡ Some (bytes_of self.old)) }
-        ensures cause { HasCause (faults_of self.old) (faults_of self.new) result }
+        ensures write { IsWrite (mem_sink_state self.old) (mem_sink_state self.new) piece.now
+            result }
 
         ensures planned { IsFailingWrite self.old → IsErr result }
         ensures fails { OnErr result (FailsWrite self.old self.new) }
@@ -107,9 +100,7 @@ impl Sink for MemSink {
 pub struct NullSink;
 
 impl Sink for NullSink {
-    ghost written = { λ _. None };
-
-    ghost faults = { λ _. 0 };
+    ghost state = { λ _. untold_sink 0 };
 
     fn write(&mut self, piece: &[u8]) -> Result<usize, Failed>
         ensures whole { result ≡ Ok (length piece.now) }

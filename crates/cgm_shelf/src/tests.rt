@@ -1,4 +1,4 @@
-// Whole reads and writes over the shelves and sinks of this crate.
+//! Whole reads and writes over the shelves and sinks of this crate.
 use crate::{
     FileShelf, MemShelf, MemSink, NullSink, OutSink, ReadStop, Shelf, Sink, read_whole, write_file,
     write_whole,

@@ -1,7 +1,7 @@
-// Whole reads and writes over a shelf or a sink.
+//! Whole reads and writes over a shelf or a sink.
 ghost use Rattle.std.specs.Prelude.{◌≡◌, ◌↔◌, ◌<◌, ◌≤◌, ◌+◌, length, IsTrue, IfOk, OnOk, OnErr, IsErr, IfSome, IsSomeAnd, vec_len};
 ghost use Rattle.cgm_shelf.specs.Faults.{Rose, HasCause};
-ghost use Rattle.cgm_shelf.specs.Shelf.{IsMissing, IsThere, WhereTold, MissingOrRose, Leaves, LeavesPart, ReadsNext, IsLonger};
+ghost use Rattle.cgm_shelf.specs.Shelf.{CantRead, IsLonger, IsMissing, IsThere, Leaves, LeavesPart, OnlyReads, ReadsNext, WhereTold};
 ghost use Rattle.cgm_shelf.specs.Sink.{Adds, AddsPart};
 
 use crate::{Failed, Shelf, Sink};
@@ -32,25 +32,22 @@ pub fn read_whole<F: Shelf>(
     name: &str,
     limit: Option<u64>,
 ) -> Result<Vec<u8>, ReadStop>
-    ensures ok { IfOk result (λ bytes. WhereTold (F.files shelf.old) name.now (λ file. bytes.items
-        ≡ file)) }
+    ensures ok { IfOk result
+        (λ bytes. WhereTold (F.state shelf.old).files name.now (λ file. bytes.items ≡ file)) }
     ensures fits { IfOk result (λ bytes. IfSome limit (λ most. vec_len bytes ≤ most)) }
 
     ensures fault { result ≡ Err ReadStop.Fault
-        → MissingOrRose (F.files shelf.old) name.now (F.read_faults shelf.old) (F.read_faults
-        shelf.new) }
-    ensures missing { IsMissing (F.files shelf.old) name.now →
-        (result ≡ Err ReadStop.Fault) × (F.read_faults shelf.new ≡ F.read_faults shelf.old) }
-    ensures there { IsThere (F.files shelf.old) name.now → result ≡ Err ReadStop.Fault →
-        Rose (F.read_faults shelf.old) (F.read_faults shelf.new) }
+        → CantRead (F.state shelf.old) (F.state shelf.new) name.now }
+    ensures missing { IsMissing (F.state shelf.old).files name.now → (result ≡ Err ReadStop.Fault)
+        × ((F.state shelf.new).read_faults ≡ (F.state shelf.old).read_faults) }
+    ensures there { IsThere (F.state shelf.old).files name.now → result ≡ Err ReadStop.Fault
+        → Rose (F.state shelf.old).read_faults (F.state shelf.new).read_faults }
 
-    ensures too_long { result ≡ Err ReadStop.TooLong →
-        IsSomeAnd limit (λ most. WhereTold (F.files shelf.old) name.now (λ file. most < length file)) }
-    ensures longer { IsLonger (F.files shelf.old) name.now limit → IsErr result }
+    ensures too_long { result ≡ Err ReadStop.TooLong → IsSomeAnd limit
+        (λ most. WhereTold (F.state shelf.old).files name.now (λ file. most < length file)) }
+    ensures longer { IsLonger (F.state shelf.old).files name.now limit → IsErr result }
 
-    ensures files { F.files shelf.new ≡ F.files shelf.old }
-    ensures writes { F.write_faults shelf.new ≡ F.write_faults shelf.old }
-    ensures later { F.read_faults shelf.old ≤ F.read_faults shelf.new }
+    ensures only { OnlyReads (F.state shelf.old) (F.state shelf.new) }
 {
     let mut bytes = Vec::new(alloc);
     let mut buffer = [0; READ_SIZE];
@@ -72,22 +69,19 @@ fn read_more<F: Shelf>(
     bytes: &mut Vec<u8>,
 ) -> Result<usize, ReadStop>
     requires { IfSome limit (λ most. vec_len bytes.old ≤ most) }
-    ensures ok { IfOk result (λ count. WhereTold (F.files shelf.old) name.now
+    ensures ok { IfOk result (λ count. WhereTold (F.state shelf.old).files name.now
         (λ file. ReadsNext file bytes.old.items bytes.new.items count)) }
     ensures grows { IfOk result (λ count. vec_len bytes.new ≡ vec_len bytes.old + count) }
     ensures fits { OnOk result (IfSome limit (λ most. vec_len bytes.new ≤ most)) }
 
     ensures fault { result ≡ Err ReadStop.Fault
-        → MissingOrRose (F.files shelf.old) name.now (F.read_faults shelf.old) (F.read_faults
-        shelf.new) }
-    ensures missing { IsMissing (F.files shelf.old) name.now →
-        (result ≡ Err ReadStop.Fault) × (F.read_faults shelf.new ≡ F.read_faults shelf.old) }
-    ensures too_long { result ≡ Err ReadStop.TooLong →
-        IsSomeAnd limit (λ most. WhereTold (F.files shelf.old) name.now (λ file. most < length file)) }
+        → CantRead (F.state shelf.old) (F.state shelf.new) name.now }
+    ensures missing { IsMissing (F.state shelf.old).files name.now → (result ≡ Err ReadStop.Fault)
+        × ((F.state shelf.new).read_faults ≡ (F.state shelf.old).read_faults) }
+    ensures too_long { result ≡ Err ReadStop.TooLong → IsSomeAnd limit
+        (λ most. WhereTold (F.state shelf.old).files name.now (λ file. most < length file)) }
 
-    ensures files { F.files shelf.new ≡ F.files shelf.old }
-    ensures writes { F.write_faults shelf.new ≡ F.write_faults shelf.old }
-    ensures later { F.read_faults shelf.old ≤ F.read_faults shelf.new }
+    ensures only { OnlyReads (F.state shelf.old) (F.state shelf.new) }
 {
     match shelf.read(name, bytes.len() as u64, buffer) {
         Ok(count) => {
@@ -117,11 +111,13 @@ fn is_past(limit: Option<u64>, count: usize) -> bool
 /// Makes the named file hold exactly these bytes. After a fault it is as before, or holds a front of
 /// them.
 pub fn write_file<F: Shelf>(shelf: &mut F, name: &str, bytes: &[u8]) -> Result<(), Failed>
-    ensures ok { OnOk result (Leaves (F.files shelf.old) (F.files shelf.new) name.now bytes.now) }
-    ensures err { OnErr result (LeavesPart (F.files shelf.old) (F.files shelf.new) name.now
-        bytes.now) }
-    ensures reads { F.read_faults shelf.new ≡ F.read_faults shelf.old }
-    ensures cause { HasCause (F.write_faults shelf.old) (F.write_faults shelf.new) result }
+    ensures ok { OnOk result
+        (Leaves (F.state shelf.old).files (F.state shelf.new).files name.now bytes.now) }
+    ensures err { OnErr result
+        (LeavesPart (F.state shelf.old).files (F.state shelf.new).files name.now bytes.now) }
+    ensures reads { (F.state shelf.new).read_faults ≡ (F.state shelf.old).read_faults }
+    ensures cause { HasCause (F.state shelf.old).write_faults (F.state shelf.new).write_faults
+        result }
 {
     shelf.start(name)?;
     let mut stored = 0;
@@ -135,9 +131,9 @@ pub fn write_file<F: Shelf>(shelf: &mut F, name: &str, bytes: &[u8]) -> Result<(
 
 /// Adds exactly these bytes to the sink. After a fault a front of them was added.
 pub fn write_whole<O: Sink>(sink: &mut O, bytes: &[u8]) -> Result<(), Failed>
-    ensures ok { OnOk result (Adds (O.written sink.old) (O.written sink.new) bytes.now) }
-    ensures err { OnErr result (AddsPart (O.written sink.old) (O.written sink.new) bytes.now) }
-    ensures cause { HasCause (O.faults sink.old) (O.faults sink.new) result }
+    ensures ok { OnOk result (Adds (O.state sink.old) (O.state sink.new) bytes.now) }
+    ensures err { OnErr result (AddsPart (O.state sink.old) (O.state sink.new) bytes.now) }
+    ensures cause { HasCause (O.state sink.old).faults (O.state sink.new).faults result }
 {
     let mut written = 0;
     while written < bytes.len() {

@@ -5,11 +5,11 @@ use Rattle.cgm_shelf.proofs.whole.read_whole.Given as goal
 
 abbrev pub invariant-loop-bytes : goal.invariant-loop-bytes
 invariant-loop-bytes g l = record {
-  files : g.F.Shelf.files l.shelf ≡ g.F.Shelf.files l.fn.shelf;
-  writes : g.F.Shelf.write_faults l.shelf ≡ g.F.Shelf.write_faults l.fn.shelf;
-  later : g.F.Shelf.read_faults l.fn.shelf ≤ g.F.Shelf.read_faults l.shelf;
-  missing : IsMissing (g.F.Shelf.files l.fn.shelf) l.name → g.F.Shelf.read_faults l.shelf ≡ g.F.Shelf.read_faults l.fn.shelf;
-  front : IsFront (g.F.Shelf.files l.fn.shelf) l.name l.bytes.items;
+  files : (g.F.Shelf.state l.shelf).files ≡ (g.F.Shelf.state l.fn.shelf).files;
+  writes : (g.F.Shelf.state l.shelf).write_faults ≡ (g.F.Shelf.state l.fn.shelf).write_faults;
+  later : (g.F.Shelf.state l.fn.shelf).read_faults ≤ (g.F.Shelf.state l.shelf).read_faults;
+  missing : IsMissing (g.F.Shelf.state l.fn.shelf).files l.name → (g.F.Shelf.state l.shelf).read_faults ≡ (g.F.Shelf.state l.fn.shelf).read_faults;
+  front : IsFront (g.F.Shelf.state l.fn.shelf).files l.name l.bytes.items;
   fits : IfSome l.limit (λ most. vec_len l.bytes ≤ most);
 }
 

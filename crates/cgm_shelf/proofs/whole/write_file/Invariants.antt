@@ -5,9 +5,9 @@ use Rattle.cgm_shelf.proofs.whole.write_file.Given as goal
 abbrev pub invariant-loop-stored : goal.invariant-loop-stored
 invariant-loop-stored g l = record {
   inside : l.stored ≤ length l.bytes;
-  left : Leaves (g.F.Shelf.files l.fn.shelf) (g.F.Shelf.files l.shelf) l.name (take l.stored l.bytes);
-  reads : g.F.Shelf.read_faults l.shelf ≡ g.F.Shelf.read_faults l.fn.shelf;
-  later : g.F.Shelf.write_faults l.fn.shelf ≤ g.F.Shelf.write_faults l.shelf;
+  left : Leaves (g.F.Shelf.state l.fn.shelf).files (g.F.Shelf.state l.shelf).files l.name (take l.stored l.bytes);
+  reads : (g.F.Shelf.state l.shelf).read_faults ≡ (g.F.Shelf.state l.fn.shelf).read_faults;
+  later : (g.F.Shelf.state l.fn.shelf).write_faults ≤ (g.F.Shelf.state l.shelf).write_faults;
 }
 
 abbrev pub decreases-loop-stored : goal.decreases-loop-stored

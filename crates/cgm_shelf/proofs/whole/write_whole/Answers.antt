@@ -4,7 +4,7 @@ use Rattle.cgm_shelf.proofs.whole.write_whole.Goals as goal
 
 pub loop-written-preserved : goal.loop-written-preserved
 loop-written-preserved g c =
-    let added = Adds-more (g.O.Sink.written c.args.sink.now) (g.O.Sink.written c.loop-written.sink) (g.O.Sink.written c.write.new.self) _ _ c.loop-written.invariant.added c.in_ok-count.ensures.ok in
+    let added = Adds-more (g.O.Sink.state c.args.sink.now) (g.O.Sink.state c.loop-written.sink) (g.O.Sink.state c.write.new.self) _ _ c.loop-written.invariant.added c.in_ok-count.ensures.ok in
     record {
       inside = omega (arith, c.in_ok-count.ensures.within);
       added = rw (← take_on c.args.bytes.now c.split_at.result.1.now c.loop-written.written c.in_ok-count.count c.split_at.ensures.back) added;

@@ -8,7 +8,6 @@ mod fault;
 mod form;
 mod index;
 mod laws;
-mod leaves;
 mod line;
 mod printer;
 mod reader;
@@ -21,6 +20,5 @@ pub use laws::{
     canonical_earlier_text_is_read_back, earlier_text_has_one_fault, earlier_text_has_one_list,
     earlier_text_has_pairs_or_fault,
 };
-pub use leaves::is_leaf_task;
 pub use printer::print_earlier;
 pub use reader::{EarlierStop, read_earlier};

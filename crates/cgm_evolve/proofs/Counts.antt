@@ -7,7 +7,7 @@ use Rattle.cgm_base.specs.Words.{limit_number}
 use Rattle.cgm_model.specs.declared.lists.Lists.{Lists}
 use Rattle.cgm_model.specs.WellFormed.{IsWellFormed}
 use Rattle.cgm_evolve.specs.Costs.{elements_of_interest, interests_or}
-use Rattle.cgm_evolve.specs.Leaves.{element_numbers, is_leaf_task, leaf_tasks}
+use Rattle.cgm_model.specs.Leaves.{element_numbers, is_leaf_task, leaf_tasks}
 
 pub elements_few : (m : Lists) (p : ℕ → Bool) → IsWellFormed m → count_by p (element_numbers m) ≤ limit_number limits.Statements
 elements_few m p w =

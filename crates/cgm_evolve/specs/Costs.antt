@@ -6,7 +6,7 @@ use Rattle.cgm_formula.specs.declared.formula.Truth.TheVariants.{Element}
 use Rattle.cgm_formula.specs.Reading.{name_in}
 use Rattle.cgm_model.specs.declared.lists.Lists.{Lists}
 use Rattle.cgm_model.specs.Named.{element_names}
-use Rattle.cgm_evolve.specs.Leaves.{is_leaf_task, leaf_tasks}
+use Rattle.cgm_model.specs.Leaves.{is_leaf_task, leaf_tasks}
 use Rattle.cgm_evolve.specs.Pairs.{Pair, truth_in}
 
 -- the elements on interest lines, or these others where there is no such line

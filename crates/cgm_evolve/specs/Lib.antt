@@ -1,6 +1,5 @@
 pub mod Costs
 pub mod Index
-pub mod Leaves
 pub mod Line
 pub mod Pairs
 pub mod Progress

@@ -7,10 +7,9 @@ ghost use Rattle.cgm_model.specs.Assignment.{Fits};
 ghost use Rattle.cgm_model.specs.Model.{lists_of};
 ghost use Rattle.cgm_model.specs.Named.{element_names};
 ghost use Rattle.cgm_evolve.specs.Costs as costs;
-ghost use Rattle.cgm_evolve.specs.Leaves.{leaf_tasks};
+ghost use Rattle.cgm_model.specs.Leaves.{leaf_tasks};
 
 use crate::earlier::Earlier;
-use crate::leaves::is_leaf_task;
 use cgm_model::{Assignment, Model};
 
 /// The number of elements.
@@ -73,7 +72,7 @@ fn was_true(earlier: Option<bool>) -> bool
 fn is_new_work(m: &Model, e: &Earlier, a: &Assignment, element: u32) -> bool
     ensures { result ≡ costs.is_new_work (lists_of m.now) e.now.pairs a.now element }
 {
-    is_leaf_task(m, element) && is_true(a, element) && !was_true(earlier_truth(m, e, element))
+    m.is_leaf_task(element) && is_true(a, element) && !was_true(earlier_truth(m, e, element))
 }
 
 /// The elements on interest lines.
@@ -99,7 +98,7 @@ fn changed_leaf_tasks(m: &Model, e: &Earlier, a: &Assignment) -> usize
     ensures { result ≡ count_by (costs.is_changed (lists_of m.now) e.now.pairs a.now) (leaf_tasks (lists_of m.now)) }
 {
     (0..element_count(m))
-        .filter(|element| is_leaf_task(m, *element))
+        .filter(|element| m.is_leaf_task(*element))
         .filter(|element| is_changed(m, e, a, *element))
         .count()
 }
@@ -131,7 +130,7 @@ fn new_work_of_leaf_tasks(m: &Model, e: &Earlier, a: &Assignment) -> usize
     ensures { result ≡ count_by (costs.is_new_work (lists_of m.now) e.now.pairs a.now) (leaf_tasks (lists_of m.now)) }
 {
     (0..element_count(m))
-        .filter(|element| is_leaf_task(m, *element))
+        .filter(|element| m.is_leaf_task(*element))
         .filter(|element| is_new_work(m, e, a, *element))
         .count()
 }

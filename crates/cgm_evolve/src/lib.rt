@@ -7,7 +7,6 @@ mod earlier;
 mod form;
 mod index;
 mod laws;
-mod leaves;
 mod printer;
 mod reader;
 
@@ -19,6 +18,5 @@ pub use laws::{
     earlier_text_fails_at_its_first_faulty_line, earlier_text_has_one_fault,
     earlier_text_has_one_list, earlier_text_has_pairs_or_fault, earlier_text_is_header_and_pairs,
 };
-pub use leaves::is_leaf_task;
 pub use printer::print_earlier;
 pub use reader::read_earlier;

@@ -11,6 +11,7 @@ pub mod Lookups
 pub mod Marking
 pub mod Meeting
 pub mod Places
+pub mod Refined
 pub mod Refusals
 pub mod Rules
 pub mod Sizes

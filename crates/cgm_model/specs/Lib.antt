@@ -2,9 +2,11 @@ pub mod Assignment
 pub mod Canonical
 pub mod Checks
 pub mod Distinct
+pub mod Facts
 pub mod Formulas
 pub mod Graph
 pub mod Keeping
+pub mod Leaves
 pub mod Lists
 pub mod Met
 pub mod Model

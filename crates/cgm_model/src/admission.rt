@@ -1,5 +1,5 @@
 //! The tests that a statement has to pass, in their order.
-ghost use Rattle.std.specs.Prelude.{◌≡◌, false, length, map, slice_get, slice_index_or, option_to_list, option_copied};
+ghost use Rattle.std.specs.Prelude.{◌≡◌, length, option_to_list, option_copied};
 ghost use Rattle.cgm_model.specs.declared.lists.Lists.{Lists};
 ghost use Rattle.std.specs.List.{list_all};
 ghost use Rattle.cgm_base.specs.declared.limit.Which.TheVariants as limits;
@@ -11,12 +11,12 @@ ghost use Rattle.cgm_model.specs.WellFormed.{IsWellFormed};
 ghost use Rattle.cgm_model.specs.Keeping.{AreFor};
 
 use crate::aids::Aids;
+use crate::facts::{is_marked, kind_at};
 use crate::formulas::LinearTest;
-use crate::lists::{Element, ElementKind, Lists, Statement};
+use crate::lists::{ElementKind, Lists, Statement};
 use crate::stop::{AddStop, Fault};
 use crate::{formulas, limits, names, spelling};
 use cgm_base::Which;
-use sqlite_items::at;
 
 /// The answer of the first test that the statement fails. `acyclic` says whether the graph has no
 /// cycle with it.
@@ -225,27 +225,12 @@ fn has_new_interest(aids: &Aids, s: &Statement) -> bool
     }
 }
 
-fn is_marked(marks: &[bool], number: u32) -> bool
-    ensures { result ≡ slice_index_or marks.now number false }
-{
-    marks.get(number as usize).copied().unwrap_or(false)
-}
-
 fn target_kind(m: &Lists, s: &Statement) -> Option<ElementKind>
     ensures { result ≡ tests.target_kind m.now s.now }
 {
     match s {
         Statement::Refine(r) => kind_at(m.elements.as_slice(), r.target),
         _ => None,
-    }
-}
-
-fn kind_at(elements: &[Element], number: u32) -> Option<ElementKind>
-    ensures { result ≡ slice_get (map (λ e. e.kind) elements.now) number }
-{
-    match at(elements, number as usize) {
-        None => None,
-        Some(e) => Some(e.kind),
     }
 }
 

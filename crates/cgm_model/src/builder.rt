@@ -1,5 +1,6 @@
 //! A model that is made statement by statement.
 ghost use Rattle.std.specs.Prelude.{◌≡◌, ◌↔◌, ◌+◌, if◌then◌else◌, length, is_ok, IsTrue, OnOk, OnErr, IfErr};
+ghost use Rattle.cgm_model.specs.Facts.{AreFacts};
 ghost use Rattle.cgm_model.specs.Graph.{IsAcyclic};
 ghost use Rattle.cgm_model.specs.declared.lists.Lists.{Lists};
 ghost use Rattle.cgm_model.specs.Keeping.{AreFor, HasRoom};
@@ -10,6 +11,7 @@ ghost use Rattle.cgm_model.specs.Statement.{IsProper, IsAllowed, IsNotAdded};
 ghost use Rattle.cgm_model.specs.WellFormed.{IsWellFormed};
 
 use crate::aids::Aids;
+use crate::facts::Facts;
 use crate::graph::Graph;
 use crate::lists::{Element, Lists, Refinement, Rule, Statement, Sum, Thing, Variable};
 use crate::model::Model;
@@ -88,7 +90,8 @@ impl ModelBuilder {
     pub fn finish(self) -> Model
         ensures { lists_of result ≡ self }
     {
-        let ModelBuilder { lists, aids: _ } = self;
+        let ModelBuilder { lists, aids } = self;
+        let facts = facts_of(&lists, aids);
         let Lists {
             elements,
             refinements,
@@ -122,8 +125,25 @@ impl ModelBuilder {
             rules,
             interests,
             objectives,
+            facts,
         }
     }
+}
+
+/// The facts of the graph, by what was kept to find cycles.
+fn facts_of(m: &Lists, aids: Aids) -> Facts
+    requires well_formed { IsWellFormed m.now }
+    requires aids { AreFor m.now aids }
+    ensures { AreFacts m.now.refinements result }
+{
+    let Aids {
+        alloc: _,
+        names: _,
+        graph,
+        node_room: _,
+        interests: _,
+    } = aids;
+    Facts::of(graph, m.refinements.as_slice())
 }
 
 fn empty_lists(alloc: Global) -> Lists

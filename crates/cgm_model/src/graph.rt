@@ -15,11 +15,11 @@ use std::alloc::Global;
 #[derive(Drop)]
 pub(crate) struct Graph {
     /// For each element the numbers of the refinements that have it as target, and maybe others.
-    by_target: Vec<Items<u32>>,
+    pub(crate) by_target: Vec<Items<u32>>,
     /// For each element whether it is a source, or was to become one.
-    is_source: Vec<bool>,
-    queue: Vec<u32>,
-    marks: Vec<bool>,
+    pub(crate) is_source: Vec<bool>,
+    pub(crate) queue: Vec<u32>,
+    pub(crate) marks: Vec<bool>,
 }
 
 impl Graph {
@@ -126,8 +126,8 @@ fn is_unreached(
     !marks[r.target as usize]
 }
 
-fn unmark_all(marks: &mut [bool])
-    ensures { (element : ℕ) → ¬ IsMarked marks.new element }
+pub(crate) fn unmark_all(marks: &mut [bool])
+    ensures { (element : ℕ) → slice_index_or marks.new element false ≡ false }
 {
     for mark in marks.iter_mut() {
         *mark = false;

@@ -5,6 +5,7 @@ mod admission;
 mod aids;
 mod assignment;
 mod builder;
+mod facts;
 mod formulas;
 mod graph;
 mod limits;

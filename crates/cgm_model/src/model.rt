@@ -1,7 +1,9 @@
 //! A well-formed model.
+ghost use Rattle.cgm_model.specs.Facts.{AreFacts};
 ghost use Rattle.cgm_model.specs.Lists.{lists};
 ghost use Rattle.cgm_model.specs.WellFormed.{IsWellFormed};
 
+use crate::facts::Facts;
 use crate::lists::{
     Assertion, Edge, Element, Objective, Preference, Refinement, Rule, Sum, SumValue, Variable,
     Weighing,
@@ -26,5 +28,8 @@ pub struct Model {
     pub rules: Parts<Rule>,
     pub interests: Parts<u32>,
     pub objectives: Parts<Objective>,
+    /// What its goal graph's elements are, each found in one look.
+    pub(crate) facts: Facts,
     pub ghost well_formed: { ∥ IsWellFormed (lists elements refinements vars sums contribs conflicts binds asserts values rewards penalties prefers rules interests objectives) ∥₁ },
+    pub ghost known: { ∥ AreFacts refinements facts ∥₁ },
 }

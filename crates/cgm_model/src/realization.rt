@@ -12,6 +12,7 @@ ghost use Rattle.cgm_model.specs.Place.{Each, FirstFails};
 ghost use Rattle.cgm_model.specs.Sums.{sums_of};
 ghost use Rattle.cgm_model.specs.Realization.{IsRealization, IsFirstBroken, KeepsRefinement, KeepsElement, KeepsContrib, KeepsConflict, KeepsBind, KeepsMust, KeepsAssertion, KeepsRule, Refines, TargetIsTrue};
 
+use crate::facts::by_target;
 use crate::lists::{Assertion, Edge, Element, Refinement, Rule};
 use crate::model::Model;
 use cgm_formula::{Assignment, Truth, holds};
@@ -255,24 +256,29 @@ fn keeps_assertion(a: &Assignment, assertion: &Assertion) -> bool
 fn is_refined(m: &Model, element: u32) -> bool
     ensures { IsTrue result ↔ ((k : ℕ) × Refines (lists_of m.now) k element) }
 {
-    for r in refinements(m) {
-        if r.target == element {
-            return true;
-        }
-    }
-    false
+    !m.is_leaf(element)
 }
 
 fn has_true_refinement(m: &Model, a: &Assignment, element: u32) -> bool
     ensures { IsTrue result ↔ ((k : ℕ) × (Refines (lists_of m.now) k element
         × RefinementIsTrue a.now k)) }
 {
-    for (number, r) in refinements(m).iter().enumerate() {
-        if r.target == element && refinement_is_true(a, number as u32) {
+    for number in by_target(&m.facts, element) {
+        if is_true_refinement(m, a, *number, element) {
             return true;
         }
     }
     false
+}
+
+fn is_true_refinement(m: &Model, a: &Assignment, number: u32, element: u32) -> bool
+    ensures { IsTrue result ↔ (Refines (lists_of m.now) number element
+        × RefinementIsTrue a.now number) }
+{
+    match at(m.refinements.as_slice(), number as usize) {
+        None => false,
+        Some(r) => r.target == element && refinement_is_true(a, number),
+    }
 }
 
 fn are_true(a: &Assignment, elements: &[u32]) -> bool

@@ -1,6 +1,5 @@
 -- Preferences and requirements that aren't met, and leaf tasks that are true.
-use Rattle.std.specs.Prelude.{ℕ, ◌==◌, Bool, true, false, ◌&&◌, ◌||◌, not, Option, None, Some, count_by, slice_get}
-use Rattle.std.specs.List.{list_any}
+use Rattle.std.specs.Prelude.{ℕ, Bool, true, false, ◌&&◌, ◌||◌, not, Option, None, Some, count_by, slice_get}
 use Rattle.cgm_formula.specs.declared.assignment.Assignment.{Assignment}
 use Rattle.cgm_formula.specs.Reading.{name_in}
 use Rattle.cgm_model.specs.declared.lists.Element.{Element}
@@ -9,7 +8,7 @@ use Rattle.cgm_model.specs.declared.lists.ElementKind.TheVariants as kinds
 use Rattle.cgm_model.specs.declared.lists.Lists.{Lists}
 use Rattle.cgm_model.specs.declared.lists.Preference.{Preference}
 use Rattle.cgm_evolve.specs.Costs.{is_true}
-use Rattle.cgm_evolve.specs.Leaves.{element_numbers, leaf_tasks}
+use Rattle.cgm_model.specs.Leaves.{element_numbers, is_source, leaf_tasks}
 
 -- the better one is true, or the worse one false
 abbrev pub is_met : Assignment → Preference → Bool
@@ -18,10 +17,6 @@ is_met a p = name_in a p.better || not (name_in a p.worse)
 -- the preferences that aren't met
 abbrev pub unsat_prefs : Lists → Assignment → ℕ
 unsat_prefs m a = count_by (λ p. not (is_met a p)) m.prefers
-
--- the element is a source of a refinement
-abbrev pub is_source : Lists → ℕ → Bool
-is_source m element = list_any (λ r. list_any (λ source. source == element) r.sources) m.refinements
 
 -- the element is a source of no refinement
 abbrev pub is_root : Lists → ℕ → Bool

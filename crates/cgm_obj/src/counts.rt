@@ -1,5 +1,5 @@
 //! Counts of preferences, requirements and tasks.
-ghost use Rattle.std.specs.Prelude.{◌≡◌, ◌&&◌, ℕ, IfOk, ◌≤◌, not, false, pos, count_by, length, slice_get, slice_index_or};
+ghost use Rattle.std.specs.Prelude.{◌≡◌, ◌&&◌, ◌≤◌, not, false, pos, count_by, length, slice_get, slice_index_or};
 ghost use Rattle.cgm_base.specs.declared.limit.Which.TheVariants as limits;
 ghost use Rattle.cgm_base.specs.Words.{limit_number};
 ghost use Rattle.cgm_formula.specs.Reading.{name_in};
@@ -7,10 +7,7 @@ ghost use Rattle.cgm_model.specs.Model.{lists_of};
 ghost use Rattle.cgm_evolve.specs.Costs as costs;
 ghost use Rattle.cgm_obj.specs.Counts as counts;
 
-use crate::sources::source_marks;
-use cgm_evolve::is_leaf_task;
 use cgm_model::{Assignment, ElementKind, Model, Preference, Truth};
-use std::alloc::{AllocError, Global};
 
 /// Says whether the element is true; what isn't there is false, here and below.
 pub(crate) fn is_true(a: &Assignment, element: u32) -> bool
@@ -92,22 +89,19 @@ fn is_free_goal(m: &Model, element: u32) -> bool
     }
 }
 
-/// The mark at an element's number; false past the end.
-fn is_marked(marks: &[bool], element: u32) -> bool
-    ensures { result ≡ slice_index_or marks.now element false }
+/// Says whether the element is a requirement without `must`: a goal without it that is a source of no
+/// refinement. It takes no memory.
+pub fn is_free_requirement(m: &Model, element: u32) -> bool
+    ensures { result ≡ counts.is_free_requirement (lists_of m.now) element }
 {
-    match marks.get(element as usize) {
-        None => false,
-        Some(mark) => *mark,
-    }
+    is_free_goal(m, element) && !m.is_source(element)
 }
 
 /// Says whether the element is a false requirement without `must`.
-fn is_unmet_requirement(m: &Model, a: &Assignment, sources: &[bool], element: u32) -> bool
-    requires { (k : ℕ) → slice_index_or sources.now k false ≡ counts.is_source (lists_of m.now) k }
+fn is_unmet_requirement(m: &Model, a: &Assignment, element: u32) -> bool
     ensures { result ≡ (counts.is_free_requirement (lists_of m.now) element && not (costs.is_true a.now element)) }
 {
-    is_free_goal(m, element) && !is_marked(sources, element) && !is_true(a, element)
+    is_free_requirement(m, element) && !is_true(a, element)
 }
 
 fn element_count(m: &Model) -> u32
@@ -116,22 +110,20 @@ fn element_count(m: &Model) -> u32
     m.elements.as_slice().len() as u32
 }
 
-fn unmet_requirements(m: &Model, a: &Assignment, sources: &[bool]) -> usize
-    requires { (k : ℕ) → slice_index_or sources.now k false ≡ counts.is_source (lists_of m.now) k }
+fn unmet_requirements(m: &Model, a: &Assignment) -> usize
     ensures count { result ≡ counts.unsat_reqs (lists_of m.now) a.now }
     ensures few { result ≤ limit_number limits.Statements }
 {
     (0..element_count(m))
-        .filter(|element| is_unmet_requirement(m, a, sources, *element))
+        .filter(|element| is_unmet_requirement(m, a, *element))
         .count()
 }
 
 /// How many requirements without `must` are false.
-pub(crate) fn unsat_reqs(alloc: Global, m: &Model, a: &Assignment) -> Result<i64, AllocError>
-    ensures { IfOk result (λ number. number ≡ pos (counts.unsat_reqs (lists_of m.now) a.now)) }
+pub(crate) fn unsat_reqs(m: &Model, a: &Assignment) -> i64
+    ensures { result ≡ pos (counts.unsat_reqs (lists_of m.now) a.now) }
 {
-    let sources = source_marks(alloc, m)?;
-    Ok(number(unmet_requirements(m, a, sources.as_slice())))
+    number(unmet_requirements(m, a))
 }
 
 fn true_leaf_tasks(m: &Model, a: &Assignment) -> usize
@@ -139,7 +131,7 @@ fn true_leaf_tasks(m: &Model, a: &Assignment) -> usize
     ensures few { result ≤ limit_number limits.Statements }
 {
     (0..element_count(m))
-        .filter(|element| is_leaf_task(m, *element))
+        .filter(|element| m.is_leaf_task(*element))
         .filter(|element| is_true(a, *element))
         .count()
 }

@@ -1,5 +1,5 @@
 //! The value of a quantity.
-ghost use Rattle.std.specs.Prelude.{◌≡◌, pos, IfOk, slice_index_or};
+ghost use Rattle.std.specs.Prelude.{◌≡◌, pos, slice_index_or};
 ghost use Rattle.cgm_model.specs.Assignment.{Fits};
 ghost use Rattle.cgm_model.specs.Model.{lists_of};
 ghost use Rattle.cgm_model.specs.Sums.{sums_of};
@@ -9,7 +9,6 @@ use crate::counts::{sat_tasks, unsat_prefs, unsat_reqs};
 use crate::weights::weight;
 use cgm_evolve::{Earlier, effort, familiarity};
 use cgm_model::{Assignment, Model, Quantity};
-use std::alloc::{AllocError, Global};
 
 /// The number at this place, or 0 past the end.
 fn number_at(numbers: &[i64], place: u32) -> i64
@@ -22,26 +21,19 @@ fn number_at(numbers: &[i64], place: u32) -> i64
 }
 
 /// The value of a quantity.
-pub(crate) fn quantity(
-    alloc: Global,
-    m: &Model,
-    e: &Earlier,
-    a: &Assignment,
-    sums: &[i64],
-    q: Quantity,
-) -> Result<i64, AllocError>
+pub(crate) fn quantity(m: &Model, e: &Earlier, a: &Assignment, sums: &[i64], q: Quantity) -> i64
     requires fits { Fits (lists_of m.now) a.now }
     requires sums { sums.now ≡ sums_of (lists_of m.now) a.now }
-    ensures { IfOk result (λ number. number ≡ vectors.quantity (lists_of m.now) e.now.pairs a.now q) }
+    ensures { result ≡ vectors.quantity (lists_of m.now) e.now.pairs a.now q }
 {
     match q {
-        Quantity::Var(k) => Ok(number_at(a.vars.as_slice(), k)),
-        Quantity::Sum(k) => Ok(number_at(sums, k)),
-        Quantity::Weight => Ok(weight(m, a)),
-        Quantity::UnsatPrefs => Ok(unsat_prefs(m, a)),
-        Quantity::UnsatReqs => unsat_reqs(alloc, m, a),
-        Quantity::SatTasks => Ok(sat_tasks(m, a)),
-        Quantity::Familiarity => Ok(familiarity(m, e, a)),
-        Quantity::Effort => Ok(effort(m, e, a)),
+        Quantity::Var(k) => number_at(a.vars.as_slice(), k),
+        Quantity::Sum(k) => number_at(sums, k),
+        Quantity::Weight => weight(m, a),
+        Quantity::UnsatPrefs => unsat_prefs(m, a),
+        Quantity::UnsatReqs => unsat_reqs(m, a),
+        Quantity::SatTasks => sat_tasks(m, a),
+        Quantity::Familiarity => familiarity(m, e, a),
+        Quantity::Effort => effort(m, e, a),
     }
 }

@@ -18,23 +18,16 @@ fn negated(x: i64) -> i64
 }
 
 /// The number of an objective in the vector.
-fn objective_number(
-    alloc: Global,
-    m: &Model,
-    e: &Earlier,
-    a: &Assignment,
-    sums: &[i64],
-    o: Objective,
-) -> Result<i64, AllocError>
+fn objective_number(m: &Model, e: &Earlier, a: &Assignment, sums: &[i64], o: Objective) -> i64
     requires fits { Fits (lists_of m.now) a.now }
     requires sums { sums.now ≡ sums_of (lists_of m.now) a.now }
-    ensures { IfOk result (λ number. number ≡ number_of_objective (lists_of m.now) e.now.pairs a.now o) }
+    ensures { result ≡ number_of_objective (lists_of m.now) e.now.pairs a.now o }
 {
-    let number = quantity(alloc, m, e, a, sums, o.of)?;
+    let number = quantity(m, e, a, sums, o.of);
     if o.max {
-        return Ok(negated(number));
+        return negated(number);
     }
-    Ok(number)
+    number
 }
 
 /// The vector of an assignment: one number for each objective, in order, the quantity for `min` and
@@ -53,7 +46,7 @@ pub fn vector(
 {
     let mut numbers = Vec::new(alloc);
     for o in m.objectives.as_slice() {
-        numbers.push(objective_number(alloc, m, e, a, sums, *o)?)?;
+        numbers.push(objective_number(m, e, a, sums, *o))?;
     }
     Ok(numbers)
 }

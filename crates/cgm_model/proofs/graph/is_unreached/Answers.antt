@@ -8,7 +8,7 @@ use Rattle.cgm_model.proofs.graph.is_unreached.Goals as goal
 
 pub mark_each-count-requires-clause-search : goal.mark_each-count-requires-clause-search
 mark_each-count-requires-clause-search c =
-    IsSearch-begun c.unmark_all.new.marks c.args.queue.now (omega (arith, c.requires.queue, c.unmark_all.auto.marks)) c.unmark_all.ensures
+    IsSearch-begun c.unmark_all.new.marks c.args.queue.now (omega (arith, c.requires.queue, c.unmark_all.auto.marks)) (λ x m. false≢true (sym (c.unmark_all.ensures x) ∙ m))
 
 pub returns : goal.returns
 returns c =
@@ -20,7 +20,7 @@ returns c =
     let found = state c.mark_each-count.new.marks c.mark_each-count.new.queue c.mark_each-count.result in
     let each = subst (λ xs. MarksEach xs begun found) c.as_slice.ensures c.mark_each-count.ensures in
     let marked : All (IsMarked marks) r.sources = λ k d l. c.fill.ensures.kept (get_or r.sources k d) (each.marked k d l) in
-    let below : (f : ℕ → ℕ) (bound : ℕ) → IsNumbering f refinements → All (λ source. f source < bound) r.sources → AreBelow f bound marks = λ f bound numbering sources. c.fill.ensures.below f bound numbering (each.below f bound sources (λ x m. absurd (c.unmark_all.ensures x m))) in (
+    let below : (f : ℕ → ℕ) (bound : ℕ) → IsNumbering f refinements → All (λ source. f source < bound) r.sources → AreBelow f bound marks = λ f bound numbering sources. c.fill.ensures.below f bound numbering (each.below f bound sources (λ x m. absurd (false≢true (sym (c.unmark_all.ensures x) ∙ m)))) in (
       λ e. IsAcyclic-from_closed refinements r marks c.requires.acyclic c.fill.ensures.closed marked (λ m. false≢true (sym (not-true reached e) ∙ m)),
       λ acyclic. not_from_false reached (false_from_ne_true reached (λ m. cyclic_from_marked refinements r marks below m acyclic)),
     )

@@ -1,4 +1,4 @@
-use Rattle.std.proofs.Common.{ℕ, ◌<◌}
+use Rattle.std.proofs.Common.{ℕ, ◌<◌, get_or}
 use Rattle.cgm_model.specs.Assignment.{RefinementIsTrue}
 use Rattle.cgm_model.specs.Model.{lists_of}
 use Rattle.cgm_model.specs.Realization.{Refines}
@@ -6,4 +6,4 @@ use Rattle.cgm_model.proofs.realization.has_true_refinement.Given as goal
 
 abbrev pub invariant-loop-number : goal.invariant-loop-number
 invariant-loop-number l =
-    (k : ℕ) → k < l.number → ¬ (Refines (lists_of l.m) k l.element × RefinementIsTrue l.a k)
+    (k : ℕ) → k < l.number-index → (d : ℕ) → ¬ (Refines (lists_of l.m) (get_or l.number-items k d) l.element × RefinementIsTrue l.a (get_or l.number-items k d))

@@ -13,5 +13,5 @@ negated-requires c =
     ∥∥₁_elim c.args.m.now.well_formed (hlevel props)
     (λ w.
     let small = quantity_size m w c.args.e.now.pairs c.args.a.now c.requires.fits c.args.o.of in
-    let here : unsigned_abs c.in_ok-number.number ≤ 1000000000000 = subst (λ (x : ℤ). unsigned_abs x ≤ 1000000000000) (sym c.in_ok-number.ensures) small in
+    let here : unsigned_abs c.quantity-number.result ≤ 1000000000000 = subst (λ (x : ℤ). unsigned_abs x ≤ 1000000000000) (sym c.quantity-number.ensures) small in
     omega (arith, ints, here))

@@ -1,4 +1,4 @@
--- The leaf tasks of a model: the elements that no refinement has as its target and that aren't declared assumptions.
+-- The leaf tasks of a model, which are the elements that no refinement has as its target and that aren't declared assumptions, and its sources.
 use Rattle.std.specs.Prelude.{ℕ, ◌==◌, Bool, ◌&&◌, not, List, length, map, slice_get}
 use Rattle.std.specs.List.{filter, list_any, range_with_len}
 use Rattle.cgm_model.specs.declared.lists.Lists.{Lists}
@@ -17,3 +17,7 @@ element_numbers m = range_with_len 0 (length m.elements)
 
 abbrev pub leaf_tasks : Lists → List ℕ
 leaf_tasks m = filter (is_leaf_task m) (element_numbers m)
+
+-- the element is a source of a refinement
+abbrev pub is_source : Lists → ℕ → Bool
+is_source m element = list_any (λ r. list_any (λ source. source == element) r.sources) m.refinements

@@ -1,6 +1,6 @@
 use Rattle.std.proofs.Common.{◌≡◌, ◌==◌, ◌||◌, ℕ, false, drop, get_or}
 use Rattle.std.specs.List.{list_any}
-use Rattle.cgm_obj.proofs.sources.mark_all.Given as goal
+use Rattle.cgm_model.proofs.facts.mark_all.Given as goal
 
 abbrev pub invariant-loop-element : goal.invariant-loop-element
 invariant-loop-element l =

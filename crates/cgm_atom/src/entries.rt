@@ -70,6 +70,17 @@ impl Entry {
     }
 }
 
+/// Equal entries, in their order.
+pub fn copy_entries(alloc: Global, entries: &[Entry]) -> Result<Seq<Entry>, OutOfMemory>
+    ensures { IfOk result (λ copies. copies ≡ entries.now) }
+{
+    let mut copies = Vec::new(alloc);
+    for entry in entries {
+        copies.push(entry.copy(alloc)?)?;
+    }
+    Ok(Seq::of(copies))
+}
+
 /// Why an entry is refused. Places of atoms and hints count from 1.
 #[derive(Clone, Copy, Debug, PartialEq, Eq)]
 pub enum BadStep {

@@ -5,10 +5,9 @@ ghost use Rattle.cgm_atom.specs.Instance.{IsSolution};
 ghost use Rattle.cgm_solve.specs.Answers.{IsVerifyAnswer, IsVerified};
 ghost use Rattle.cgm_solve.specs.Readings.{ForEncoded, ReadsBest};
 
-use crate::copies::copy_entries;
 use crate::encoding::encode_model;
 use crate::reading::read;
-use cgm_atom::{BadStep, Entry, OutOfMemory, Seq};
+use cgm_atom::{BadStep, Entry, OutOfMemory, Seq, copy_entries};
 use cgm_check::{Verdict, check};
 use cgm_encode::{Answer, Encoded, Found, SolveStop};
 use cgm_evolve::Earlier;

@@ -2,7 +2,6 @@
 #![tactic(auto)]
 
 mod answering;
-mod encoding;
 mod reading;
 mod running;
 mod solving;

@@ -16,7 +16,7 @@ use Rattle.cgm_atom.specs.Entailment.{Follows, IsUnderBound, best_values}
 use Rattle.cgm_atom.specs.Instance.{Instance, IsSolution, vector}
 use Rattle.cgm_atom.specs.Laws.{IsConcluded, IsEntailed}
 use Rattle.cgm_atom.specs.LogState.{LogState, empty_state, is_empty_clause, last_best, state_after, state_of, state_with}
-use Rattle.cgm_atom.specs.Order.{IsLess}
+use Rattle.cgm_base.specs.Order.{IsLess}
 use Rattle.cgm_atom.proofs.Entailing.{all_entailed, each_at}
 use Rattle.cgm_atom.proofs.LaterBounds.{under_earlier_bound}
 use Rattle.cgm_atom.proofs.StateLemmas.{last_at, last_best_of_log}

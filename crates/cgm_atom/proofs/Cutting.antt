@@ -11,7 +11,7 @@ use Rattle.cgm_atom.specs.Atoms.{clause_true}
 use Rattle.cgm_atom.specs.Bounds.{value_of}
 use Rattle.cgm_atom.specs.Cut.{cut, with_lesser}
 use Rattle.cgm_atom.specs.Instance.{values_at}
-use Rattle.cgm_atom.specs.Order.{IsLess}
+use Rattle.cgm_base.specs.Order.{IsLess}
 use Rattle.cgm_atom.proofs.SignedSteps.{le_is_true}
 use borrow.Author.Differences.{same_in}
 

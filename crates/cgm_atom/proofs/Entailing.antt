@@ -21,7 +21,7 @@ use Rattle.cgm_atom.specs.Instance.{Instance, IsSolution, vector}
 use Rattle.cgm_atom.specs.Laws.{IsEntailed}
 use Rattle.cgm_atom.specs.LogState.{LogState, best_at, carried, greatest_carried, item_at, lemma_bound, lemma_clause, live_at, named, state_of}
 use Rattle.cgm_atom.specs.Constraints.{of_clause, of_row}
-use Rattle.cgm_atom.specs.Order.{IsLess}
+use Rattle.cgm_base.specs.Order.{IsLess}
 use Rattle.cgm_atom.proofs.Cutting.{cut_of_less}
 use Rattle.cgm_atom.proofs.LaterBounds.{AreNone, none_fails, passes, under_earlier_bound}
 use Rattle.cgm_atom.proofs.StateLemmas.{IsAccepted-next, best_is_of_log, best_values-append, live_is_of_log}

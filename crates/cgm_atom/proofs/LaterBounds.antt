@@ -15,7 +15,8 @@ use Rattle.cgm_atom.specs.Acceptance.{IsAccepted, faults, first_fault}
 use Rattle.cgm_atom.specs.Entailment.{Follows, IsUnderBound, best_values}
 use Rattle.cgm_atom.specs.Instance.{Instance, fault_unless, first_some, vector}
 use Rattle.cgm_atom.specs.LogState.{LogState, last_best, state_of}
-use Rattle.cgm_atom.specs.Order.{IsBelow, IsLess, is_below, is_less}
+use Rattle.cgm_base.specs.Order.{IsLess}
+use Rattle.cgm_atom.specs.Order.{IsBelow, is_below, is_less}
 use Rattle.cgm_atom.proofs.StateLemmas.{IsAccepted-next, best_values-append, last_best_of_log, last_of_pushed}
 use borrow.Author.Differences.{same_in}
 

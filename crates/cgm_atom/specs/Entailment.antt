@@ -5,7 +5,7 @@ use Rattle.cgm_atom.specs.declared.entries.Entry.{Entry}
 use Rattle.cgm_atom.specs.declared.entries.Entry.TheVariants.{Best, Lemma}
 use Rattle.cgm_atom.specs.Atoms.{clause_true}
 use Rattle.cgm_atom.specs.Instance.{Instance, IsSolution, vector}
-use Rattle.cgm_atom.specs.Order.{IsLess}
+use Rattle.cgm_base.specs.Order.{IsLess}
 
 -- the values of each best of the log, by its ordinal
 abbrev pub best_values : List Entry → List (List ℤ)

@@ -9,7 +9,7 @@ use Rattle.cgm_atom.specs.declared.checks.Violated.{Violated}
 use Rattle.cgm_atom.specs.declared.checks.Violated.TheVariants as violated
 use Rattle.cgm_atom.specs.Atoms.{clause_true, row_true}
 use Rattle.cgm_atom.specs.Bounds.{Bounds, IsWithin, lower_of, upper_of, value_of}
-use Rattle.cgm_atom.specs.Order.{IsLess}
+use Rattle.cgm_base.specs.Order.{IsLess}
 
 pub record Instance : Type 0 where
   pub bounds : Bounds

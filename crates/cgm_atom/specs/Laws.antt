@@ -17,7 +17,7 @@ use Rattle.cgm_atom.specs.Instance.{Instance, HasNoSolution, IsLeast, IsSolution
 use Rattle.cgm_atom.specs.LogState.{LogState, all_narrowed, carried, is_closing, last_best, named, state_of, state_with}
 use Rattle.cgm_atom.specs.Constraints.{Constraint, left_by}
 use Rattle.cgm_atom.specs.Narrowing.{all_assumed, left_by_clause, left_by_row, made_true}
-use Rattle.cgm_atom.specs.Order.{IsLess}
+use Rattle.cgm_base.specs.Order.{IsLess}
 
 -- ---- narrowing keeps solutions
 

@@ -17,4 +17,5 @@ pub mod Outcome
 pub mod Placing
 pub mod Ranges
 pub mod Relaxing
+pub mod StepWords
 pub mod Steps

@@ -1,12 +1,8 @@
--- The lexicographic order of vectors: at some place a lesser number, and all numbers before it equal.
-use Rattle.std.specs.Prelude.{◌≡◌, Bool, true, false, ◌||◌, ◌&&◌, ◌⊎◌, ℤ, List, [], ◌∷◌, int_le, int_lt, ◌<ℤ◌, Option, Some, None}
+-- The lexicographic order of vectors as a test, and vectors below a limit.
+use Rattle.std.specs.Prelude.{Bool, true, false, ◌||◌, ◌&&◌, ℤ, List, [], ◌∷◌, int_le, int_lt, Option, Some, None}
+use Rattle.cgm_base.specs.Order.{IsLess}
 
-abbrev pub IsLess : List ℤ → List ℤ → Type 0
-IsLess [] vs = ⊥
-IsLess (u ∷ us) [] = ⊥
-IsLess (u ∷ us) (v ∷ vs) = (u <ℤ v) ⊎ ((u ≡ v) × IsLess us vs)
-
--- the same as a test
+-- whether the first vector is less than the second
 abbrev pub is_less : List ℤ → List ℤ → Bool
 is_less [] vs = false
 is_less (u ∷ us) [] = false

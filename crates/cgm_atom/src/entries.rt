@@ -1,5 +1,7 @@
 //! The entries of a log, and why an entry is refused.
-ghost use Rattle.std.specs.Prelude.{◌≡◌, IfOk};
+ghost use Rattle.std.specs.Prelude.{◌≡◌, ◌++◌, IfOk, codes, decimal};
+ghost use Rattle.std.specs.String.{string_bytes};
+ghost use Rattle.cgm_atom.specs.StepWords.{step_words};
 
 use crate::constraints::Clause;
 use crate::lists::Seq;
@@ -70,6 +72,17 @@ impl Entry {
     }
 }
 
+/// Equal entries, in their order.
+pub fn copy_entries(alloc: Global, entries: &[Entry]) -> Result<Seq<Entry>, OutOfMemory>
+    ensures { IfOk result (λ copies. copies ≡ entries.now) }
+{
+    let mut copies = Vec::new(alloc);
+    for entry in entries {
+        copies.push(entry.copy(alloc)?)?;
+    }
+    Ok(Seq::of(copies))
+}
+
 /// Why an entry is refused. Places of atoms and hints count from 1.
 #[derive(Clone, Copy, Debug, PartialEq, Eq)]
 pub enum BadStep {
@@ -93,4 +106,38 @@ pub enum BadStep {
     Bound { found: u64 },
     /// The hints don't reach conflict.
     NoConflict,
+}
+
+/// The words of a test that tells no number.
+fn plain_words(alloc: Global, word: &str) -> Result<String, OutOfMemory>
+    ensures { IfOk result (λ words. string_bytes words ≡ word.now) }
+{
+    String::from_str(alloc, word)
+}
+
+/// The words of a test that tells a number.
+fn counted_words(alloc: Global, word: &str, number: u64) -> Result<String, OutOfMemory>
+    ensures { IfOk result (λ words. string_bytes words ≡ word.now ++ codes " " ++ decimal number) }
+{
+    format!(in alloc; "{word} {number}")
+}
+
+impl BadStep {
+    /// The words of the test in a fault line, with what it tells.
+    pub fn words(self, alloc: Global) -> Result<String, OutOfMemory>
+        ensures { IfOk result (λ words. string_bytes words ≡ step_words self) }
+    {
+        match self {
+            BadStep::AfterEnd => plain_words(alloc, "after-end"),
+            BadStep::Values { given } => counted_words(alloc, "values", given),
+            BadStep::Bounds { var } => counted_words(alloc, "bounds", var as u64),
+            BadStep::Clause { number } => counted_words(alloc, "clause", number as u64),
+            BadStep::Row { number } => counted_words(alloc, "row", number as u64),
+            BadStep::NotLess => plain_words(alloc, "not-less"),
+            BadStep::Atom { place } => counted_words(alloc, "atom", place),
+            BadStep::Hint { place } => counted_words(alloc, "hint", place),
+            BadStep::Bound { found } => counted_words(alloc, "bound", found),
+            BadStep::NoConflict => plain_words(alloc, "no-conflict"),
+        }
+    }
 }

@@ -23,7 +23,7 @@ pub use builders::{BuildStop, ProblemBuilder};
 pub use checks::{Violated, first_violated, satisfied};
 pub use clauses::{ClauseAtoms, narrow_by_atoms};
 pub use constraints::{Atom, Clause, Row, Var};
-pub use entries::{BadStep, Entry, Hint};
+pub use entries::{BadStep, Entry, Hint, copy_entries};
 pub use limits::{
     MAX_ATOM_NUMBER, MAX_BATCH_LEMMAS, MAX_BOUND, MAX_LEAST, MAX_MEASURE, MAX_OBJECTIVES,
     MAX_WORKERS,

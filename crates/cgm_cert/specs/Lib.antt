@@ -1,3 +1,4 @@
 pub mod Fault
 pub mod Printable
 pub mod Spelling
+pub mod Words

@@ -1,4 +1,6 @@
 //! Why a certificate isn't read.
+ghost use Rattle.std.specs.Prelude.{◌≡◌};
+ghost use Rattle.cgm_cert.specs.Words.{certificate_word};
 
 /// What is wrong with a line of a certificate.
 #[derive(Clone, Copy, Debug, PartialEq, Eq)]
@@ -9,6 +11,19 @@ pub enum CertKind {
     Entry,
     /// The last line lacks its line feed.
     Unfinished,
+}
+
+impl CertKind {
+    /// The kind's word in a fault line.
+    pub fn word(self) -> &'static str
+        ensures { result.now ≡ certificate_word self }
+    {
+        match self {
+            CertKind::Header => "header",
+            CertKind::Entry => "entry",
+            CertKind::Unfinished => "unfinished",
+        }
+    }
 }
 
 /// Why a certificate isn't read.

@@ -5,9 +5,9 @@ use Rattle.cgm_base.specs.declared.fault.BadKind.{BadKind}
 use Rattle.cgm_base.specs.declared.limit.Limit.{Limit}
 use Rattle.cgm_base.specs.Words.{kind_word, limit_word, limit_number}
 use Rattle.cgm_atom.specs.declared.entries.BadStep.{BadStep}
-use Rattle.cgm_atom.specs.declared.entries.BadStep.TheVariants as steps
+use Rattle.cgm_atom.specs.StepWords.{step_words}
 use Rattle.cgm_cert.specs.declared.stop.CertKind.{CertKind}
-use Rattle.cgm_cert.specs.declared.stop.CertKind.TheVariants as kinds
+use Rattle.cgm_cert.specs.Words.{certificate_word}
 use Rattle.cgm_report.specs.Report.{line}
 
 abbrev pub usage_fault : List ℕ
@@ -25,28 +25,11 @@ limit_fault limit =
     line (codes "fault limit " ++ limit_word limit.which ++ codes " " ++ decimal (limit_number limit.which) ++ codes " " ++ decimal limit.line)
 
 -- what is wrong with a line of a certificate
-abbrev pub certificate_word : CertKind → List ℕ
-certificate_word kinds.Header = codes "header"
-certificate_word kinds.Entry = codes "entry"
-certificate_word kinds.Unfinished = codes "unfinished"
-
 abbrev pub certificate_fault : ℕ → CertKind → List ℕ
 certificate_fault number kind =
     line (codes "fault certificate line " ++ decimal number ++ codes " " ++ certificate_word kind)
 
 -- the test that an entry fails, with what it tells
-abbrev pub step_words : BadStep → List ℕ
-step_words steps.AfterEnd = codes "after-end"
-step_words (steps.Values given) = codes "values " ++ decimal given
-step_words (steps.Bounds var) = codes "bounds " ++ decimal var
-step_words (steps.Clause number) = codes "clause " ++ decimal number
-step_words (steps.Row number) = codes "row " ++ decimal number
-step_words steps.NotLess = codes "not-less"
-step_words (steps.Atom place) = codes "atom " ++ decimal place
-step_words (steps.Hint place) = codes "hint " ++ decimal place
-step_words (steps.Bound found) = codes "bound " ++ decimal found
-step_words steps.NoConflict = codes "no-conflict"
-
 abbrev pub entry_fault : ℕ → BadStep → List ℕ
 entry_fault number why = line (codes "fault certificate entry " ++ decimal number ++ codes " " ++ step_words why)
 

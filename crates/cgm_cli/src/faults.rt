@@ -1,8 +1,8 @@
 // Faults whose lines tell what is faulty and where.
-ghost use Rattle.std.specs.Prelude.{◌≡◌, ◌++◌, IfOk, codes, decimal};
+ghost use Rattle.std.specs.Prelude.{◌≡◌, IfOk};
 ghost use Rattle.std.specs.String.{string_bytes};
 ghost use Rattle.cgm_cli.specs.Effects.{TellsOrLacksMemory, printing};
-ghost use Rattle.cgm_cli.specs.FaultLines.{certificate_fault, certificate_word, earlier_fault, entry_fault, limit_fault, step_words, text_fault};
+ghost use Rattle.cgm_cli.specs.FaultLines.{certificate_fault, earlier_fault, entry_fault, limit_fault, text_fault};
 ghost use Rattle.cgm_cli.specs.Placed.{placed_line, placed_status};
 
 use crate::print::{tell, tell_memory};
@@ -76,58 +76,17 @@ fn limit_line(alloc: Global, limit: Limit) -> Result<String, AllocError>
     format!(in alloc; "fault limit {word} {number} {line}\n")
 }
 
-fn certificate_word(kind: CertKind) -> &'static str
-    ensures { result.now ≡ certificate_word kind }
-{
-    match kind {
-        CertKind::Header => "header",
-        CertKind::Entry => "entry",
-        CertKind::Unfinished => "unfinished",
-    }
-}
-
 fn certificate_line(alloc: Global, line: u64, kind: CertKind) -> Result<String, AllocError>
     ensures { IfOk result (λ told. string_bytes told ≡ certificate_fault line kind) }
 {
-    let word = certificate_word(kind);
+    let word = kind.word();
     format!(in alloc; "fault certificate line {line} {word}\n")
-}
-
-/// The words of a test that tells no number.
-fn plain_words(alloc: Global, word: &str) -> Result<String, AllocError>
-    ensures { IfOk result (λ words. string_bytes words ≡ word.now) }
-{
-    String::from_str(alloc, word)
-}
-
-/// The words of a test that tells a number.
-fn counted_words(alloc: Global, word: &str, number: u64) -> Result<String, AllocError>
-    ensures { IfOk result (λ words. string_bytes words ≡ word.now ++ codes " " ++ decimal number) }
-{
-    format!(in alloc; "{word} {number}")
-}
-
-fn step_words(alloc: Global, why: BadStep) -> Result<String, AllocError>
-    ensures { IfOk result (λ words. string_bytes words ≡ step_words why) }
-{
-    match why {
-        BadStep::AfterEnd => plain_words(alloc, "after-end"),
-        BadStep::Values { given } => counted_words(alloc, "values", given),
-        BadStep::Bounds { var } => counted_words(alloc, "bounds", var as u64),
-        BadStep::Clause { number } => counted_words(alloc, "clause", number as u64),
-        BadStep::Row { number } => counted_words(alloc, "row", number as u64),
-        BadStep::NotLess => plain_words(alloc, "not-less"),
-        BadStep::Atom { place } => counted_words(alloc, "atom", place),
-        BadStep::Hint { place } => counted_words(alloc, "hint", place),
-        BadStep::Bound { found } => counted_words(alloc, "bound", found),
-        BadStep::NoConflict => plain_words(alloc, "no-conflict"),
-    }
 }
 
 fn entry_line(alloc: Global, number: u64, why: BadStep) -> Result<String, AllocError>
     ensures { IfOk result (λ told. string_bytes told ≡ entry_fault number why) }
 {
-    let words = step_words(alloc, why)?;
+    let words = why.words(alloc)?;
     let told = words.as_str();
     format!(in alloc; "fault certificate entry {number} {told}\n")
 }

@@ -1,24 +1,17 @@
 -- A least solution decodes to a least realization, and a model whose problem has no solution has no realization.
-use Rattle.std.proofs.Common.{List, [], ◌∷◌, sym, subst, inl, inr, ⊎_elim}
+use Rattle.std.proofs.Common.{List, sym, subst}
 use Rattle.std.specs.Prelude.{ℤ}
 use Rattle.cgm_atom.specs.Instance.{HasNoSolution, IsLeast, IsSolution, vector}
-use Rattle.cgm_atom.specs.Order.{IsLess}
+use Rattle.cgm_base.specs.Order.{IsLess}
 use Rattle.cgm_formula.specs.declared.assignment.Assignment.{Assignment}
 use Rattle.cgm_model.specs.declared.lists.Lists.{Lists}
 use Rattle.cgm_model.specs.WellFormed.{IsWellFormed}
 use Rattle.cgm_evolve.specs.Pairs.{Pair}
 use Rattle.cgm_obj.specs.Least.{IsLeastRealization, Realizes}
-use Rattle.cgm_obj.specs.Order.{IsLess as IsLessVector}
 use Rattle.cgm_obj.specs.Vector.{vector_of}
 use Rattle.cgm_encode.specs.Assignments.{decoded, extension}
 use Rattle.cgm_encode.specs.Laws.{RealizationsExtend, SolutionsDecode}
 use Rattle.cgm_encode.specs.Problem.{problem_of}
-
--- the two orders are one
-less_solution : (us vs : List ℤ) → IsLessVector us vs → IsLess us vs
-less_solution [] vs h = h
-less_solution (u ∷ us) [] h = h
-less_solution (u ∷ us) (v ∷ vs) h = ⊎_elim (λ first. inl first) (λ later. inr (later.0, less_solution us vs later.1)) h
 
 pub least_decodes : SolutionsDecode → RealizationsExtend → (m : Lists) (pairs : List Pair) (values : List ℤ) → ∥ IsWellFormed m ∥₁ → IsSolution (problem_of m pairs) values → IsLeast (problem_of m pairs) values → IsLeastRealization m pairs (decoded m values)
 least_decodes decodes extends m pairs values well solution least =
@@ -28,10 +21,9 @@ least_decodes decodes extends m pairs values well solution least =
       least = λ b r less.
           let there = extends m pairs b well r in
           let p = problem_of m pairs in
-          let lesser = less_solution (vector_of m pairs b) (vector_of m pairs (decoded m values)) less in
           least (extension m pairs b) there.solution
           (subst (λ (us : List ℤ). IsLess us (vector p values)) (sym there.vector)
-          (subst (λ (vs : List ℤ). IsLess (vector_of m pairs b) vs) (sym here.vector) lesser));
+          (subst (λ (vs : List ℤ). IsLess (vector_of m pairs b) vs) (sym here.vector) less));
     }
 
 pub none_realizes : RealizationsExtend → (m : Lists) (pairs : List Pair) (a : Assignment) → ∥ IsWellFormed m ∥₁ → HasNoSolution (problem_of m pairs) → ¬ Realizes m a

@@ -43,12 +43,3 @@ pub enum Answer {
         best: Option<Found>,
     },
 }
-
-/// Why a model isn't solved.
-#[derive(Clone, Copy, Debug, PartialEq, Eq)]
-pub enum SolveStop {
-    /// The measure of a comparison of the rule with this number passes 4·10^18. It is the first such rule.
-    Row { rule: u32 },
-    /// Memory ran out.
-    Memory,
-}

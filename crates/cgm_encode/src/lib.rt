@@ -20,10 +20,10 @@ mod values;
 mod variables;
 mod words;
 
-pub use answer::{Answer, Encoded, Found, SolveStop};
+pub use answer::{Answer, Encoded, Found};
 pub use assignments::decode;
 pub use cgm_atom::OutOfMemory;
-pub use cgm_enc_formula::EncodeStop;
+pub use cgm_enc_formula::{EncodeStop, EncodeStop as SolveStop};
 pub use encoding::encode;
 pub use printer::print_problem;
 pub use values::extend;

@@ -2,7 +2,6 @@
 #![tactic(auto)]
 
 mod batches;
-mod copies;
 mod judging;
 mod logs;
 mod traders;

@@ -11,9 +11,8 @@ ghost use Rattle.cgm_log.specs.LogBook.{IsLog};
 ghost use Rattle.cgm_log.specs.Trading.{IsAnswer, news_of};
 
 use crate::batches::{Batch, Refund, Traded};
-use crate::copies::copy_entries;
 use crate::judging::{Judged, in_order, judge};
-use cgm_atom::{Entry, OutOfMemory, Problem, Seq};
+use cgm_atom::{Entry, OutOfMemory, Problem, Seq, copy_entries};
 use cgm_step::{IndexedLog, LogIndex};
 use std::alloc::Global;
 use std::marker::Model;
@@ -128,7 +127,7 @@ impl Log {
         ensures problem { self.new.problem ≡ self.old.problem }
         ensures unchanged { OnErr result (self.new ≡ self.old) }
     {
-        let news = Seq::of(self.copy_from(seen)?);
+        let news = self.copy_from(seen)?;
         if self.closed() {
             return Ok(Traded::Closed { news });
         }
@@ -152,9 +151,9 @@ impl Log {
     }
 
     /// Copies of the entries after the first `seen`.
-    fn copy_from(&self, seen: u64) -> Result<Vec<Entry>, OutOfMemory>
+    fn copy_from(&self, seen: u64) -> Result<Seq<Entry>, OutOfMemory>
         requires { seen ≤ length self.now.entries }
-        ensures { IfOk result (λ news. news.items ≡ drop seen self.now.entries) }
+        ensures { IfOk result (λ news. news ≡ drop seen self.now.entries) }
     {
         let (_, news) = self.entries.as_slice().split_at(seen as usize);
         copy_entries(self.alloc, news)

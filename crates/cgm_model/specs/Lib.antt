@@ -14,6 +14,7 @@ pub mod Name
 pub mod NameTable
 pub mod Named
 pub mod Place
+pub mod QuantityWords
 pub mod Realization
 pub mod Search
 pub mod Statement

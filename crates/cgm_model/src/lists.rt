@@ -106,6 +106,27 @@ pub enum Quantity {
     Effort,
 }
 
+impl Quantity {
+    ghost use Rattle.std.specs.Prelude.{◌≡◌};
+    ghost use Rattle.cgm_model.specs.QuantityWords.{quantity_word};
+
+    /// The word of a built-in quantity. A variable and a sum have names, and no word.
+    pub fn word(self) -> &'static [u8]
+        ensures { result.now ≡ quantity_word self }
+    {
+        match self {
+            Quantity::Var(_) => b"",
+            Quantity::Sum(_) => b"",
+            Quantity::Weight => b"weight",
+            Quantity::UnsatPrefs => b"unsat_prefs",
+            Quantity::UnsatReqs => b"unsat_reqs",
+            Quantity::SatTasks => b"sat_tasks",
+            Quantity::Familiarity => b"familiarity",
+            Quantity::Effort => b"effort",
+        }
+    }
+}
+
 /// A quantity to make least or greatest.
 #[derive(Clone, Copy)]
 pub struct Objective {

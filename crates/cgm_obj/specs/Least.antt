@@ -6,7 +6,7 @@ use Rattle.cgm_model.specs.Assignment.{Fits}
 use Rattle.cgm_model.specs.Realization.{IsRealization}
 use Rattle.cgm_model.specs.Sums.{sums_of}
 use Rattle.cgm_evolve.specs.Pairs.{Pair}
-use Rattle.cgm_obj.specs.Order.{IsLess}
+use Rattle.cgm_base.specs.Order.{IsLess}
 use Rattle.cgm_obj.specs.Vector.{vector_of}
 
 -- an assignment that fits and is a realization

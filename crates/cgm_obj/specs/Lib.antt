@@ -1,4 +1,3 @@
 pub mod Counts
 pub mod Least
-pub mod Order
 pub mod Vector

@@ -1,6 +1,6 @@
 //! The lexicographic order of vectors.
 ghost use Rattle.std.specs.Prelude.{◌≡◌, ◌↔◌, IsTrue, length};
-ghost use Rattle.cgm_obj.specs.Order.{IsLess};
+ghost use Rattle.cgm_base.specs.Order.{IsLess};
 
 /// Says whether the first vector is less than the second, of the same length: at the first place at
 /// which they differ it has the lesser number. It takes no memory.

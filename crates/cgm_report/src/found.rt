@@ -201,12 +201,7 @@ fn quantity_name(m: &Model, q: Quantity) -> &[u8]
     match q {
         Quantity::Var(k) => variable_name(m, k),
         Quantity::Sum(k) => sum_name(m, k),
-        Quantity::Weight => b"weight",
-        Quantity::UnsatPrefs => b"unsat_prefs",
-        Quantity::UnsatReqs => b"unsat_reqs",
-        Quantity::SatTasks => b"sat_tasks",
-        Quantity::Familiarity => b"familiarity",
-        Quantity::Effort => b"effort",
+        _ => q.word(),
     }
 }
 

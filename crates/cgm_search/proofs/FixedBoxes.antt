@@ -21,7 +21,8 @@ use Rattle.cgm_atom.specs.Cut.{cut}
 use Rattle.cgm_atom.specs.Instance.{Instance, IsSolution, vector}
 use Rattle.cgm_atom.specs.LogState.{last_best, state_of}
 use Rattle.cgm_atom.specs.Narrowing.{greatest_activity, is_false_in, is_true_in, left_by_clause, left_by_row, left_by_unmet}
-use Rattle.cgm_atom.specs.Order.{IsLess, is_less}
+use Rattle.cgm_base.specs.Order.{IsLess}
+use Rattle.cgm_atom.specs.Order.{is_less}
 use Rattle.cgm_atom.proofs.Cutting.{cut_is_less}
 use Rattle.cgm_clauses.specs.declared.named.Named.{Named}
 use Rattle.cgm_clauses.specs.Standing.{IsFalseIn}

@@ -5,7 +5,7 @@ ghost use Rattle.cgm_atom.specs.Placing.{HintsCanBePlaced, all_placed};
 ghost use Rattle.cgm_learn.specs.Learning.{lemma_by};
 ghost use Rattle.cgm_search.specs.Trading.{kept_of};
 
-use cgm_atom::{Entry, OutOfMemory, Seq, copy_placed};
+use cgm_atom::{Entry, OutOfMemory, Seq, copy_entries, copy_placed};
 use cgm_learn::Learned;
 use cgm_log::{Batch, Fate};
 use std::alloc::Global;
@@ -67,19 +67,9 @@ pub(crate) fn copy_batch(alloc: Global, b: &Batch) -> Result<Batch, OutOfMemory>
     let candidate = copy_candidate(alloc, &b.candidate)?;
     Ok(Batch {
         by: b.by,
-        lemmas: Seq::of(lemmas),
+        lemmas,
         candidate,
     })
-}
-
-fn copy_entries(alloc: Global, entries: &[Entry]) -> Result<Vec<Entry>, OutOfMemory>
-    ensures { IfOk result (λ copies. copies.items ≡ entries.now) }
-{
-    let mut copies = Vec::new(alloc);
-    for entry in entries {
-        copies.push(entry.copy(alloc)?)?;
-    }
-    Ok(copies)
 }
 
 fn copy_candidate(

@@ -18,15 +18,13 @@ use Rattle.cgm_trail.specs.Steps.{AreReasoned}
 use Rattle.cgm_trail.specs.TrailState.{TrailState}
 use Rattle.cgm_search.specs.declared.plans.Plan.{Plan}
 use Rattle.cgm_search.specs.Storing.{IsSeenName}
-use Rattle.cgm_enc_formula.specs.declared.stop.EncodeStop.TheVariants as encode_stops
 use Rattle.cgm_encode.specs.declared.answer.Answer.{Answer}
 use Rattle.cgm_encode.specs.declared.answer.Answer.TheVariants.{Exhausted, Open, Realized, Unrealizable}
-use Rattle.cgm_encode.specs.declared.answer.Encoded.{Encoded}
 use Rattle.cgm_encode.specs.declared.answer.Found.{Found}
-use Rattle.cgm_encode.specs.declared.answer.SolveStop.{SolveStop}
-use Rattle.cgm_encode.specs.declared.answer.SolveStop.TheVariants.{Memory, Row}
+use Rattle.cgm_enc_formula.specs.declared.stop.EncodeStop.{EncodeStop as SolveStop}
+use Rattle.cgm_enc_formula.specs.declared.stop.EncodeStop.TheVariants.{Memory, Row}
 use Rattle.cgm_encode.specs.Assignments.{decoded}
-use Rattle.cgm_encode.specs.Encoding.{IsEncodable, IsEncodeAnswer, IsEncodingOf}
+use Rattle.cgm_encode.specs.Encoding.{IsEncodable, IsEncodeAnswer}
 use Rattle.cgm_encode.specs.Problem.{problem_of}
 use Rattle.cgm_solve.specs.declared.verifying.Verified.{Verified}
 use Rattle.cgm_solve.specs.declared.verifying.Verified.TheVariants.{Refused, Shown}
@@ -89,14 +87,9 @@ IsVerified m pairs entries (Refused step why) = IsRefusedAt (problem_of m pairs)
 
 -- the first rule with a comparison whose measure passes the limit
 abbrev pub IsPastLimit : Lists → List Pair → ℕ → Type 0
-IsPastLimit m pairs rule = IsEncodeAnswer m pairs (Err (encode_stops.Row rule))
+IsPastLimit m pairs rule = IsEncodeAnswer m pairs (Err (Row rule))
 
--- the encoding, or why there is none
-abbrev pub IsEncoded : Lists → List Pair → Result Encoded SolveStop → Type 0
-IsEncoded m pairs (Ok encoded) = IsEncodable m × IsEncodingOf m pairs encoded
-IsEncoded m pairs (Err (Row rule)) = IsPastLimit m pairs rule
-IsEncoded m pairs (Err Memory) = Unit {0}
-
+-- what the entries show, or why the model has no encoding
 abbrev pub IsVerifyAnswer : Lists → List Pair → List Entry → Result Verified SolveStop → Type 0
 IsVerifyAnswer m pairs entries (Ok verified) = IsEncodable m × IsVerified m pairs entries verified
 IsVerifyAnswer m pairs entries (Err (Row rule)) = IsPastLimit m pairs rule

@@ -3,10 +3,9 @@ ghost use Rattle.std.specs.Prelude.{◌≡◌, IfOk};
 ghost use Rattle.cgm_solve.specs.Readings.{ReadsLastBest};
 ghost use Rattle.cgm_solve.specs.Runs.{IsExhausted, IsTold, closed_answer};
 
-use crate::copies::copy_entries;
 use crate::reading::read;
 use crate::running::Ended;
-use cgm_atom::{Entry, OutOfMemory, Seq};
+use cgm_atom::{Entry, OutOfMemory, Seq, copy_entries};
 use cgm_encode::{Answer, Encoded, Found};
 use cgm_log::Log;
 use cgm_search::Stopped;

@@ -2,8 +2,6 @@
 #![tactic(auto)]
 
 mod answering;
-mod copies;
-mod encoding;
 mod reading;
 mod running;
 mod solving;

@@ -6,10 +6,9 @@ ghost use Rattle.cgm_solve.specs.Readings.{ForEncoded};
 ghost use Rattle.cgm_solve.specs.Searches.{IsSearchAnswer};
 
 use crate::answering::tell;
-use crate::encoding::encode_model;
 use crate::running::run_worker;
 use cgm_atom::OutOfMemory;
-use cgm_encode::{Answer, Encoded, SolveStop};
+use cgm_encode::{Answer, Encoded, SolveStop, encode};
 use cgm_evolve::Earlier;
 use cgm_model::Model;
 use cgm_search::Plan;
@@ -37,7 +36,7 @@ pub fn solve_alone(
     requires { IsPlan plan }
     ensures { IsSolveAnswer (lists_of m.now) e.now.pairs plan work.old work.new result }
 {
-    let encoded = encode_model(alloc, m, e)?;
+    let encoded = encode(alloc, m, e)?;
     match search(alloc, &encoded, plan, work) {
         Ok(answer) => Ok(answer),
         Err(_) => Err(SolveStop::Memory),

@@ -5,12 +5,10 @@ ghost use Rattle.cgm_atom.specs.Instance.{IsSolution};
 ghost use Rattle.cgm_solve.specs.Answers.{IsVerifyAnswer, IsVerified};
 ghost use Rattle.cgm_solve.specs.Readings.{ForEncoded, ReadsBest};
 
-use crate::copies::copy_entries;
-use crate::encoding::encode_model;
 use crate::reading::read;
-use cgm_atom::{BadStep, Entry, OutOfMemory, Seq};
+use cgm_atom::{BadStep, Entry, OutOfMemory, Seq, copy_entries};
 use cgm_check::{Verdict, check};
-use cgm_encode::{Answer, Encoded, Found, SolveStop};
+use cgm_encode::{Answer, Encoded, Found, SolveStop, encode};
 use cgm_evolve::Earlier;
 use cgm_model::Model;
 use std::alloc::Global;
@@ -38,7 +36,7 @@ pub fn verify(
 ) -> Result<Verified, SolveStop>
     ensures { IsVerifyAnswer (lists_of m.now) e.now.pairs entries.now result }
 {
-    let encoded = encode_model(alloc, m, e)?;
+    let encoded = encode(alloc, m, e)?;
     match verify_encoded(alloc, &encoded, entries) {
         Ok(verified) => Ok(verified),
         Err(_) => Err(SolveStop::Memory),

@@ -1,5 +1,5 @@
 -- The canonical text of a model: the header, then the line of each statement, group by group in the order of the model's lists.
-use Rattle.std.specs.Prelude.{ℕ, ℤ, pos, Bool, true, false, if◌then◌else◌, List, [], ◌∷◌, ◌++◌, codes, map, slice_index_or}
+use Rattle.std.specs.Prelude.{ℕ, ℤ, pos, Bool, true, false, if◌then◌else◌, List, [], ◌∷◌, ◌++◌, map, slice_index_or}
 use Rattle.std.specs.Ordering.{int_eq}
 use Rattle.cgm_formula.specs.declared.formula.Formula.{Formula}
 use Rattle.cgm_formula.specs.declared.formula.Formula.TheFolds.{fold-Formula}
@@ -21,6 +21,7 @@ use Rattle.cgm_model.specs.declared.lists.Statement.{Statement}
 use Rattle.cgm_model.specs.declared.lists.Statement.TheVariants as statements
 use Rattle.cgm_model.specs.Canonical.{statements_of}
 use Rattle.cgm_model.specs.Named.{element_names, refinement_names, sum_names, variable_names}
+use Rattle.cgm_model.specs.QuantityWords.{quantity_word}
 use Rattle.cgm_text.specs.declared.written.Comparison.TheVariants as comparisons
 use Rattle.cgm_text.specs.declared.written.ConditionWord.TheVariants as condition_words
 use Rattle.cgm_text.specs.declared.written.Direction.{Direction}
@@ -108,12 +109,7 @@ written_rule m (rules_of.Require f) = requirement (written_formula m f)
 abbrev pub quantity_name : Lists → Quantity → List ℕ
 quantity_name m (quantities.Var k) = variable_name m k
 quantity_name m (quantities.Sum k) = sum_name m k
-quantity_name m quantities.Weight = codes "weight"
-quantity_name m quantities.UnsatPrefs = codes "unsat_prefs"
-quantity_name m quantities.UnsatReqs = codes "unsat_reqs"
-quantity_name m quantities.SatTasks = codes "sat_tasks"
-quantity_name m quantities.Familiarity = codes "familiarity"
-quantity_name m quantities.Effort = codes "effort"
+quantity_name m built_in = quantity_word built_in
 
 abbrev pub direction_of : Bool → Direction
 direction_of false = directions.Min

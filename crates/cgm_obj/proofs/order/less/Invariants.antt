@@ -1,5 +1,5 @@
 use Rattle.std.proofs.Common.{◌↔◌, drop}
-use Rattle.cgm_obj.specs.Order.{IsLess}
+use Rattle.cgm_base.specs.Order.{IsLess}
 use Rattle.cgm_obj.proofs.order.less.Given as goal
 
 abbrev pub invariant-loop-place : goal.invariant-loop-place

@@ -1,5 +1,5 @@
 use Rattle.std.proofs.Common.{◌≡◌, ◌++◌, drop}
-use Rattle.cgm_search.proofs.batches.copy_entries.Given as goal
+use Rattle.cgm_atom.proofs.entries.copy_entries.Given as goal
 
 abbrev pub invariant-loop-entry : goal.invariant-loop-entry
 invariant-loop-entry l = l.copies.items ++ drop l.entry-index l.entries ≡ l.entries

@@ -23,7 +23,7 @@ truth_once true false e = absurd (first_bytes e)
 truth_once false true e = absurd (first_bytes (sym e))
 truth_once false false e = refl
 
-pair_once : (p q : Pair) → pair_tokens p ≡ pair_tokens q → p ≡ q
+pub pair_once : (p q : Pair) → pair_tokens p ≡ pair_tokens q → p ≡ q
 pair_once (n, a) (m, b) e =
     let names : n ≡ m = cc in
     let words : truth_word a ≡ truth_word b = cc in

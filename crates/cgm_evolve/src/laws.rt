@@ -1,5 +1,5 @@
 //! Laws of the earlier text.
-ghost use Rattle.std.specs.Prelude.{◌≡◌, ◌⊎◌, ℕ, List, Some};
+ghost use Rattle.std.specs.Prelude.{◌≡◌, ◌↔◌, ◌⊎◌, ℕ, List, Some};
 ghost use Rattle.cgm_lex.specs.declared.stops.LineFault.{LineFault};
 ghost use Rattle.cgm_lex.specs.Lines.{lines};
 ghost use Rattle.cgm_lex.specs.Readings.{IsDecided};
@@ -19,18 +19,18 @@ pub fn earlier_text_has_pairs_or_fault()
         → ¬ ((line : ℕ) (fault : LineFault) → ¬ HasFault text line fault) }
 {}
 
-/// The law that the lines with tokens of an earlier text are the header and then those of its pairs,
-/// in order, which are spelled as names, short and distinct.
+/// The law that a text is one of these pairs exactly where its lines with tokens are the header and
+/// then those of the pairs, in order, which are spelled as names, short and distinct.
 pub fn earlier_text_is_header_and_pairs()
     ensures { (text : List ℕ) (pairs : List Pair) → IsTextOf text pairs
-        → Give (lines text) (Some pairs) }
+        ↔ Give (lines text) (Some pairs) }
 {}
 
 /// The law that the first fault of an earlier text is that of its first faulty line, after lines that
 /// give pairs, or that no line has a token.
 pub fn earlier_text_fails_at_its_first_faulty_line()
     ensures { (text : List ℕ) (line : ℕ) (fault : LineFault) → HasFault text line fault
-        → IsFirstFaulty (lines text) line fault ⊎ HasNoHeader (lines text) line fault }
+        ↔ (IsFirstFaulty (lines text) line fault ⊎ HasNoHeader (lines text) line fault) }
 {}
 
 /// The law that an earlier text has one list of pairs at most.

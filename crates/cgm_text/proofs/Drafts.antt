@@ -137,6 +137,11 @@ header_step tokens line old new some shallow unbegun is_header begun lists_are l
 header_step tokens line old new some shallow unbegun is_header begun lists_are lines_are (Some said) is =
     absurd (true≢false (sym is.header ∙ unbegun))
 
+pub begun_step : {X : Type 0} (tokens : List Lexeme) (line : ℕ) (old new : ModelDraft) (r : Result X LineStop) → tokens ≢ [] → nests_too_deep tokens ≡ false → old.has_header ≡ false → OnOk r (tokens ≡ header_tokens) → OnOk r (new.has_header ≡ true) → new.builder ≡ old.builder → new.rule_lines.items ≡ old.rule_lines.items → OnOk r (IsStep (tokens_come_to tokens) line old new)
+begun_step tokens line old new (Ok x) some shallow unbegun is_header begun lists_are lines_are =
+    header_step tokens line old new some shallow unbegun is_header begun lists_are lines_are
+begun_step tokens line old new (Err stop) some shallow unbegun is_header begun lists_are lines_are = tt
+
 pub header_stop : (tokens : List Lexeme) (draft : ModelDraft) (stop : LineStop) → tokens ≢ [] → nests_too_deep tokens ≡ false → draft.has_header ≡ false → IsStop (AreFirst tokens) stop → IsStopAfter (tokens_come_to tokens) draft stop
 header_stop tokens draft stop some shallow unbegun first None is =
     stop_more (AreFirst tokens) (tokens_come_to tokens None) stop (λ fault f. there false None tokens (faulty fault) some shallow f) first

@@ -4,7 +4,8 @@ use Rattle.std.proofs.lemmas.Bool.{false≢true}
 use Rattle.cgm_base.specs.declared.status.Status.{Status}
 use Rattle.cgm_base.specs.declared.status.Status.TheVariants as statuses
 use Rattle.cgm_shelf.specs.Faults.{Rose}
-use Rattle.cgm_shelf.specs.Shelf.{Files}
+use Rattle.cgm_shelf.specs.Shelf.{Files, ShelfState}
+use Rattle.cgm_shelf.specs.Sink.{SinkState}
 use Rattle.cgm_model.specs.declared.lists.Lists.{Lists}
 use Rattle.cgm_text.specs.Canonical.{canonical_text}
 use Rattle.cgm_evolve.specs.Pairs.{Pair}
@@ -12,17 +13,18 @@ use Rattle.cgm_atom.specs.declared.entries.Entry.{Entry}
 use Rattle.cgm_encode.specs.Problem.{problem_of}
 use Rattle.cgm_encode.specs.ProblemText.{problem_text}
 use Rattle.cgm_cli.specs.Answers.{entries_of}
-use Rattle.cgm_cli.specs.CheckOutcome.{HasCertificateOutcome, HasCheckOutcome, HasEntriesOutcome, HasNoBytes, HasNoEntries}
-use Rattle.cgm_cli.specs.Effects.{Printing, Shelving, Working, Writing}
+use Rattle.cgm_cli.specs.CheckOutcome.{HasCertificateOutcome, HasCheckOutcome, HasEntriesOutcome, HasNoEntries}
+use Rattle.cgm_cli.specs.Effects.{Outside, World, outside_of}
+use Rattle.cgm_cli.specs.Inputs.{HasNoContent}
 use Rattle.cgm_cli.specs.Laws.{CheckCompletes, EncodeCompletes, IsEnough, IsOneOf, NothingFails, ShowCompletes, SolveCompletes}
 use Rattle.cgm_cli.specs.Outcome.{HasEncodeOutcome, HasShowOutcome, HasTextOutcome}
 use Rattle.cgm_cli.specs.SolveOutcome.{HasSolveOutcome, IsCertificateCut, IsLost, Wanted, wanted}
-use Rattle.cgm_cli.proofs.GoodInputs.{Lacks, of_file, of_input, read_failed}
+use Rattle.cgm_cli.proofs.GoodInputs.{Lacks, of_input, of_model, read_failed}
 
 -- where no read fails, only memory is wanted
-only_memory : (shelf : Shelving) (status : Status) → ¬ Rose shelf.reads_before shelf.reads_after → Lacks shelf status → status ≡ statuses.Memory
-only_memory shelf status reads (inl failed) = absurd (reads failed.1)
-only_memory shelf status reads (inr memory) = memory
+only_memory : (old new : ShelfState) (status : Status) → ¬ Rose old.read_faults new.read_faults → Lacks old new status → status ≡ statuses.Memory
+only_memory old new status reads (inl failed) = absurd (reads failed.1)
+only_memory old new status reads (inr memory) = memory
 
 memory_among : (status : Status) (expected : List Status) → IsOneOf statuses.Memory expected → status ≡ statuses.Memory → IsOneOf status expected
 memory_among status expected among memory = subst (λ s. IsOneOf s expected) (sym memory) among
@@ -32,26 +34,27 @@ memory_among status expected among memory = subst (λ s. IsOneOf s expected) (sy
 abbrev of_text : List Status
 of_text = statuses.Done ∷ statuses.Memory ∷ []
 
-text_ends : (text : List ℕ) (sink : Printing) (status : Status) → ¬ Rose sink.faults_before sink.faults_after → HasTextOutcome text sink status → IsOneOf status of_text
-text_ends text sink statuses.Done prints outcome = (0, omega arith, refl)
-text_ends text sink statuses.Memory prints outcome = (1, omega arith, refl)
-text_ends text sink statuses.Write prints outcome = absurd (prints outcome.failed)
-text_ends text sink status prints outcome = absurd outcome
+text_ends : (text : List ℕ) (old new : SinkState) (status : Status) → ¬ Rose old.faults new.faults → HasTextOutcome text old new status → IsOneOf status of_text
+text_ends text old new statuses.Done prints outcome = (0, omega arith, refl)
+text_ends text old new statuses.Memory prints outcome = (1, omega arith, refl)
+text_ends text old new statuses.Write prints outcome = absurd (prints outcome.failed)
+text_ends text old new status prints outcome = absurd outcome
 
-text_completes : (text : List ℕ) (shelf : Shelving) (sink : Printing) (status : Status) → ¬ Rose shelf.reads_before shelf.reads_after → ¬ Rose sink.faults_before sink.faults_after → Lacks shelf status ⊎ HasTextOutcome text sink status → IsOneOf status of_text
-text_completes text shelf sink status reads prints (inl lacks) =
-    memory_among status of_text (1, omega arith, refl) (only_memory shelf status reads lacks)
-text_completes text shelf sink status reads prints (inr outcome) = text_ends text sink status prints outcome
+text_completes : (text : List ℕ) (found left : World) (status : Status) → NothingFails found left → Lacks found.shelf left.shelf status ⊎ HasTextOutcome text found.sink left.sink status → IsOneOf status of_text
+text_completes text found left status nothing (inl lacks) =
+    memory_among status of_text (1, omega arith, refl) (only_memory found.shelf left.shelf status nothing.reads lacks)
+text_completes text found left status nothing (inr outcome) =
+    text_ends text found.sink left.sink status nothing.prints outcome
 
 pub encode_completes : EncodeCompletes
-encode_completes name file shelf files sink work status m earlier good nothing outcome =
-    text_completes (problem_text (problem_of m earlier)) shelf sink status nothing.reads nothing.prints
-    (of_input HasEncodeOutcome shelf name file m earlier sink status good outcome)
+encode_completes name file found left status m earlier good nothing outcome =
+    text_completes (problem_text (problem_of m earlier)) found left status nothing
+    (of_input (HasEncodeOutcome found.sink left.sink) (outside_of found) (outside_of left) name file m earlier status good outcome)
 
 pub show_completes : ShowCompletes
-show_completes name shelf told files sink work status m tells has nothing outcome =
-    text_completes (canonical_text m) shelf sink status nothing.reads nothing.prints
-    (of_file HasShowOutcome shelf told name m sink status tells has outcome)
+show_completes name told found left status m tells has nothing outcome =
+    text_completes (canonical_text m) found left status nothing
+    (of_model (HasShowOutcome found.sink left.sink) (outside_of found) (outside_of left) told name m status tells has outcome)
 
 -- ---- `check`
 
@@ -60,101 +63,102 @@ some_there None there = absurd (false≢true there)
 some_there (Some bytes) there = tt
 
 -- the bytes of a certificate that is there are had, unless a read fails or memory is wanted
-pub no_bytes : (cert : List ℕ) (shelf : Shelving) (files : Files) (sink : Printing) (status : Status) → shelf.files ≡ Some files → IsSome (files cert) → HasNoBytes cert shelf sink status → Lacks shelf status
-no_bytes cert shelf files sink statuses.Read told there gone =
-    inl (refl, read_failed shelf.files files cert (λ bytes. Unit {0}) shelf.reads_before shelf.reads_after told (some_there (files cert) there) gone.0)
-no_bytes cert shelf files sink statuses.Memory told there gone = inr refl
-no_bytes cert shelf files sink status told there gone = absurd gone
+pub no_bytes : (cert : List ℕ) (found left : Outside) (files : Files) (status : Status) → found.shelf.files ≡ Some files → IsSome (files cert) → HasNoContent cert None found left status → Lacks found.shelf left.shelf status
+no_bytes cert found left files statuses.Read told there gone =
+    inl (refl, read_failed found.shelf left.shelf files cert (λ bytes. Unit {0}) told (some_there (files cert) there) gone.0)
+no_bytes cert found left files statuses.Memory told there gone = inr refl
+no_bytes cert found left files statuses.Limit told there gone = absurd gone.0
+no_bytes cert found left files status told there gone = absurd gone
 
 abbrev of_check : List Status
 of_check = statuses.Done ∷ statuses.Unrealizable ∷ statuses.Certificate ∷ statuses.Open ∷ statuses.Memory ∷ []
 
-no_entries_end : (text : List ℕ) (sink : Printing) (status : Status) → HasNoEntries text sink status → IsOneOf status of_check
-no_entries_end text sink statuses.Certificate outcome = (2, omega arith, refl)
-no_entries_end text sink statuses.Memory outcome = (4, omega arith, refl)
-no_entries_end text sink status outcome = absurd outcome
+no_entries_end : (text : List ℕ) (old new : SinkState) (status : Status) → HasNoEntries text old new status → IsOneOf status of_check
+no_entries_end text old new statuses.Certificate outcome = (2, omega arith, refl)
+no_entries_end text old new statuses.Memory outcome = (4, omega arith, refl)
+no_entries_end text old new status outcome = absurd outcome
 
-entries_end : (m : Lists) (earlier : List Pair) (entries : List Entry) (sink : Printing) (status : Status) → ¬ Rose sink.faults_before sink.faults_after → HasEntriesOutcome m earlier entries sink status → IsOneOf status of_check
-entries_end m earlier entries sink statuses.Done prints outcome = (0, omega arith, refl)
-entries_end m earlier entries sink statuses.Unrealizable prints outcome = (1, omega arith, refl)
-entries_end m earlier entries sink statuses.Certificate prints outcome = (2, omega arith, refl)
-entries_end m earlier entries sink statuses.Open prints outcome = (3, omega arith, refl)
-entries_end m earlier entries sink statuses.Memory prints outcome = (4, omega arith, refl)
-entries_end m earlier entries sink statuses.Write prints outcome = absurd (prints outcome.cut.failed)
-entries_end m earlier entries sink status prints outcome = absurd outcome
+entries_end : (m : Lists) (earlier : List Pair) (entries : List Entry) (old new : SinkState) (status : Status) → ¬ Rose old.faults new.faults → HasEntriesOutcome m earlier entries old new status → IsOneOf status of_check
+entries_end m earlier entries old new statuses.Done prints outcome = (0, omega arith, refl)
+entries_end m earlier entries old new statuses.Unrealizable prints outcome = (1, omega arith, refl)
+entries_end m earlier entries old new statuses.Certificate prints outcome = (2, omega arith, refl)
+entries_end m earlier entries old new statuses.Open prints outcome = (3, omega arith, refl)
+entries_end m earlier entries old new statuses.Memory prints outcome = (4, omega arith, refl)
+entries_end m earlier entries old new statuses.Write prints outcome = absurd (prints outcome.cut.failed)
+entries_end m earlier entries old new status prints outcome = absurd outcome
 
-certificate_ends : (m : Lists) (earlier : List Pair) (text : List ℕ) (sink : Printing) (status : Status) → ¬ Rose sink.faults_before sink.faults_after → HasCertificateOutcome m earlier text sink status → IsOneOf status of_check
-certificate_ends m earlier text sink status prints (inl none) = no_entries_end text sink status none
-certificate_ends m earlier text sink status prints (inr some) =
-    entries_end m earlier some.entries sink status prints some.outcome
+certificate_ends : (m : Lists) (earlier : List Pair) (text : List ℕ) (old new : SinkState) (status : Status) → ¬ Rose old.faults new.faults → HasCertificateOutcome m earlier text old new status → IsOneOf status of_check
+certificate_ends m earlier text old new status prints (inl none) = no_entries_end text old new status none
+certificate_ends m earlier text old new status prints (inr some) =
+    entries_end m earlier some.entries old new status prints some.outcome
 
-check_ends : (m : Lists) (earlier : List Pair) (cert : List ℕ) (shelf : Shelving) (files : Files) (sink : Printing) (status : Status) → shelf.files ≡ Some files → IsSome (files cert) → ¬ Rose sink.faults_before sink.faults_after → HasCheckOutcome cert shelf m earlier sink status → Lacks shelf status ⊎ IsOneOf status of_check
-check_ends m earlier cert shelf files sink status told there prints (inl gone) =
-    inl (no_bytes cert shelf files sink status told there gone)
-check_ends m earlier cert shelf files sink status told there prints (inr bytes) =
-    inr (certificate_ends m earlier bytes.0 sink status prints bytes.1.1)
+check_ends : (m : Lists) (earlier : List Pair) (cert : List ℕ) (found left : Outside) (files : Files) (status : Status) → found.shelf.files ≡ Some files → IsSome (files cert) → ¬ Rose found.sink.faults left.sink.faults → HasCheckOutcome cert found left m earlier status → Lacks found.shelf left.shelf status ⊎ IsOneOf status of_check
+check_ends m earlier cert found left files status told there prints (inl gone) =
+    inl (no_bytes cert found left files status told there gone)
+check_ends m earlier cert found left files status told there prints (inr bytes) =
+    inr (certificate_ends m earlier bytes.0 found.sink left.sink status prints bytes.1.1)
 
 -- it lacks something before its own work, or in it, or comes to an end
-check_completed : (m : Lists) (earlier : List Pair) (cert : List ℕ) (shelf : Shelving) (files : Files) (sink : Printing) (status : Status) → shelf.files ≡ Some files → IsSome (files cert) → ¬ Rose sink.faults_before sink.faults_after → Lacks shelf status ⊎ HasCheckOutcome cert shelf m earlier sink status → Lacks shelf status ⊎ IsOneOf status of_check
-check_completed m earlier cert shelf files sink status told there prints (inl lacks) = inl lacks
-check_completed m earlier cert shelf files sink status told there prints (inr outcome) =
-    check_ends m earlier cert shelf files sink status told there prints outcome
+check_completed : (m : Lists) (earlier : List Pair) (cert : List ℕ) (found left : Outside) (files : Files) (status : Status) → found.shelf.files ≡ Some files → IsSome (files cert) → ¬ Rose found.sink.faults left.sink.faults → Lacks found.shelf left.shelf status ⊎ HasCheckOutcome cert found left m earlier status → Lacks found.shelf left.shelf status ⊎ IsOneOf status of_check
+check_completed m earlier cert found left files status told there prints (inl lacks) = inl lacks
+check_completed m earlier cert found left files status told there prints (inr outcome) =
+    check_ends m earlier cert found left files status told there prints outcome
 
-memory_or_end : (shelf : Shelving) (status : Status) → ¬ Rose shelf.reads_before shelf.reads_after → Lacks shelf status ⊎ IsOneOf status of_check → IsOneOf status of_check
-memory_or_end shelf status reads (inl lacks) =
-    memory_among status of_check (4, omega arith, refl) (only_memory shelf status reads lacks)
-memory_or_end shelf status reads (inr among) = among
+memory_or_end : (old new : ShelfState) (status : Status) → ¬ Rose old.read_faults new.read_faults → Lacks old new status ⊎ IsOneOf status of_check → IsOneOf status of_check
+memory_or_end old new status reads (inl lacks) =
+    memory_among status of_check (4, omega arith, refl) (only_memory old new status reads lacks)
+memory_or_end old new status reads (inr among) = among
 
 pub check_completes : CheckCompletes
-check_completes name cert file shelf files sink work status m earlier good there nothing outcome =
-    memory_or_end shelf status nothing.reads
-    (check_completed m earlier cert shelf good.files sink status good.told there nothing.prints
-    (of_input (HasCheckOutcome cert shelf) shelf name file m earlier sink status good outcome))
+check_completes name cert file found left status m earlier good there nothing outcome =
+    memory_or_end found.shelf left.shelf status nothing.reads
+    (check_completed m earlier cert (outside_of found) (outside_of left) good.files status good.told there nothing.prints
+    (of_input (HasCheckOutcome cert (outside_of found) (outside_of left)) (outside_of found) (outside_of left) name file m earlier status good outcome))
 
 -- ---- `solve`
 
 abbrev of_solve : List Status
 of_solve = statuses.Done ∷ statuses.Unrealizable ∷ statuses.Open ∷ statuses.Memory ∷ []
 
-cut_rose : (cert : Option (List ℕ)) (entries : List Entry) (files : Writing) → IsCertificateCut cert entries files → Rose files.faults_before files.faults_after
-cut_rose None entries files cut = absurd cut
-cut_rose (Some name) entries files cut = cut.1.2
+cut_rose : (cert : Option (List ℕ)) (entries : List Entry) (old new : ShelfState) → IsCertificateCut cert entries old new → Rose old.write_faults new.write_faults
+cut_rose None entries old new cut = absurd cut
+cut_rose (Some name) entries old new cut = cut.1.2
 
-not_lost : (want : Wanted) (work : Working) (files : Writing) (m : Lists) (earlier : List Pair) (sink : Printing) → ¬ Rose files.faults_before files.faults_after → ¬ Rose sink.faults_before sink.faults_after → IsLost want work files m earlier sink → ⊥
-not_lost want work files m earlier sink writes prints outcome =
+not_lost : (want : Wanted) (found left : World) (m : Lists) (earlier : List Pair) → NothingFails found left → IsLost want found left m earlier → ⊥
+not_lost want found left m earlier nothing outcome =
     ⊎_elim
-    (λ cut. writes (cut_rose want.cert (entries_of outcome.answer) files cut.0))
-    (λ cut. prints cut.1.failed)
+    (λ cut. nothing.writes (cut_rose want.cert (entries_of outcome.answer) found.shelf left.shelf cut.0))
+    (λ cut. nothing.prints cut.1.failed)
     outcome.lost
 
-solve_ends : (want : Wanted) (work : Working) (files : Writing) (m : Lists) (earlier : List Pair) (sink : Printing) (status : Status) → ¬ Rose files.faults_before files.faults_after → ¬ Rose sink.faults_before sink.faults_after → HasSolveOutcome want work files m earlier sink status → IsOneOf status of_solve
-solve_ends want work files m earlier sink statuses.Done writes prints outcome = (0, omega arith, refl)
-solve_ends want work files m earlier sink statuses.Unrealizable writes prints outcome = (1, omega arith, refl)
-solve_ends want work files m earlier sink statuses.Open writes prints outcome = (2, omega arith, refl)
-solve_ends want work files m earlier sink statuses.Memory writes prints outcome = (3, omega arith, refl)
-solve_ends want work files m earlier sink statuses.Write writes prints outcome =
-    absurd (not_lost want work files m earlier sink writes prints outcome)
-solve_ends want work files m earlier sink status writes prints outcome = absurd outcome
+solve_ends : (want : Wanted) (found left : World) (m : Lists) (earlier : List Pair) (status : Status) → NothingFails found left → HasSolveOutcome want found left m earlier status → IsOneOf status of_solve
+solve_ends want found left m earlier statuses.Done nothing outcome = (0, omega arith, refl)
+solve_ends want found left m earlier statuses.Unrealizable nothing outcome = (1, omega arith, refl)
+solve_ends want found left m earlier statuses.Open nothing outcome = (2, omega arith, refl)
+solve_ends want found left m earlier statuses.Memory nothing outcome = (3, omega arith, refl)
+solve_ends want found left m earlier statuses.Write nothing outcome =
+    absurd (not_lost want found left m earlier nothing outcome)
+solve_ends want found left m earlier status nothing outcome = absurd outcome
 
 -- a spent budget is too small to be enough
-not_spent : (want : Wanted) (work : Working) (files : Writing) (m : Lists) (earlier : List Pair) (sink : Printing) (status : Status) → HasSolveOutcome want work files m earlier sink status → IsEnough want.plan m earlier → status ≢ statuses.Open
-not_spent want work files m earlier sink status outcome enough is =
-    let exhausted : HasSolveOutcome want work files m earlier sink statuses.Open = subst (λ s. HasSolveOutcome want work files m earlier sink s) is outcome in
+not_spent : (want : Wanted) (found left : World) (m : Lists) (earlier : List Pair) (status : Status) → HasSolveOutcome want found left m earlier status → IsEnough want.plan m earlier → status ≢ statuses.Open
+not_spent want found left m earlier status outcome enough is =
+    let exhausted : HasSolveOutcome want found left m earlier statuses.Open = subst (λ s. HasSolveOutcome want found left m earlier s) is outcome in
     lt_irrefl want.plan.budget (lt_of_lt_of_le exhausted.solved.2.is_spent.few enough)
 
 memory_not_open : (status : Status) → status ≡ statuses.Memory → status ≢ statuses.Open
 memory_not_open status memory is = let same : statuses.Memory ≡ statuses.Open = sym memory ∙ is in absurd (cc)
 
-solved : (want : Wanted) (work : Working) (shelf : Shelving) (files : Writing) (m : Lists) (earlier : List Pair) (sink : Printing) (status : Status) → NothingFails shelf files sink → Lacks shelf status ⊎ HasSolveOutcome want work files m earlier sink status → IsOneOf status of_solve × (IsEnough want.plan m earlier → status ≢ statuses.Open)
-solved want work shelf files m earlier sink status nothing (inl lacks) =
-    let memory = only_memory shelf status nothing.reads lacks in
+solved : (want : Wanted) (found left : World) (m : Lists) (earlier : List Pair) (status : Status) → NothingFails found left → Lacks found.shelf left.shelf status ⊎ HasSolveOutcome want found left m earlier status → IsOneOf status of_solve × (IsEnough want.plan m earlier → status ≢ statuses.Open)
+solved want found left m earlier status nothing (inl lacks) =
+    let memory = only_memory found.shelf left.shelf status nothing.reads lacks in
     (memory_among status of_solve (3, omega arith, refl) memory, λ enough. memory_not_open status memory)
-solved want work shelf files m earlier sink status nothing (inr outcome) = (
-  solve_ends want work files m earlier sink status nothing.writes nothing.prints outcome,
-  not_spent want work files m earlier sink status outcome,
+solved want found left m earlier status nothing (inr outcome) = (
+  solve_ends want found left m earlier status nothing outcome,
+  not_spent want found left m earlier status outcome,
 )
 
 pub solve_completes : SolveCompletes
-solve_completes name file cert workers plan shelf files sink work status m earlier good nothing outcome =
-    solved (wanted plan cert) work shelf files m earlier sink status nothing
-    (of_input (HasSolveOutcome (wanted plan cert) work files) shelf name file m earlier sink status good outcome)
+solve_completes name file cert workers plan found left status m earlier good nothing outcome =
+    solved (wanted plan cert) found left m earlier status nothing
+    (of_input (HasSolveOutcome (wanted plan cert) found left) (outside_of found) (outside_of left) name file m earlier status good outcome)

@@ -1,6 +1,7 @@
 pub mod Accepting
 pub mod Checking
 pub mod Completing
+pub mod Ending
 pub mod GoodInputs
 pub mod Numerals
 pub mod RuleLines

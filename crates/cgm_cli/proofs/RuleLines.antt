@@ -1,5 +1,5 @@
 -- A text has a line for each rule of its model, and the first rule that fails is one of them.
-use Rattle.std.proofs.Common.{◌≡◌, ℕ, ◌+◌, ◌<◌, List, [], ◌∷◌, ◌++◌, length, Some, get_or, slice_get, sym, ap, ◌∙◌, subst, inl, inr, arith}
+use Rattle.std.proofs.Common.{◌≡◌, ℕ, ◌+◌, ◌<◌, List, [], ◌∷◌, length, get_or, sym, ap, subst, inl, inr, arith}
 use Rattle.std.proofs.lemmas.List.{length-append}
 use Rattle.std.proofs.lemmas.Option.{slice_get-get_or}
 use Rattle.cgm_base.specs.declared.status.Status.{Status}
@@ -12,7 +12,8 @@ use Rattle.cgm_model.specs.declared.lists.Statement.TheVariants as statements
 use Rattle.cgm_model.specs.Lists.{no_lists, added}
 use Rattle.cgm_model.specs.Place.{FirstFailsFrom, FirstFails}
 use Rattle.cgm_text.specs.Text.{LineStatement, all_added, model_of, rule_line, rule_lines, IsReading}
-use Rattle.cgm_cli.specs.Effects.{Printing, TellsOrLacksMemory}
+use Rattle.cgm_shelf.specs.Sink.{SinkState}
+use Rattle.cgm_cli.specs.Effects.{TellsOrLacksMemory}
 use Rattle.cgm_cli.specs.Inputs.{HasNoProblem, row_limit}
 use Rattle.cgm_cli.specs.FaultLines.{limit_fault}
 
@@ -42,8 +43,9 @@ has_line m lines rule count first =
     omega (arith, count, fails_within (IsWithinMeasure m (number_box m)) 0 m.rules rule first)
 
 -- its line was told, or there was no memory for that
-pub no_problem : (m : Lists) (lines : List ℕ) (rule : ℕ) (sink : Printing) (status : Status) → length lines ≡ length m.rules → FirstFails (IsWithinMeasure m (number_box m)) m.rules rule → TellsOrLacksMemory sink (limit_fault (row_limit (get_or lines rule 0))) statuses.Limit status → HasNoProblem m lines sink status
-no_problem m lines rule sink status count first (inl told) =
-    subst (λ s. HasNoProblem m lines sink s) (sym told.0)
+pub no_problem : (m : Lists) (lines : List ℕ) (rule : ℕ) (old new : SinkState) (status : Status) → length lines ≡ length m.rules → FirstFails (IsWithinMeasure m (number_box m)) m.rules rule → TellsOrLacksMemory (limit_fault (row_limit (get_or lines rule 0))) statuses.Limit old new status → HasNoProblem m lines old new status
+no_problem m lines rule old new status count first (inl told) =
+    subst (λ s. HasNoProblem m lines old new s) (sym told.0)
     (record { rule = rule; line = get_or lines rule 0; first = first; line_is = slice_get-get_or lines rule 0 (has_line m lines rule count first); told = told.1 })
-no_problem m lines rule sink status count first (inr memory) = subst (λ s. HasNoProblem m lines sink s) (sym memory.0) memory.1
+no_problem m lines rule old new status count first (inr memory) =
+    subst (λ s. HasNoProblem m lines old new s) (sym memory.0) memory.1

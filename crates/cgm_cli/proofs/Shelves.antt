@@ -1,104 +1,145 @@
 -- What a call finds on a shelf holds for the calls around it too: its files are the same, and its count of failed reads never falls.
-use Rattle.std.proofs.Common.{◌≡◌, ℕ, ◌≤◌, List, Option, Some, None, arith, subst, inl, inr}
+use Rattle.std.proofs.Common.{◌≡◌, ℕ, ◌<◌, ◌≤◌, ◌⊎◌, List, length, IsSomeAnd, Option, Some, None, arith, subst, inl, inr, ◌∙◌}
 use Rattle.std.proofs.lemmas.Int.{clamps}
 use Rattle.cgm_base.specs.declared.status.Status.{Status}
 use Rattle.cgm_base.specs.declared.status.Status.TheVariants as statuses
 use Rattle.cgm_model.specs.declared.lists.Lists.{Lists}
 use Rattle.cgm_shelf.specs.Faults.{Rose}
-use Rattle.cgm_shelf.specs.Shelf.{Files, MissingOrRose}
-use Rattle.cgm_text.specs.Text.{IsReading, IsTextOf}
+use Rattle.cgm_shelf.specs.Shelf.{CantRead, Files, IsMissing, Leaves, LeavesPart, OnlyReads, ShelfState, WhereTold}
+use Rattle.cgm_shelf.specs.Sink.{SinkState}
+use Rattle.cgm_trail.specs.TrailState.{TrailState}
 use Rattle.cgm_evolve.specs.Pairs.{Pair}
-use Rattle.cgm_evolve.specs.Text.{IsTextOf as IsEarlierTextOf}
-use Rattle.cgm_cli.specs.Effects.{Printing, Shelving, shelving}
-use Rattle.cgm_cli.specs.CheckOutcome.{HasCheckOutcome, HasNoBytes}
-use Rattle.cgm_cli.specs.Inputs.{HasInputOutcome, HasProblemOutcome, HasEarlierFaultOutcome, HasNoEarlier, HasNoInput, HasNoText, IsEarlierOf, IsFileOf, IsInputOf, IsModelOf, IsReadingOf}
+use Rattle.cgm_atom.specs.declared.entries.Entry.{Entry}
+use Rattle.cgm_report.specs.Answers.{report_of}
+use Rattle.cgm_cli.specs.Answers.{entries_of}
+use Rattle.cgm_cli.specs.CheckOutcome.{HasCheckOutcome}
+use Rattle.cgm_cli.specs.CommandLine.{Command, solve, check, show, encode}
+use Rattle.cgm_cli.specs.Effects.{IsCutOff, IsTold, IsUntouched, outside, world}
+use Rattle.cgm_cli.specs.FaultLines.{write_fault}
+use Rattle.cgm_cli.specs.Inputs.{HasEarlierFaultOutcome, HasNoContent, HasNoEarlier, HasNoInput, HasNothingKnown, HasProblemOutcome, IsContent, IsFileOf, IsInputOf, IsKnownOf, IsModelOf, IsReadingOf, most_bytes}
+use Rattle.cgm_cli.specs.Outcome.{HasOwnOutcome}
+use Rattle.cgm_cli.specs.SolveOutcome.{HasSolveOutcome, IsCertificateCut, IsCertified, Wanted, wanted}
+
+-- ---- what a later call finds
 
 rose_from : (before mid now : ℕ) → before ≤ mid → Rose mid now → Rose before now
 rose_from before mid now under rose = omega (arith, clamps, under, rose)
 
-missing_or_rose : (told : Option Files) (name : List ℕ) (before mid now : ℕ) → before ≤ mid → MissingOrRose told name mid now → MissingOrRose told name before now
-missing_or_rose told name before mid now under (inl missing) = inl missing
-missing_or_rose told name before mid now under (inr rose) = inr (rose_from before mid now under rose)
+cant_read : (old mid new : ShelfState) (name : List ℕ) → OnlyReads old mid → CantRead mid new name → CantRead old new name
+cant_read old mid new name only (inl missing) = inl (subst (λ told. IsMissing told name) only.files missing)
+cant_read old mid new name only (inr rose) = inr (rose_from old.read_faults mid.read_faults new.read_faults only.later rose)
 
--- a file of these bytes is one whatever the counts
-pub file_of : (told : Option Files) (name : List ℕ) (P : List ℕ → Type 0) (before now before' now' : ℕ) → IsFileOf (shelving told before now) name P → IsFileOf (shelving told before' now') name P
-file_of told name P before now before' now' file =
-    (file.0, (record { told = file.1.0.told; short = file.1.0.short }, file.1.1))
+no_content : (name : List ℕ) (limit : Option ℕ) (old mid new : ShelfState) (sink said : SinkState) (status : Status) → OnlyReads old mid → HasNoContent name limit (outside mid sink) (outside new said) status → HasNoContent name limit (outside old sink) (outside new said) status
+no_content name limit old mid new sink said statuses.Read only gone = (cant_read old mid new name only gone.0, gone.1)
+no_content name limit old mid new sink said statuses.Limit only gone =
+    (subst (λ told. IsSomeAnd limit (λ most. WhereTold told name (λ file. most < length file))) only.files gone.0, gone.1)
+no_content name limit old mid new sink said statuses.Memory only gone = gone
+no_content name limit old mid new sink said status only gone = absurd gone
 
-no_text : (told : Option Files) (name : List ℕ) (before mid now : ℕ) (sink : Printing) (status : Status) → before ≤ mid → HasNoText name (shelving told mid now) sink status → HasNoText name (shelving told before now) sink status
-no_text told name before mid now sink statuses.Read under gone = (missing_or_rose told name before mid now under gone.0, gone.1)
-no_text told name before mid now sink statuses.Limit under gone = gone
-no_text told name before mid now sink statuses.Memory under gone = gone
-no_text told name before mid now sink statuses.Done under gone = gone
-no_text told name before mid now sink statuses.Unrealizable under gone = gone
-no_text told name before mid now sink statuses.Usage under gone = gone
-no_text told name before mid now sink statuses.Text under gone = gone
-no_text told name before mid now sink statuses.Earlier under gone = gone
-no_text told name before mid now sink statuses.Certificate under gone = gone
-no_text told name before mid now sink statuses.Open under gone = gone
-no_text told name before mid now sink statuses.Write under gone = gone
+no_earlier : (name : List ℕ) (old mid new : ShelfState) (sink said : SinkState) (status : Status) → OnlyReads old mid → HasNoEarlier name (outside mid sink) (outside new said) status → HasNoEarlier name (outside old sink) (outside new said) status
+no_earlier name old mid new sink said status only (inl gone) =
+    inl (no_content name (Some most_bytes) old mid new sink said status only gone)
+no_earlier name old mid new sink said status only (inr file) =
+    inr (subst (λ told. IsFileOf told name (λ text. HasEarlierFaultOutcome text sink said status)) only.files file)
 
-no_earlier : (told : Option Files) (name : List ℕ) (before mid now : ℕ) (sink : Printing) (status : Status) → before ≤ mid → HasNoEarlier name (shelving told mid now) sink status → HasNoEarlier name (shelving told before now) sink status
-no_earlier told name before mid now sink status under (inl gone) = inl (no_text told name before mid now sink status under gone)
-no_earlier told name before mid now sink status under (inr file) = inr (file_of told name (λ text. HasEarlierFaultOutcome text sink status) mid now before now file)
+nothing_known : (file : Option (List ℕ)) (old mid new : ShelfState) (sink said : SinkState) (status : Status) → OnlyReads old mid → HasNothingKnown file (outside mid sink) (outside new said) status → HasNothingKnown file (outside old sink) (outside new said) status
+nothing_known None old mid new sink said status only gone = gone
+nothing_known (Some name) old mid new sink said status only gone = no_earlier name old mid new sink said status only gone
 
 -- a reading is one of its model
-pub model_of_reading : (shelf : Shelving) (name : List ℕ) (m : Lists) (lines : List ℕ) → IsReadingOf shelf name m lines → IsModelOf shelf name m
-model_of_reading shelf name m lines file =
+pub model_of_reading : (told : Option Files) (name : List ℕ) (m : Lists) (lines : List ℕ) → IsReadingOf told name m lines → IsModelOf told name m
+model_of_reading told name m lines file =
     let reading = file.1.1 in
     (file.0, (file.1.0, (reading.said, (reading.has, reading.model_is))))
 
--- a model was read, and then no earlier realization
-pub no_input : (name file : List ℕ) (told told_then : Option Files) (before mid now : ℕ) (m : Lists) (lines : List ℕ) (sink : Printing) (status : Status) → told_then ≡ told → before ≤ mid → IsReadingOf (shelving told before mid) name m lines → HasNoEarlier file (shelving told_then mid now) sink status → HasNoInput name (Some file) (shelving told before now) sink status
-no_input name file told told_then before mid now m lines sink status same under reading gone =
-    let model = model_of_reading (shelving told before mid) name m lines reading in
+-- ---- the input
+
+-- a model was read without a word to the sink, and then no earlier realization
+pub no_input : (name : List ℕ) (file : Option (List ℕ)) (old mid new : ShelfState) (sink quiet said : SinkState) (m : Lists) (lines : List ℕ) (status : Status) → OnlyReads old mid → quiet ≡ sink → IsReadingOf old.files name m lines → HasNothingKnown file (outside mid quiet) (outside new said) status → HasNoInput name file (outside old sink) (outside new said) status
+no_input name file old mid new sink quiet said m lines status only same reading gone =
+    let quietly : HasNothingKnown file (outside mid sink) (outside new said) status = subst (λ s. HasNothingKnown file (outside mid s) (outside new said) status) same gone in
     inr (
-      (m, file_of told name (λ text. IsTextOf text m) before mid before now model),
-      no_earlier told file before mid now sink status under (subst (λ files. HasNoEarlier file (shelving files mid now) sink status) same gone),
+      (m, model_of_reading old.files name m lines reading),
+      nothing_known file old mid new sink said status only quietly,
     )
 
--- a model was read, and then an earlier realization
-pub input_of : (name file : List ℕ) (told told_then : Option Files) (before mid now : ℕ) (m : Lists) (lines : List ℕ) (pairs : List Pair) → told_then ≡ told → IsReadingOf (shelving told before mid) name m lines → IsEarlierOf (shelving told_then mid now) file pairs → IsInputOf (shelving told before now) name (Some file) m lines pairs
-input_of name file told told_then before mid now m lines pairs same reading earlier = record {
-  model = file_of told name (λ text. IsReading text m lines) before mid before now reading;
-  known = file_of told file (λ text. IsEarlierTextOf text pairs) mid now before now (subst (λ files. IsEarlierOf (shelving files mid now) file pairs) same earlier);
+-- a model was read, and then what is known of an earlier realization
+pub input_of : (name : List ℕ) (file : Option (List ℕ)) (old mid : ShelfState) (m : Lists) (lines : List ℕ) (pairs : List Pair) → OnlyReads old mid → IsReadingOf old.files name m lines → IsKnownOf mid.files file pairs → IsInputOf old.files name file m lines pairs
+input_of name file old mid m lines pairs only reading known =
+    record { model = reading; known = subst (λ told. IsKnownOf told file pairs) only.files known }
+
+-- ---- what comes of an input, told from the world before it was read
+
+checked_from : (cert : List ℕ) (old mid new : ShelfState) (sink said : SinkState) (m : Lists) (pairs : List Pair) (status : Status) → OnlyReads old mid → HasCheckOutcome cert (outside mid sink) (outside new said) m pairs status → HasCheckOutcome cert (outside old sink) (outside new said) m pairs status
+checked_from cert old mid new sink said m pairs status only (inl gone) =
+    inl (no_content cert None old mid new sink said status only gone)
+checked_from cert old mid new sink said m pairs status only (inr found) =
+    inr (found.0, (subst (λ told. IsContent told cert None found.0) only.files found.1.0, found.1.1))
+
+pub untouched_from : (old mid new : ShelfState) → OnlyReads old mid → IsUntouched mid new → IsUntouched old new
+untouched_from old mid new only kept = record { same = kept.same ∙ only.files; counted = kept.counted ∙ only.writes }
+
+certified_from : (cert : Option (List ℕ)) (entries : List Entry) (old mid new : ShelfState) → OnlyReads old mid → IsCertified cert entries mid new → IsCertified cert entries old new
+certified_from None entries old mid new only certified = untouched_from old mid new only certified
+certified_from (Some name) entries old mid new only certified =
+    (certified.0, (certified.1.0, subst (λ told. Leaves told new.files name certified.0) only.files certified.1.1))
+
+cut_from : (cert : Option (List ℕ)) (entries : List Entry) (old mid new : ShelfState) → OnlyReads old mid → IsCertificateCut cert entries mid new → IsCertificateCut cert entries old new
+cut_from None entries old mid new only cut = cut
+cut_from (Some name) entries old mid new only cut = (
+  cut.0,
+  (
+    cut.1.0,
+    subst (λ told. LeavesPart told new.files name cut.0) only.files cut.1.1,
+    subst (λ count. Rose count new.write_faults) only.writes cut.1.2,
+  ),
+)
+
+lost_from : (cert : Option (List ℕ)) (entries : List Entry) (old mid new : ShelfState) (A B : Type 0) → OnlyReads old mid → (IsCertificateCut cert entries mid new × A) ⊎ (IsCertified cert entries mid new × B) → (IsCertificateCut cert entries old new × A) ⊎ (IsCertified cert entries old new × B)
+lost_from cert entries old mid new A B only (inl cut) = inl (cut_from cert entries old mid new only cut.0, cut.1)
+lost_from cert entries old mid new A B only (inr whole) = inr (certified_from cert entries old mid new only whole.0, whole.1)
+
+solved_from : (want : Wanted) (old mid new : ShelfState) (sink said : SinkState) (work done : List TrailState) (m : Lists) (pairs : List Pair) (status : Status) → OnlyReads old mid → HasSolveOutcome want (world mid sink work) (world new said done) m pairs status → HasSolveOutcome want (world old sink work) (world new said done) m pairs status
+solved_from want old mid new sink said work done m pairs statuses.Done only own = record {
+  found = own.found;
+  entries = own.entries;
+  shown = own.shown;
+  certified = certified_from want.cert own.entries old mid new only own.certified;
+  printed = own.printed;
 }
-
--- the same input whatever was read after it
-input_then : (told : Option Files) (name : List ℕ) (file : Option (List ℕ)) (before mid now : ℕ) (m : Lists) (lines : List ℕ) (pairs : List Pair) → IsInputOf (shelving told before mid) name file m lines pairs → IsInputOf (shelving told before now) name file m lines pairs
-input_then told name None before mid now m lines pairs input = record {
-  model = file_of told name (λ text. IsReading text m lines) before mid before now input.model;
-  known = input.known;
+solved_from want old mid new sink said work done m pairs statuses.Unrealizable only own = record {
+  entries = own.entries;
+  shown = own.shown;
+  certified = certified_from want.cert own.entries old mid new only own.certified;
+  printed = own.printed;
 }
-input_then told name (Some file) before mid now m lines pairs input = record {
-  model = file_of told name (λ text. IsReading text m lines) before mid before now input.model;
-  known = file_of told file (λ text. IsEarlierTextOf text pairs) before mid before now input.known;
+solved_from want old mid new sink said work done m pairs statuses.Open only own = record {
+  best = own.best;
+  spent = own.spent;
+  entries = own.entries;
+  solved = own.solved;
+  certified = certified_from want.cert own.entries old mid new only own.certified;
+  printed = own.printed;
 }
+solved_from want old mid new sink said work done m pairs statuses.Write only own = record {
+  answer = own.answer;
+  solved = own.solved;
+  lost = lost_from want.cert (entries_of own.answer) old mid new (IsTold write_fault sink said) (IsCutOff (report_of m own.answer) sink said) only own.lost;
+}
+solved_from want old mid new sink said work done m pairs statuses.Memory only own = own
+solved_from want old mid new sink said work done m pairs status only own = absurd own
 
--- an input was read, and then this came of it
-pub after_input : (HasModelOutcome : Lists → List ℕ → List Pair → Printing → Status → Type 0) (told : Option Files) (name : List ℕ) (file : Option (List ℕ)) (before mid now : ℕ) (m : Lists) (lines : List ℕ) (pairs : List Pair) (sink : Printing) (status : Status) → IsInputOf (shelving told before mid) name file m lines pairs → HasModelOutcome m lines pairs sink status → HasInputOutcome HasModelOutcome name file (shelving told before now) sink status
-after_input HasModelOutcome told name file before mid now m lines pairs sink status input outcome =
-    inr (m, lines, pairs, (input_then told name file before mid now m lines pairs input, outcome))
+problem_from : (P Q : Lists → List Pair → Status → Type 0) (sink said : SinkState) (m : Lists) (lines : List ℕ) (pairs : List Pair) (status : Status) → (P m pairs status → Q m pairs status) → HasProblemOutcome P sink said m lines pairs status → HasProblemOutcome Q sink said m lines pairs status
+problem_from P Q sink said m lines pairs status next (inl none) = inl none
+problem_from P Q sink said m lines pairs status next (inr some) = inr (some.0, next some.1)
 
-no_bytes : (told : Option Files) (name : List ℕ) (before mid now : ℕ) (sink : Printing) (status : Status) → before ≤ mid → HasNoBytes name (shelving told mid now) sink status → HasNoBytes name (shelving told before now) sink status
-no_bytes told name before mid now sink statuses.Read under gone = (missing_or_rose told name before mid now under gone.0, gone.1)
-no_bytes told name before mid now sink statuses.Memory under gone = gone
-no_bytes told name before mid now sink statuses.Limit under gone = gone
-no_bytes told name before mid now sink statuses.Done under gone = gone
-no_bytes told name before mid now sink statuses.Unrealizable under gone = gone
-no_bytes told name before mid now sink statuses.Usage under gone = gone
-no_bytes told name before mid now sink statuses.Text under gone = gone
-no_bytes told name before mid now sink statuses.Earlier under gone = gone
-no_bytes told name before mid now sink statuses.Certificate under gone = gone
-no_bytes told name before mid now sink statuses.Open under gone = gone
-no_bytes told name before mid now sink statuses.Write under gone = gone
-
--- a certificate was looked for after other reads
-checked_then : (told : Option Files) (cert : List ℕ) (before mid now : ℕ) (m : Lists) (pairs : List Pair) (sink : Printing) (status : Status) → before ≤ mid → HasCheckOutcome cert (shelving told mid now) m pairs sink status → HasCheckOutcome cert (shelving told before now) m pairs sink status
-checked_then told cert before mid now m pairs sink status under (inl gone) = inl (no_bytes told cert before mid now sink status under gone)
-checked_then told cert before mid now m pairs sink status under (inr found) = inr found
-
-pub problem_checked_then : (told : Option Files) (cert : List ℕ) (before mid now : ℕ) (m : Lists) (lines : List ℕ) (pairs : List Pair) (sink : Printing) (status : Status) → before ≤ mid → HasProblemOutcome (HasCheckOutcome cert (shelving told mid now)) m lines pairs sink status → HasProblemOutcome (HasCheckOutcome cert (shelving told before now)) m lines pairs sink status
-problem_checked_then told cert before mid now m lines pairs sink status under (inl none) = inl none
-problem_checked_then told cert before mid now m lines pairs sink status under (inr some) =
-    inr (some.0, checked_then told cert before mid now m pairs sink status under some.1)
+-- a command's own outcome, from the world before its input was read
+pub own_from : (command : Command) (old mid new : ShelfState) (sink said : SinkState) (work done : List TrailState) (m : Lists) (lines : List ℕ) (pairs : List Pair) (status : Status) → OnlyReads old mid → HasOwnOutcome command (world mid sink work) (world new said done) m lines pairs status → HasOwnOutcome command (world old sink work) (world new said done) m lines pairs status
+own_from (solve name file cert workers plan) old mid new sink said work done m lines pairs status only own =
+    problem_from (HasSolveOutcome (wanted plan cert) (world mid sink work) (world new said done)) (HasSolveOutcome (wanted plan cert) (world old sink work) (world new said done)) sink said m lines pairs status
+    (λ solved. solved_from (wanted plan cert) old mid new sink said work done m pairs status only solved) own
+own_from (check name cert file) old mid new sink said work done m lines pairs status only own =
+    problem_from (HasCheckOutcome cert (outside mid sink) (outside new said)) (HasCheckOutcome cert (outside old sink) (outside new said)) sink said m lines pairs status
+    (λ checked. checked_from cert old mid new sink said m pairs status only checked) own
+own_from (encode name file) old mid new sink said work done m lines pairs status only own = own
+own_from (show name) old mid new sink said work done m lines pairs status only own = own

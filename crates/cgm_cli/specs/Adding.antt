@@ -8,4 +8,5 @@ use Rattle.cgm_cli.specs.CommandLine.{option}
 abbrev pub with_numbers : App → App
 with_numbers options =
     with_rule (with_rule (with_rule (with_rule options
-    (option (codes "workers"))) (option (codes "budget"))) (option (codes "restarts"))) (option (codes "seed"))
+    (option (codes "workers"))) (option (codes "budget"))) (option (codes "restarts")))
+    (option (codes "seed"))

@@ -23,7 +23,10 @@ option name = record (new_rule name) { long = Some name }
 -- a command word with its positional words and its options, without help and version
 abbrev pub options_of : Text → List Text → List Text → App
 options_of word positionals names = record {
-  top = record (new_shape word) { rules = map positional positionals ++ map option names; disable_help_flag = true };
+  top = record (new_shape word) {
+    rules = map positional positionals ++ map option names;
+    disable_help_flag = true;
+  };
   subs = [];
 }
 
@@ -31,11 +34,13 @@ options_of word positionals names = record {
 abbrev pub solve_options : App
 solve_options =
     options_of (codes "solve") (codes "model" ∷ [])
-    (codes "earlier" ∷ codes "cert" ∷ codes "workers" ∷ codes "budget" ∷ codes "restarts" ∷ codes "seed" ∷ [])
+    (codes "earlier" ∷ codes "cert" ∷ codes "workers" ∷ codes "budget" ∷ codes "restarts"
+    ∷ codes "seed" ∷ [])
 
 -- `check MODEL CERT --earlier=FILE`
 abbrev pub check_options : App
-check_options = options_of (codes "check") (codes "model" ∷ codes "cert" ∷ []) (codes "earlier" ∷ [])
+check_options =
+    options_of (codes "check") (codes "model" ∷ codes "cert" ∷ []) (codes "earlier" ∷ [])
 
 -- `show MODEL`
 abbrev pub show_options : App
@@ -57,7 +62,8 @@ given options words = unless_faulty (fault_of options words) (matches_of options
 
 -- the number of an option, or its default; none where what is given is no number of its range
 abbrev pub number_given : Text → ℕ → ℕ → ℕ → List Row → Option ℕ
-number_given name least greatest default rows = number_or least greatest default (first_of name rows)
+number_given name least greatest default rows =
+    number_or least greatest default (first_of name rows)
 
 abbrev pub workers_given : List Row → Option ℕ
 workers_given rows = number_given (codes "workers") 1 max_workers 4 rows
@@ -91,11 +97,26 @@ pub data Command : Type 0 where
   -- `encode`, with the name of the model's file and that of the earlier realization's file
   encode : Text → Option Text → Command
 
+-- the file of the model
+abbrev pub model_file : Command → List ℕ
+model_file (solve name file cert workers plan) = name
+model_file (check name cert file) = name
+model_file (encode name file) = name
+model_file (show name) = name
+
+-- the file of the earlier realization, where one is named
+abbrev pub earlier_file : Command → Option (List ℕ)
+earlier_file (solve name file cert workers plan) = file
+earlier_file (check name cert file) = file
+earlier_file (encode name file) = file
+earlier_file (show name) = None
+
 abbrev pub solve_with : List Row → Option Command
 solve_with rows =
     option_and_then (λ model.
     option_and_then (λ workers.
-    option_map (λ plan. solve model (first_of (codes "earlier") rows) (first_of (codes "cert") rows) workers plan)
+    option_map (λ plan.
+    solve model (first_of (codes "earlier") rows) (first_of (codes "cert") rows) workers plan)
     (plan_given rows)) (workers_given rows)) (first_of (codes "model") rows)
 
 abbrev pub check_with : List Row → Option Command
@@ -108,15 +129,19 @@ abbrev pub show_with : List Row → Option Command
 show_with rows = option_map show (first_of (codes "model") rows)
 
 abbrev pub encode_with : List Row → Option Command
-encode_with rows = option_map (λ model. encode model (first_of (codes "earlier") rows)) (first_of (codes "model") rows)
+encode_with rows =
+    option_map (λ model. encode model (first_of (codes "earlier") rows))
+    (first_of (codes "model") rows)
 
 -- the command of the first word, which the words begin with
 abbrev pub command_of : Text → List Text → Option Command
 command_of word words =
     if bytes_eq word (codes "solve") then option_and_then solve_with (given solve_options words)
-    else if bytes_eq word (codes "check") then option_and_then check_with (given check_options words)
+    else if bytes_eq word (codes "check")
+    then option_and_then check_with (given check_options words)
     else if bytes_eq word (codes "show") then option_and_then show_with (given show_options words)
-    else if bytes_eq word (codes "encode") then option_and_then encode_with (given encode_options words)
+    else if bytes_eq word (codes "encode")
+    then option_and_then encode_with (given encode_options words)
     else None
 
 abbrev pub command_line : List Text → Option Command

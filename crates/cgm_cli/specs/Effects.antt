@@ -1,89 +1,76 @@
--- What a command does to what it is given: the shelf, the sink, and the trails of workers.
-use Rattle.std.specs.Prelude.{◌≡◌, ℕ, ◌⊎◌, List, ◌++◌, Option}
+-- What a command finds and leaves: the shelf, the sink, and the trails of workers; and what is printed in between.
+use Rattle.std.specs.Prelude.{◌≡◌, ◌⊎◌, ℕ, List, ◌++◌}
 use Rattle.cgm_base.specs.declared.status.Status.{Status}
 use Rattle.cgm_base.specs.declared.status.Status.TheVariants.{Write, Memory}
 use Rattle.cgm_shelf.specs.Faults.{Rose}
-use Rattle.cgm_shelf.specs.Shelf.{Files}
-use Rattle.cgm_shelf.specs.Sink.{Adds, AddsPart}
+use Rattle.cgm_shelf.specs.Shelf.{ShelfState}
+use Rattle.cgm_shelf.specs.Sink.{Adds, AddsPart, SinkState}
 use Rattle.cgm_trail.specs.TrailState.{TrailState}
 use Rattle.cgm_cli.specs.FaultLines.{memory_fault}
 
--- what a call does to the sink: its bytes, where it tells them, and its count of faults, before and after
-pub record Printing : Type 0 where
-  pub before : Option (List ℕ)
-  pub after : Option (List ℕ)
-  pub faults_before : ℕ
-  pub faults_after : ℕ
+-- ---- what is found, and what is left
 
--- what a call finds on the shelf: its files, where it tells them, and its count of failed reads before and after
-pub record Shelving : Type 0 where
-  pub files : Option Files
-  pub reads_before : ℕ
-  pub reads_after : ℕ
+-- a shelf and a sink
+pub record Outside : Type 0 where
+  pub shelf : ShelfState
+  pub sink : SinkState
 
-abbrev pub printing : Option (List ℕ) → Option (List ℕ) → ℕ → ℕ → Printing
-printing before after faults_before faults_after =
-    record { before = before; after = after; faults_before = faults_before; faults_after = faults_after }
+abbrev pub outside : ShelfState → SinkState → Outside
+outside shelf sink = record { shelf = shelf; sink = sink }
 
-abbrev pub shelving : Option Files → ℕ → ℕ → Shelving
-shelving files reads_before reads_after = record { files = files; reads_before = reads_before; reads_after = reads_after }
+-- a shelf, a sink, and the trails of workers
+pub record World : Type 0 where
+  pub shelf : ShelfState
+  pub sink : SinkState
+  pub work : List TrailState
 
--- what a call does to the files of the shelf: the files, where it tells them, and its count of failed starts and appends, before and after
-pub record Writing : Type 0 where
-  pub before : Option Files
-  pub after : Option Files
-  pub faults_before : ℕ
-  pub faults_after : ℕ
+abbrev pub world : ShelfState → SinkState → List TrailState → World
+world shelf sink work = record { shelf = shelf; sink = sink; work = work }
 
-abbrev pub writing : Option Files → Option Files → ℕ → ℕ → Writing
-writing before after faults_before faults_after =
-    record { before = before; after = after; faults_before = faults_before; faults_after = faults_after }
+-- without the trails
+abbrev pub outside_of : World → Outside
+outside_of whole = outside whole.shelf whole.sink
 
--- no file has changed, and the count stays
-pub record IsUntouched (files : Writing) : Type 0 where
-  pub same : files.after ≡ files.before
-  pub counted : files.faults_after ≡ files.faults_before
-
--- the trails of workers that a call finds and leaves
-pub record Working : Type 0 where
-  pub before : List TrailState
-  pub after : List TrailState
-
-abbrev pub working : List TrailState → List TrailState → Working
-working before after = record { before = before; after = after }
+-- no file has changed, and the count of failed starts and appends stays
+pub record IsUntouched (old new : ShelfState) : Type 0 where
+  pub same : new.files ≡ old.files
+  pub counted : new.write_faults ≡ old.write_faults
 
 -- the trails stay
-abbrev pub IsUnchanged : Working → Type 0
-IsUnchanged work = work.after ≡ work.before
+abbrev pub IsUnchanged : List TrailState → List TrailState → Type 0
+IsUnchanged old new = new ≡ old
 
 -- the trails stay, and more may come behind them
-abbrev pub IsExtended : Working → Type 0
-IsExtended work = (gained : List TrailState) × (work.after ≡ work.before ++ gained)
+abbrev pub IsExtended : List TrailState → List TrailState → Type 0
+IsExtended old new = (gained : List TrailState) × (new ≡ old ++ gained)
+
+-- ---- what is printed: each word tells what, then the sink as it was found, then as it was left
 
 -- exactly these bytes were printed
-abbrev pub IsPrinted : Printing → List ℕ → Type 0
-IsPrinted sink bytes = Adds sink.before sink.after bytes
+abbrev pub IsPrinted : List ℕ → SinkState → SinkState → Type 0
+IsPrinted bytes old new = Adds old new bytes
 
 -- a front of these bytes was printed, and then the sink failed
-pub record IsCutOff (sink : Printing) (bytes : List ℕ) : Type 0 where
-  pub front : AddsPart sink.before sink.after bytes
-  pub failed : Rose sink.faults_before sink.faults_after
+pub record IsCutOff (bytes : List ℕ) (old new : SinkState) : Type 0 where
+  pub front : AddsPart old new bytes
+  pub failed : Rose old.faults new.faults
 
 -- the line was printed, unless the sink failed
-abbrev pub IsTold : Printing → List ℕ → Type 0
-IsTold sink fault_line = IsPrinted sink fault_line ⊎ IsCutOff sink fault_line
+abbrev pub IsTold : List ℕ → SinkState → SinkState → Type 0
+IsTold fault_line old new = IsPrinted fault_line old new ⊎ IsCutOff fault_line old new
 
 -- the report was printed and its status is answered, or the sink failed
-abbrev pub PrintsReport : Printing → List ℕ → Status → Status → Type 0
-PrintsReport sink report status answer =
-    ((answer ≡ status) × IsPrinted sink report) ⊎ ((answer ≡ Write) × IsCutOff sink report)
+abbrev pub PrintsReport : List ℕ → Status → SinkState → SinkState → Status → Type 0
+PrintsReport report status old new answer =
+    ((answer ≡ status) × IsPrinted report old new) ⊎ ((answer ≡ Write) × IsCutOff report old new)
 
 -- the line was told and its status is answered, or there was no memory for the line
-abbrev pub TellsOrLacksMemory : Printing → List ℕ → Status → Status → Type 0
-TellsOrLacksMemory sink fault_line status answer =
-    ((answer ≡ status) × IsTold sink fault_line) ⊎ ((answer ≡ Memory) × IsTold sink memory_fault)
+abbrev pub TellsOrLacksMemory : List ℕ → Status → SinkState → SinkState → Status → Type 0
+TellsOrLacksMemory fault_line status old new answer =
+    ((answer ≡ status) × IsTold fault_line old new)
+    ⊎ ((answer ≡ Memory) × IsTold memory_fault old new)
 
 -- the report is printed and the status is answered, or the sink fails, or memory is wanted for the report
-abbrev pub PrintsReportOrLacksMemory : Printing → List ℕ → Status → Status → Type 0
-PrintsReportOrLacksMemory sink report status answer =
-    PrintsReport sink report status answer ⊎ ((answer ≡ Memory) × IsTold sink memory_fault)
+abbrev pub PrintsReportOrLacksMemory : List ℕ → Status → SinkState → SinkState → Status → Type 0
+PrintsReportOrLacksMemory report status old new answer =
+    PrintsReport report status old new answer ⊎ ((answer ≡ Memory) × IsTold memory_fault old new)

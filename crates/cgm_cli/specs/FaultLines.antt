@@ -17,12 +17,14 @@ abbrev pub text_fault : ℕ → BadKind → List ℕ
 text_fault number kind = line (codes "fault text " ++ decimal number ++ codes " " ++ kind_word kind)
 
 abbrev pub earlier_fault : ℕ → BadKind → List ℕ
-earlier_fault number kind = line (codes "fault earlier " ++ decimal number ++ codes " " ++ kind_word kind)
+earlier_fault number kind =
+    line (codes "fault earlier " ++ decimal number ++ codes " " ++ kind_word kind)
 
 -- the quantity, its limit, and the line at which it is passed
 abbrev pub limit_fault : Limit → List ℕ
 limit_fault limit =
-    line (codes "fault limit " ++ limit_word limit.which ++ codes " " ++ decimal (limit_number limit.which) ++ codes " " ++ decimal limit.line)
+    line (codes "fault limit " ++ limit_word limit.which ++ codes " "
+    ++ decimal (limit_number limit.which) ++ codes " " ++ decimal limit.line)
 
 -- what is wrong with a line of a certificate
 abbrev pub certificate_fault : ℕ → CertKind → List ℕ
@@ -31,7 +33,8 @@ certificate_fault number kind =
 
 -- the test that an entry fails, with what it tells
 abbrev pub entry_fault : ℕ → BadStep → List ℕ
-entry_fault number why = line (codes "fault certificate entry " ++ decimal number ++ codes " " ++ step_words why)
+entry_fault number why =
+    line (codes "fault certificate entry " ++ decimal number ++ codes " " ++ step_words why)
 
 abbrev pub read_fault : List ℕ
 read_fault = line (codes "fault read")

@@ -6,7 +6,8 @@ use Rattle.std.specs.Str.Parse.{digits_value}
 
 -- one to twenty digits, leading zeros among them
 abbrev pub is_numeral : List ℕ → Bool
-is_numeral text = nat_le 1 (length text) && (nat_le (length text) 20 && list_all is_ascii_digit text)
+is_numeral text =
+    nat_le 1 (length text) && (nat_le (length text) 20 && list_all is_ascii_digit text)
 
 abbrev pub is_between : ℕ → ℕ → ℕ → Bool
 is_between least greatest number = nat_le least number && nat_le number greatest
@@ -14,7 +15,8 @@ is_between least greatest number = nat_le least number && nat_le number greatest
 -- the number that a text writes, where it is a numeral and lies in the range
 unfoldable pub number_in : ℕ → ℕ → List ℕ → Option ℕ
 number_in least greatest text =
-    if is_numeral text && is_between least greatest (digits_value 10 text) then Some (digits_value 10 text) else None
+    if is_numeral text && is_between least greatest (digits_value 10 text)
+    then Some (digits_value 10 text) else None
 
 -- the same of a text that may be left out, which then stands for the default
 abbrev pub number_or : ℕ → ℕ → ℕ → Option (List ℕ) → Option ℕ

@@ -1,104 +1,135 @@
--- The outcome of the program for its words: what each status says of the files, of what was printed, and of the trails.
+-- The outcome of the program for its words: from the world that it found to the world that it left, with its status.
 use Rattle.std.specs.Prelude.{◌≡◌, ◌≢◌, ℕ, List, IfSome, IsSomeAnd, Option, None, Some}
 use Rattle.cgm_base.specs.declared.status.Status.{Status}
 use Rattle.cgm_base.specs.declared.status.Status.TheVariants.{Done, Unrealizable, Usage, Open, Write, Memory}
+use Rattle.cgm_shelf.specs.Shelf.{Files, ShelfState}
+use Rattle.cgm_shelf.specs.Sink.{SinkState}
 use Rattle.cgm_model.specs.declared.lists.Lists.{Lists}
 use Rattle.cgm_evolve.specs.Pairs.{Pair}
 use Rattle.cgm_text.specs.Canonical.{canonical_text}
+use Rattle.cgm_trail.specs.TrailState.{TrailState}
 use Rattle.cgm_encode.specs.Problem.{problem_of}
 use Rattle.cgm_encode.specs.ProblemText.{problem_text}
 use Rattle.cgm_cli.specs.CheckOutcome.{HasCheckOutcome}
-use Rattle.cgm_cli.specs.CommandLine.{Command, solve, check, show, encode, command_line}
-use Rattle.cgm_cli.specs.Effects.{Printing, Shelving, Working, Writing, IsCutOff, IsExtended, IsPrinted, IsTold, IsUnchanged, IsUntouched}
+use Rattle.cgm_cli.specs.CommandLine.{Command, solve, check, show, encode, command_line, earlier_file, model_file}
+use Rattle.cgm_cli.specs.Effects.{World, IsCutOff, IsExtended, IsPrinted, IsTold, IsUnchanged, IsUntouched, outside_of}
 use Rattle.cgm_cli.specs.FaultLines.{memory_fault, usage_fault}
-use Rattle.cgm_cli.specs.Inputs.{HasFileOutcome, HasInputOutcome, HasProblemOutcome}
+use Rattle.cgm_cli.specs.Inputs.{HasInputOutcome, HasProblemOutcome}
 use Rattle.cgm_cli.specs.SolveOutcome.{HasSolveOutcome, wanted}
 
 -- ---- the outcome of a command
 
 -- a command that prints this text
-abbrev pub HasTextOutcome : List ℕ → Printing → Status → Type 0
-HasTextOutcome text sink Done = IsPrinted sink text
-HasTextOutcome text sink Write = IsCutOff sink text
-HasTextOutcome text sink Memory = IsTold sink memory_fault
-HasTextOutcome text sink status = ⊥
+abbrev pub HasTextOutcome : List ℕ → SinkState → SinkState → Status → Type 0
+HasTextOutcome text old new Done = IsPrinted text old new
+HasTextOutcome text old new Write = IsCutOff text old new
+HasTextOutcome text old new Memory = IsTold memory_fault old new
+HasTextOutcome text old new status = ⊥
 
 -- `show`: the canonical text of the model
-abbrev pub HasShowOutcome : Lists → Printing → Status → Type 0
-HasShowOutcome m sink status = HasTextOutcome (canonical_text m) sink status
+abbrev pub HasShowOutcome : SinkState → SinkState → Lists → Status → Type 0
+HasShowOutcome old new m status = HasTextOutcome (canonical_text m) old new status
 
 -- `encode`, with what is known of an earlier realization: the text of the model's problem
-abbrev pub HasEncodeOutcome : Lists → List Pair → Printing → Status → Type 0
-HasEncodeOutcome m earlier sink status = HasTextOutcome (problem_text (problem_of m earlier)) sink status
+abbrev pub HasEncodeOutcome : SinkState → SinkState → Lists → List Pair → Status → Type 0
+HasEncodeOutcome old new m earlier status =
+    HasTextOutcome (problem_text (problem_of m earlier)) old new status
 
-abbrev pub HasCommandOutcome : Command → Shelving → Writing → Printing → Working → Status → Type 0
-HasCommandOutcome (solve name file cert workers plan) shelf files sink work status =
-    HasInputOutcome (HasProblemOutcome (HasSolveOutcome (wanted plan cert) work files)) name file shelf sink status
-HasCommandOutcome (check name cert file) shelf files sink work status =
-    HasInputOutcome (HasProblemOutcome (HasCheckOutcome cert shelf)) name file shelf sink status
-HasCommandOutcome (encode name file) shelf files sink work status =
-    HasInputOutcome (HasProblemOutcome HasEncodeOutcome) name file shelf sink status
-HasCommandOutcome (show name) shelf files sink work status = HasFileOutcome HasShowOutcome name shelf sink status
+-- the outcome of a command for what its files gave: a model with the lines of its rules, and what is known of an earlier realization
+abbrev pub HasOwnOutcome : Command → World → World → Lists → List ℕ → List Pair → Status → Type 0
+HasOwnOutcome (solve name file cert workers plan) found left m rule_lines earlier status =
+    HasProblemOutcome (HasSolveOutcome (wanted plan cert) found left)
+    found.sink left.sink m rule_lines earlier status
+HasOwnOutcome (check name cert file) found left m rule_lines earlier status =
+    HasProblemOutcome (HasCheckOutcome cert (outside_of found) (outside_of left))
+    found.sink left.sink m rule_lines earlier status
+HasOwnOutcome (encode name file) found left m rule_lines earlier status =
+    HasProblemOutcome (HasEncodeOutcome found.sink left.sink)
+    found.sink left.sink m rule_lines earlier status
+HasOwnOutcome (show name) found left m rule_lines earlier status =
+    HasShowOutcome found.sink left.sink m status
+
+-- the outcome of a command: of its files, and of what they gave
+abbrev pub HasCommandOutcome : Command → World → World → Status → Type 0
+HasCommandOutcome command found left status =
+    HasInputOutcome (HasOwnOutcome command found left) (model_file command) (earlier_file command)
+    (outside_of found) (outside_of left) status
 
 -- ---- the outcome for the words
 
 -- the words are no command line, or memory is wanted to read them
-abbrev pub HasUsageOutcome : Printing → Status → Type 0
-HasUsageOutcome sink Usage = IsTold sink usage_fault
-HasUsageOutcome sink Memory = IsTold sink memory_fault
-HasUsageOutcome sink status = ⊥
+abbrev pub HasUsageOutcome : SinkState → SinkState → Status → Type 0
+HasUsageOutcome old new Usage = IsTold usage_fault old new
+HasUsageOutcome old new Memory = IsTold memory_fault old new
+HasUsageOutcome old new status = ⊥
 
 -- the outcome of a command line; none where the words are no command line
-abbrev pub HasWordsOutcome : Option Command → Shelving → Writing → Printing → Working → Status → Type 0
-HasWordsOutcome None shelf files sink work status = HasUsageOutcome sink status
-HasWordsOutcome (Some command) shelf files sink work status = HasCommandOutcome command shelf files sink work status
+abbrev pub HasWordsOutcome : Option Command → World → World → Status → Type 0
+HasWordsOutcome None found left status = HasUsageOutcome found.sink left.sink status
+HasWordsOutcome (Some command) found left status = HasCommandOutcome command found left status
 
-abbrev pub HasOutcome : List (List ℕ) → Shelving → Writing → Printing → Working → Status → Type 0
-HasOutcome words shelf files sink work status = HasWordsOutcome (command_line words) shelf files sink work status
+abbrev pub HasOutcome : List (List ℕ) → World → World → Status → Type 0
+HasOutcome words found left status = HasWordsOutcome (command_line words) found left status
 
 -- ---- what is left of the files
 
 -- no file but the named one has changed
-abbrev pub OnlyTouches : List ℕ → Writing → Type 0
-OnlyTouches name files =
-    IfSome files.before (λ before. IsSomeAnd files.after (λ now. (other : List ℕ) → other ≢ name → now other ≡ before other))
+abbrev pub OnlyTouches : List ℕ → Option Files → Option Files → Type 0
+OnlyTouches name old new =
+    IfSome old (λ before.
+    IsSomeAnd new (λ now. (other : List ℕ) → other ≢ name → now other ≡ before other))
 
 -- a search that a certificate is wanted of leaves other files as they are, and all of them where it ends before there is a certificate
-abbrev pub AreFilesOfSearch : Option (List ℕ) → Writing → Status → Type 0
-AreFilesOfSearch None files status = IsUntouched files
-AreFilesOfSearch (Some cert) files Done = OnlyTouches cert files
-AreFilesOfSearch (Some cert) files Unrealizable = OnlyTouches cert files
-AreFilesOfSearch (Some cert) files Open = OnlyTouches cert files
-AreFilesOfSearch (Some cert) files Write = OnlyTouches cert files
-AreFilesOfSearch (Some cert) files status = IsUntouched files
+abbrev pub AreFilesOfSearch : Option (List ℕ) → ShelfState → ShelfState → Status → Type 0
+AreFilesOfSearch None old new status = IsUntouched old new
+AreFilesOfSearch (Some cert) old new Done = OnlyTouches cert old.files new.files
+AreFilesOfSearch (Some cert) old new Unrealizable = OnlyTouches cert old.files new.files
+AreFilesOfSearch (Some cert) old new Open = OnlyTouches cert old.files new.files
+AreFilesOfSearch (Some cert) old new Write = OnlyTouches cert old.files new.files
+AreFilesOfSearch (Some cert) old new status = IsUntouched old new
 
-abbrev pub AreFilesOfCommand : Command → Writing → Status → Type 0
-AreFilesOfCommand (solve name file cert workers plan) files status = AreFilesOfSearch cert files status
-AreFilesOfCommand (check name cert file) files status = IsUntouched files
-AreFilesOfCommand (encode name file) files status = IsUntouched files
-AreFilesOfCommand (show name) files status = IsUntouched files
+abbrev pub LeavesFiles : Command → ShelfState → ShelfState → Status → Type 0
+LeavesFiles (solve name file cert workers plan) old new status =
+    AreFilesOfSearch cert old new status
+LeavesFiles (check name cert file) old new status = IsUntouched old new
+LeavesFiles (encode name file) old new status = IsUntouched old new
+LeavesFiles (show name) old new status = IsUntouched old new
 
 -- the same of a command line; none where the words are no command line
-abbrev pub AreFilesOf : Option Command → Writing → Status → Type 0
-AreFilesOf None files status = IsUntouched files
-AreFilesOf (Some command) files status = AreFilesOfCommand command files status
+abbrev pub AreFilesOf : Option Command → ShelfState → ShelfState → Status → Type 0
+AreFilesOf None old new status = IsUntouched old new
+AreFilesOf (Some command) old new status = LeavesFiles command old new status
 
 -- ---- what is left of the trails
 
 -- a search leaves more trails only where its budget is spent or its report isn't printed
-abbrev pub IsWorkOfSearch : Working → Status → Type 0
-IsWorkOfSearch work Open = IsExtended work
-IsWorkOfSearch work Write = IsExtended work
-IsWorkOfSearch work Memory = IsExtended work
-IsWorkOfSearch work status = IsUnchanged work
+abbrev pub IsWorkOfSearch : List TrailState → List TrailState → Status → Type 0
+IsWorkOfSearch old new Open = IsExtended old new
+IsWorkOfSearch old new Write = IsExtended old new
+IsWorkOfSearch old new Memory = IsExtended old new
+IsWorkOfSearch old new status = IsUnchanged old new
 
-abbrev pub IsWorkOfCommand : Command → Working → Status → Type 0
-IsWorkOfCommand (solve name file cert workers plan) work status = IsWorkOfSearch work status
-IsWorkOfCommand (check name cert file) work status = IsUnchanged work
-IsWorkOfCommand (encode name file) work status = IsUnchanged work
-IsWorkOfCommand (show name) work status = IsUnchanged work
+abbrev pub LeavesWork : Command → List TrailState → List TrailState → Status → Type 0
+LeavesWork (solve name file cert workers plan) old new status = IsWorkOfSearch old new status
+LeavesWork (check name cert file) old new status = IsUnchanged old new
+LeavesWork (encode name file) old new status = IsUnchanged old new
+LeavesWork (show name) old new status = IsUnchanged old new
 
 -- the same of a command line; none where the words are no command line
-abbrev pub IsWorkOf : Option Command → Working → Status → Type 0
-IsWorkOf None work status = IsUnchanged work
-IsWorkOf (Some command) work status = IsWorkOfCommand command work status
+abbrev pub IsWorkOf : Option Command → List TrailState → List TrailState → Status → Type 0
+IsWorkOf None old new status = IsUnchanged old new
+IsWorkOf (Some command) old new status = LeavesWork command old new status
+
+-- ---- the whole
+
+-- the command ends, from the world that it found to the world that it left, with this status
+pub record Ends (command : Command) (found left : World) (status : Status) : Type 0 where
+  pub outcome : HasCommandOutcome command found left status
+  pub files : LeavesFiles command found.shelf left.shelf status
+  pub work : LeavesWork command found.work left.work status
+
+-- the program ends so where its words give this command, or none
+pub record Runs (line : Option Command) (found left : World) (status : Status) : Type 0 where
+  pub outcome : HasWordsOutcome line found left status
+  pub files : AreFilesOf line found.shelf left.shelf status
+  pub work : IsWorkOf line found.work left.work status

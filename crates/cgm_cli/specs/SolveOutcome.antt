@@ -3,7 +3,7 @@ use Rattle.std.specs.Prelude.{◌≡◌, ℕ, ◌⊎◌, List, Option, None, Som
 use Rattle.cgm_base.specs.declared.status.Status.{Status}
 use Rattle.cgm_base.specs.declared.status.Status.TheVariants.{Done, Unrealizable, Open, Write, Memory}
 use Rattle.cgm_shelf.specs.Faults.{Rose}
-use Rattle.cgm_shelf.specs.Shelf.{Leaves, LeavesPart}
+use Rattle.cgm_shelf.specs.Shelf.{Leaves, LeavesPart, ShelfState}
 use Rattle.cgm_model.specs.declared.lists.Lists.{Lists}
 use Rattle.cgm_evolve.specs.Pairs.{Pair}
 use Rattle.cgm_atom.specs.declared.entries.Entry.{Entry}
@@ -16,31 +16,36 @@ use Rattle.cgm_solve.specs.Answers.{IsSolved, ShowsRealized, ShowsUnrealizable}
 use Rattle.cgm_report.specs.Answers.{exhausted, report_of}
 use Rattle.cgm_report.specs.Report.{realized, unrealizable}
 use Rattle.cgm_cli.specs.Answers.{entries_of}
-use Rattle.cgm_cli.specs.Effects.{Printing, Working, Writing, IsCutOff, IsPrinted, IsTold, IsUntouched, PrintsReport}
+use Rattle.cgm_cli.specs.Effects.{Outside, World, IsCutOff, IsPrinted, IsTold, IsUntouched, PrintsReport}
 use Rattle.cgm_cli.specs.FaultLines.{memory_fault, write_fault}
 
 -- ---- the certificate
 
 -- the file that is named for the certificate, if one is, holds exactly the certificate of these entries, and every other file is as before; where none is named, no file has changed
-abbrev pub IsCertified : Option (List ℕ) → List Entry → Writing → Type 0
-IsCertified None entries files = IsUntouched files
-IsCertified (Some name) entries files =
-    (text : List ℕ) × (IsTextOf text entries × Leaves files.before files.after name text)
+abbrev pub IsCertified : Option (List ℕ) → List Entry → ShelfState → ShelfState → Type 0
+IsCertified None entries old new = IsUntouched old new
+IsCertified (Some name) entries old new =
+    (text : List ℕ) × (IsTextOf text entries × Leaves old.files new.files name text)
 
 -- the shelf failed over the certificate: the named file is as before or holds a front of it, and every other file is as before
-abbrev pub IsCertificateCut : Option (List ℕ) → List Entry → Writing → Type 0
-IsCertificateCut None entries files = ⊥
-IsCertificateCut (Some name) entries files =
+abbrev pub IsCertificateCut : Option (List ℕ) → List Entry → ShelfState → ShelfState → Type 0
+IsCertificateCut None entries old new = ⊥
+IsCertificateCut (Some name) entries old new =
     (text : List ℕ) × (
-    IsTextOf text entries × LeavesPart files.before files.after name text × Rose files.faults_before files.faults_after
+    IsTextOf text entries × LeavesPart old.files new.files name text
+    × Rose old.write_faults new.write_faults
     )
 
 -- the certificate, if one is wanted, was written and then the report, unless the shelf, the sink or memory failed; both texts are made before either is written
-abbrev pub IsDelivered : Option (List ℕ) → List Entry → List ℕ → Status → Writing → Printing → Status → Type 0
-IsDelivered cert entries report answer files sink status =
-    (IsCertified cert entries files × PrintsReport sink report answer status)
-    ⊎ (((status ≡ Write) × IsCertificateCut cert entries files × IsTold sink write_fault)
-    ⊎ ((status ≡ Memory) × IsUntouched files × IsTold sink memory_fault))
+abbrev pub IsDelivered :
+    Option (List ℕ) → List Entry → List ℕ → Status → Outside → Outside → Status → Type 0
+IsDelivered cert entries report answer found left status =
+    (IsCertified cert entries found.shelf left.shelf
+    × PrintsReport report answer found.sink left.sink status)
+    ⊎ (((status ≡ Write) × IsCertificateCut cert entries found.shelf left.shelf
+    × IsTold write_fault found.sink left.sink)
+    ⊎ ((status ≡ Memory) × IsUntouched found.shelf left.shelf
+    × IsTold memory_fault found.sink left.sink))
 
 -- ---- the outcome
 
@@ -53,41 +58,49 @@ abbrev pub wanted : Plan → Option (List ℕ) → Wanted
 wanted plan cert = record { plan = plan; cert = cert }
 
 -- the report of a least realization was printed, and entries show that it is one
-pub record PrintsRealized (cert : Option (List ℕ)) (files : Writing) (m : Lists) (earlier : List Pair) (sink : Printing) : Type 0 where
+pub record PrintsRealized (cert : Option (List ℕ)) (before after : World) (m : Lists)
+    (earlier : List Pair) : Type 0 where
   pub found : Found
   pub entries : List Entry
   pub shown : ShowsRealized m earlier entries found
-  pub certified : IsCertified cert entries files
-  pub printed : IsPrinted sink (realized m earlier found.assignment)
+  pub certified : IsCertified cert entries before.shelf after.shelf
+  pub printed : IsPrinted (realized m earlier found.assignment) before.sink after.sink
 
 -- that there is no realization was printed, and entries show it
-pub record PrintsUnrealizable (cert : Option (List ℕ)) (files : Writing) (m : Lists) (earlier : List Pair) (sink : Printing) : Type 0 where
+pub record PrintsUnrealizable (cert : Option (List ℕ)) (before after : World) (m : Lists)
+    (earlier : List Pair) : Type 0 where
   pub entries : List Entry
   pub shown : ShowsUnrealizable m earlier entries
-  pub certified : IsCertified cert entries files
-  pub printed : IsPrinted sink unrealizable
+  pub certified : IsCertified cert entries before.shelf after.shelf
+  pub printed : IsPrinted unrealizable before.sink after.sink
 
 -- the budget is spent, on one trail that came behind those before; the last best of the entries was printed, and what the trail rests on is among them
-pub record PrintsExhausted (want : Wanted) (work : Working) (files : Writing) (m : Lists) (earlier : List Pair) (sink : Printing) : Type 0 where
+pub record PrintsExhausted (want : Wanted) (before after : World) (m : Lists)
+    (earlier : List Pair) : Type 0 where
   pub best : Option Found
   pub spent : List ℕ
   pub entries : List Entry
-  pub solved : IsSolved m earlier want.plan work.before work.after (answers.Exhausted best spent entries)
-  pub certified : IsCertified want.cert entries files
-  pub printed : IsPrinted sink (exhausted m best spent)
+  pub solved : IsSolved m earlier want.plan before.work after.work
+      (answers.Exhausted best spent entries)
+  pub certified : IsCertified want.cert entries before.shelf after.shelf
+  pub printed : IsPrinted (exhausted m best spent) before.sink after.sink
 
 -- there is an answer, and the shelf failed over its certificate, or after that the sink over its report
-pub record IsLost (want : Wanted) (work : Working) (files : Writing) (m : Lists) (earlier : List Pair) (sink : Printing) : Type 0 where
+pub record IsLost (want : Wanted) (before after : World) (m : Lists)
+    (earlier : List Pair) : Type 0 where
   pub answer : Answer
-  pub solved : IsSolved m earlier want.plan work.before work.after answer
-  pub lost : (IsCertificateCut want.cert (entries_of answer) files × IsTold sink write_fault)
-      ⊎ (IsCertified want.cert (entries_of answer) files × IsCutOff sink (report_of m answer))
+  pub solved : IsSolved m earlier want.plan before.work after.work answer
+  pub lost : (IsCertificateCut want.cert (entries_of answer) before.shelf after.shelf
+      × IsTold write_fault before.sink after.sink)
+      ⊎ (IsCertified want.cert (entries_of answer) before.shelf after.shelf
+      × IsCutOff (report_of m answer) before.sink after.sink)
 
 -- `solve` by one worker, with what is known of an earlier realization
-abbrev pub HasSolveOutcome : Wanted → Working → Writing → Lists → List Pair → Printing → Status → Type 0
-HasSolveOutcome want work files m earlier sink Done = PrintsRealized want.cert files m earlier sink
-HasSolveOutcome want work files m earlier sink Unrealizable = PrintsUnrealizable want.cert files m earlier sink
-HasSolveOutcome want work files m earlier sink Open = PrintsExhausted want work files m earlier sink
-HasSolveOutcome want work files m earlier sink Write = IsLost want work files m earlier sink
-HasSolveOutcome want work files m earlier sink Memory = IsTold sink memory_fault
-HasSolveOutcome want work files m earlier sink status = ⊥
+abbrev pub HasSolveOutcome : Wanted → World → World → Lists → List Pair → Status → Type 0
+HasSolveOutcome want found left m earlier Done = PrintsRealized want.cert found left m earlier
+HasSolveOutcome want found left m earlier Unrealizable =
+    PrintsUnrealizable want.cert found left m earlier
+HasSolveOutcome want found left m earlier Open = PrintsExhausted want found left m earlier
+HasSolveOutcome want found left m earlier Write = IsLost want found left m earlier
+HasSolveOutcome want found left m earlier Memory = IsTold memory_fault found.sink left.sink
+HasSolveOutcome want found left m earlier status = ⊥

@@ -1,9 +1,9 @@
-// Reports of answers, and their statuses.
+//! Reports of answers, and their statuses.
 ghost use Rattle.std.specs.Prelude.{◌≡◌};
 ghost use Rattle.cgm_model.specs.Model.{lists_of};
 ghost use Rattle.cgm_report.specs.Answers.{IsReportable, report_of};
 ghost use Rattle.cgm_cli.specs.Answers.{answer_status, entries_of};
-ghost use Rattle.cgm_cli.specs.Effects.{PrintsReportOrLacksMemory, printing};
+ghost use Rattle.cgm_cli.specs.Effects.{PrintsReportOrLacksMemory};
 
 use crate::print::{print_report, tell_memory};
 use cgm_atom::Entry;
@@ -14,20 +14,14 @@ use cgm_shelf::Sink;
 use cgm_solve::Answer;
 use std::alloc::Global;
 
-/// Prints the report of an answer, and answers its status.
-pub(crate) fn print_answer<O: Sink>(
-    alloc: Global,
-    m: &Model,
-    answer: &Answer,
-    out: &mut O,
-) -> Status
-    requires { IsReportable (lists_of m.now) answer.now }
-    ensures { PrintsReportOrLacksMemory
-        (printing (O.written out.old) (O.written out.new) (O.faults out.old) (O.faults out.new))
-        (report_of (lists_of m.now) answer.now) (answer_status answer.now) result }
+/// Prints the report of an answer, gives its memory back, and answers its status.
+pub(crate) fn print_answer<O: Sink>(alloc: Global, m: &Model, answer: Answer, out: &mut O) -> Status
+    requires { IsReportable (lists_of m.now) answer }
+    ensures { PrintsReportOrLacksMemory (report_of (lists_of m.now) answer)
+        (answer_status answer) (O.state out.old) (O.state out.new) result }
 {
-    match report(alloc, m, answer) {
-        Ok(text) => print_report(out, text.as_slice(), status_of(answer)),
+    match report(alloc, m, &answer) {
+        Ok(text) => print_report(out, text.as_slice(), status_of(&answer)),
         Err(_) => tell_memory(out),
     }
 }

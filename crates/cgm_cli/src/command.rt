@@ -3,7 +3,7 @@ ghost use Rattle.std.specs.Prelude.{◌≡◌, ◌≤◌, IfOk, IfSome, map, opt
 ghost use Rattle.std.specs.String.{string_bytes};
 ghost use Rattle.clap.specs.Words.{found_of, rows_of};
 ghost use Rattle.cgm_search.specs.Searching.{IsPlan};
-ghost use Rattle.cgm_cli.specs.CommandLine.{check_options, check_with, command_line, command_of, encode_options, encode_with, given, number_given, plan_given, show_options, show_with, solve_options, solve_with, workers_given};
+ghost use Rattle.cgm_cli.specs.CommandLine.{check_options, check_with, command_line, command_of, earlier_file, encode_options, encode_with, given, model_file, number_given, plan_given, show_options, show_with, solve_options, solve_with, workers_given};
 ghost use Rattle.cgm_cli.specs.Commands.{HasPlan, told_by};
 
 use crate::numbers::number_or;
@@ -29,33 +29,66 @@ const RESTARTS: u64 = 64;
 /// The seed where none is given.
 const SEED: u64 = 0;
 
+/// `solve MODEL`, with the file of an earlier realization and that of the certificate where they are
+/// given, by so many workers, each with this plan.
+#[derive(Clone, Copy)]
+pub(crate) struct SolveRequest<'w> {
+    pub(crate) model: &'w str,
+    pub(crate) earlier: Option<&'w str>,
+    pub(crate) cert: Option<&'w str>,
+    pub(crate) workers: u64,
+    pub(crate) plan: Plan,
+}
+
+/// `check MODEL CERT`, with the file of an earlier realization where one is given.
+#[derive(Clone, Copy)]
+pub(crate) struct CheckRequest<'w> {
+    pub(crate) model: &'w str,
+    pub(crate) cert: &'w str,
+    pub(crate) earlier: Option<&'w str>,
+}
+
+/// `encode MODEL`, with the file of an earlier realization where one is given.
+#[derive(Clone, Copy)]
+pub(crate) struct EncodeRequest<'w> {
+    pub(crate) model: &'w str,
+    pub(crate) earlier: Option<&'w str>,
+}
+
 /// What the words ask for, with names of files.
 #[derive(Clone, Copy)]
 pub(crate) enum Command<'w> {
-    /// `solve MODEL`, with the file of an earlier realization and that of the certificate where they
-    /// are given, by so many workers, each with this plan.
-    Solve {
-        model: &'w str,
-        earlier: Option<&'w str>,
-        cert: Option<&'w str>,
-        workers: u64,
-        plan: Plan,
-    },
-    /// `check MODEL CERT`, with the file of an earlier realization where one is given.
-    Check {
-        model: &'w str,
-        cert: &'w str,
-        earlier: Option<&'w str>,
-    },
+    Solve(SolveRequest<'w>),
+    Check(CheckRequest<'w>),
     /// `show MODEL`
-    Show {
-        model: &'w str,
-    },
-    /// `encode MODEL`, with the file of an earlier realization where one is given.
-    Encode {
-        model: &'w str,
-        earlier: Option<&'w str>,
-    },
+    Show { model: &'w str },
+    Encode(EncodeRequest<'w>),
+}
+
+impl<'w> Command<'w> {
+    /// The file of the model.
+    pub(crate) fn model(self) -> &'w str
+        ensures { result.now ≡ model_file (told_by self.entry) }
+    {
+        match self {
+            Command::Solve(request) => request.model,
+            Command::Check(request) => request.model,
+            Command::Show { model } => model,
+            Command::Encode(request) => request.model,
+        }
+    }
+
+    /// The file of the earlier realization, where one is named.
+    pub(crate) fn earlier(self) -> Option<&'w str>
+        ensures { option_map (λ file. file.now) result ≡ earlier_file (told_by self.entry) }
+    {
+        match self {
+            Command::Solve(request) => request.earlier,
+            Command::Check(request) => request.earlier,
+            Command::Show { .. } => None,
+            Command::Encode(request) => request.earlier,
+        }
+    }
 }
 
 /// The command of the words; none where they are no command line.
@@ -63,8 +96,8 @@ pub(crate) fn command_in<'w>(
     alloc: Global,
     words: &'w [String],
 ) -> Result<Option<Command<'w>>, AllocError>
-    ensures command { IfOk result (λ found. option_map told_by found ≡ command_line (map string_bytes
-        words.now)) }
+    ensures command { IfOk result
+        (λ found. option_map told_by found ≡ command_line (map string_bytes words.now)) }
     ensures plan { IfOk result (λ found. IfSome found HasPlan) }
 {
     match words {
@@ -79,8 +112,8 @@ fn command_of<'w>(
     word: &str,
     words: &'w [String],
 ) -> Result<Option<Command<'w>>, AllocError>
-    ensures command { IfOk result (λ found. option_map told_by found ≡ command_of word.now (map string_bytes
-        words.now)) }
+    ensures command { IfOk result
+        (λ found. option_map told_by found ≡ command_of word.now (map string_bytes words.now)) }
     ensures plan { IfOk result (λ found. IfSome found HasPlan) }
 {
     if word == "solve" {
@@ -97,8 +130,8 @@ fn command_of<'w>(
 }
 
 fn solve_in<'w>(alloc: Global, words: &'w [String]) -> Result<Option<Command<'w>>, AllocError>
-    ensures command { IfOk result (λ found. option_map told_by found ≡ option_and_then solve_with (given
-        solve_options (map string_bytes words.now))) }
+    ensures command { IfOk result (λ found. option_map told_by found
+        ≡ option_and_then solve_with (given solve_options (map string_bytes words.now))) }
     ensures plan { IfOk result (λ found. IfSome found HasPlan) }
 {
     match given(solve_options(alloc)?, words)? {
@@ -116,13 +149,13 @@ fn solve_with<'w>(matches: &ArgMatches<'w>) -> Option<Command<'w>>
     let cert = text_given(matches, "cert");
     let workers = workers_given(matches)?;
     let plan = plan_given(matches)?;
-    Some(Command::Solve {
+    Some(Command::Solve(SolveRequest {
         model,
         earlier,
         cert,
         workers,
         plan,
-    })
+    }))
 }
 
 /// The number of an option, or its default; none where what is given is no number of its range.
@@ -134,7 +167,8 @@ fn number_given(
     default: u64,
 ) -> Option<u64>
     requires { default ≤ greatest }
-    ensures number { result ≡ number_given name.now least greatest default (rows_of (found_of matches.now)) }
+    ensures number { result
+        ≡ number_given name.now least greatest default (rows_of (found_of matches.now)) }
     ensures within { IfSome result (λ number. number ≤ greatest) }
 {
     number_or(least, greatest, default, text_given(matches, name))
@@ -162,8 +196,8 @@ fn plan_given(matches: &ArgMatches<'_>) -> Option<Plan>
 }
 
 fn check_in<'w>(alloc: Global, words: &'w [String]) -> Result<Option<Command<'w>>, AllocError>
-    ensures command { IfOk result (λ found. option_map told_by found ≡ option_and_then check_with (given
-        check_options (map string_bytes words.now))) }
+    ensures command { IfOk result (λ found. option_map told_by found
+        ≡ option_and_then check_with (given check_options (map string_bytes words.now))) }
     ensures plan { IfOk result (λ found. IfSome found HasPlan) }
 {
     match given(check_options(alloc)?, words)? {
@@ -179,16 +213,16 @@ fn check_with<'w>(matches: &ArgMatches<'w>) -> Option<Command<'w>>
     let model = text_given(matches, "model")?;
     let cert = text_given(matches, "cert")?;
     let earlier = text_given(matches, "earlier");
-    Some(Command::Check {
+    Some(Command::Check(CheckRequest {
         model,
         cert,
         earlier,
-    })
+    }))
 }
 
 fn show_in<'w>(alloc: Global, words: &'w [String]) -> Result<Option<Command<'w>>, AllocError>
-    ensures command { IfOk result (λ found. option_map told_by found ≡ option_and_then show_with (given
-        show_options (map string_bytes words.now))) }
+    ensures command { IfOk result (λ found. option_map told_by found
+        ≡ option_and_then show_with (given show_options (map string_bytes words.now))) }
     ensures plan { IfOk result (λ found. IfSome found HasPlan) }
 {
     match given(show_options(alloc)?, words)? {
@@ -208,8 +242,8 @@ fn show_with<'w>(matches: &ArgMatches<'w>) -> Option<Command<'w>>
 }
 
 fn encode_in<'w>(alloc: Global, words: &'w [String]) -> Result<Option<Command<'w>>, AllocError>
-    ensures command { IfOk result (λ found. option_map told_by found ≡ option_and_then encode_with (given
-        encode_options (map string_bytes words.now))) }
+    ensures command { IfOk result (λ found. option_map told_by found
+        ≡ option_and_then encode_with (given encode_options (map string_bytes words.now))) }
     ensures plan { IfOk result (λ found. IfSome found HasPlan) }
 {
     match given(encode_options(alloc)?, words)? {
@@ -226,7 +260,7 @@ fn encode_with<'w>(matches: &ArgMatches<'w>) -> Option<Command<'w>>
         None => None,
         Some(model) => {
             let earlier = text_given(matches, "earlier");
-            Some(Command::Encode { model, earlier })
+            Some(Command::Encode(EncodeRequest { model, earlier }))
         }
     }
 }

@@ -1,11 +1,10 @@
-// The problem of a model, or the row limit that it passes.
+//! The problem of a model, or the row limit that it passes.
 ghost use Rattle.std.specs.Prelude.{◌≡◌, MatchResult, OnOk, length};
 ghost use Rattle.cgm_enc_formula.specs.Measures.{IsWithinMeasure};
 ghost use Rattle.cgm_encode.specs.Encoding.{IsEncodable, IsEncodingOf, number_box};
 ghost use Rattle.cgm_encode.specs.ProblemText.{problem_text};
 ghost use Rattle.cgm_model.specs.Model.{lists_of};
 ghost use Rattle.cgm_model.specs.Place.{FirstFails};
-ghost use Rattle.cgm_cli.specs.Effects.{printing};
 ghost use Rattle.cgm_cli.specs.Inputs.{HasNoProblem};
 ghost use Rattle.cgm_cli.specs.Outcome.{HasTextOutcome};
 
@@ -24,13 +23,13 @@ pub(crate) fn tell_row_limit<O: Sink>(
     rule: u32,
     out: &mut O,
 ) -> Status
-    requires lines { length input.now.reading.rule_lines.items ≡ length input.now.reading.model.rules }
+    requires lines { length input.now.reading.rule_lines.items
+        ≡ length input.now.reading.model.rules }
     requires first { FirstFails
         (IsWithinMeasure (lists_of input.now.reading.model)
         (number_box (lists_of input.now.reading.model))) input.now.reading.model.rules rule }
     ensures { HasNoProblem (lists_of input.now.reading.model) input.now.reading.rule_lines.items
-        (printing (O.written out.old) (O.written out.new) (O.faults out.old) (O.faults out.new))
-        result }
+        (O.state out.old) (O.state out.new) result }
 {
     let rule_lines = input.reading.rule_lines.as_slice();
     let limit = Limit {
@@ -53,7 +52,7 @@ pub(crate) fn encoding_of<O: Sink>(
         (λ encoded. IsEncodable (lists_of input.now.reading.model)
         × IsEncodingOf (lists_of input.now.reading.model) input.now.earlier.pairs encoded)
         (HasNoProblem (lists_of input.now.reading.model) input.now.reading.rule_lines.items
-        (printing (O.written out.old) (O.written out.new) (O.faults out.old) (O.faults out.new))) }
+        (O.state out.old) (O.state out.new)) }
     ensures untouched { OnOk result (out.new ≡ out.old) }
 {
     match encode(alloc, &input.reading.model, &input.earlier) {
@@ -65,9 +64,8 @@ pub(crate) fn encoding_of<O: Sink>(
 
 /// Prints the text of a problem.
 pub(crate) fn print_encoding<O: Sink>(alloc: Global, encoded: &Encoded, out: &mut O) -> Status
-    ensures { HasTextOutcome (problem_text encoded.now.problem)
-        (printing (O.written out.old) (O.written out.new) (O.faults out.old) (O.faults out.new))
-        result }
+    ensures { HasTextOutcome (problem_text encoded.now.problem) (O.state out.old)
+        (O.state out.new) result }
 {
     match print_problem(alloc, &encoded.problem) {
         Ok(text) => print_report(out, text.as_slice(), Status::Done),

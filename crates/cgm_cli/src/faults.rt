@@ -1,7 +1,7 @@
-// Faults whose lines tell what is faulty and where.
+//! Faults whose lines tell what is faulty and where.
 ghost use Rattle.std.specs.Prelude.{◌≡◌, IfOk};
 ghost use Rattle.std.specs.String.{string_bytes};
-ghost use Rattle.cgm_cli.specs.Effects.{TellsOrLacksMemory, printing};
+ghost use Rattle.cgm_cli.specs.Effects.{TellsOrLacksMemory};
 ghost use Rattle.cgm_cli.specs.FaultLines.{certificate_fault, earlier_fault, entry_fault, limit_fault, text_fault};
 ghost use Rattle.cgm_cli.specs.Placed.{placed_line, placed_status};
 
@@ -93,9 +93,8 @@ fn entry_line(alloc: Global, number: u64, why: BadStep) -> Result<String, AllocE
 
 /// Tells a fault and answers its status, or tells that there is no memory for its line.
 pub(crate) fn tell_fault<O: Sink>(alloc: Global, out: &mut O, fault: PlacedFault) -> Status
-    ensures { TellsOrLacksMemory
-        (printing (O.written out.old) (O.written out.new) (O.faults out.old) (O.faults out.new))
-        (placed_line fault) (placed_status fault) result }
+    ensures { TellsOrLacksMemory (placed_line fault) (placed_status fault)
+        (O.state out.old) (O.state out.new) result }
 {
     match fault.line(alloc) {
         Ok(line) => {

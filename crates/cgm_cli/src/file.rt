@@ -1,10 +1,11 @@
-// The model of a file, and the earlier realization of a file, or why there is none.
+//! The bytes of a file, and the model or the earlier realization that they give, or why there is none.
 ghost use Rattle.std.specs.Prelude.{◌≡◌, ◌≤◌, length, IfOk, MatchResult, OnOk};
 ghost use Rattle.cgm_evolve.specs.Text.{IsTextOf as IsEarlierTextOf};
 ghost use Rattle.cgm_model.specs.Model.{lists_of};
 ghost use Rattle.cgm_text.specs.Text.{IsReading};
-ghost use Rattle.cgm_cli.specs.Effects.{printing, shelving};
-ghost use Rattle.cgm_cli.specs.Inputs.{HasEarlierFaultOutcome, HasFaultOutcome, HasNoEarlier, HasNoModel, HasNoText, IsEarlierOf, IsReadingOf, IsTextFile, most_bytes, text_limit};
+ghost use Rattle.cgm_shelf.specs.Shelf.{OnlyReads};
+ghost use Rattle.cgm_cli.specs.Effects.{outside};
+ghost use Rattle.cgm_cli.specs.Inputs.{HasEarlierFaultOutcome, HasFaultOutcome, HasNoContent, HasNoEarlier, HasNoModel, IsContent, IsEarlierOf, IsReadingOf, most_bytes, text_limit};
 
 use crate::faults::{PlacedFault, tell_fault};
 use crate::print::{tell, tell_memory};
@@ -26,26 +27,25 @@ fn too_long() -> Limit
     }
 }
 
-/// The bytes of the named file, or the status after it was told why there are none.
-fn text_of_file<F: Shelf, O: Sink>(
+/// The bytes of the named file, or the status after it was told why there are none. With a limit, a
+/// file of more bytes passes it.
+pub(crate) fn read_file<F: Shelf, O: Sink>(
     alloc: Global,
     name: &str,
+    limit: Option<u64>,
     shelf: &mut F,
     out: &mut O,
 ) -> Result<Vec<u8>, Status>
     ensures outcome { MatchResult result
-        (λ text. IsTextFile (shelving (F.files shelf.old) (F.read_faults shelf.old) (F.read_faults shelf.new))
-        name.now text.items)
-        (HasNoText name.now
-        (shelving (F.files shelf.old) (F.read_faults shelf.old) (F.read_faults shelf.new))
-        (printing (O.written out.old) (O.written out.new) (O.faults out.old) (O.faults out.new))) }
+        (λ bytes. IsContent (F.state shelf.old).files name.now limit bytes.items)
+        (HasNoContent name.now limit
+        (outside (F.state shelf.old) (O.state out.old))
+        (outside (F.state shelf.new) (O.state out.new))) }
     ensures untouched { OnOk result (out.new ≡ out.old) }
-    ensures files { F.files shelf.new ≡ F.files shelf.old }
-    ensures writes { F.write_faults shelf.new ≡ F.write_faults shelf.old }
-    ensures later { F.read_faults shelf.old ≤ F.read_faults shelf.new }
+    ensures only { OnlyReads (F.state shelf.old) (F.state shelf.new) }
 {
-    match read_whole(alloc, shelf, name, Some(TEXT_BYTES)) {
-        Ok(text) => Ok(text),
+    match read_whole(alloc, shelf, name, limit) {
+        Ok(bytes) => Ok(bytes),
         Err(ReadStop::Fault) => {
             tell(out, b"fault read\n");
             Err(Status::Read)
@@ -60,8 +60,7 @@ fn reading_of_text<O: Sink>(alloc: Global, text: &[u8], out: &mut O) -> Result<R
     requires { length text.now ≤ most_bytes }
     ensures outcome { MatchResult result
         (λ reading. IsReading text.now (lists_of reading.model) reading.rule_lines.items)
-        (HasFaultOutcome text.now
-        (printing (O.written out.old) (O.written out.new) (O.faults out.old) (O.faults out.new))) }
+        (HasFaultOutcome text.now (O.state out.old) (O.state out.new)) }
     ensures lines { IfOk result (λ reading. length reading.rule_lines.items ≡ length
         reading.model.rules) }
     ensures untouched { OnOk result (out.new ≡ out.old) }
@@ -85,20 +84,17 @@ pub(crate) fn reading_of_file<F: Shelf, O: Sink>(
     out: &mut O,
 ) -> Result<Reading, Status>
     ensures outcome { MatchResult result
-        (λ reading. IsReadingOf
-        (shelving (F.files shelf.old) (F.read_faults shelf.old) (F.read_faults shelf.new))
-        name.now (lists_of reading.model) reading.rule_lines.items)
+        (λ reading. IsReadingOf (F.state shelf.old).files name.now (lists_of reading.model)
+        reading.rule_lines.items)
         (HasNoModel name.now
-        (shelving (F.files shelf.old) (F.read_faults shelf.old) (F.read_faults shelf.new))
-        (printing (O.written out.old) (O.written out.new) (O.faults out.old) (O.faults out.new))) }
+        (outside (F.state shelf.old) (O.state out.old))
+        (outside (F.state shelf.new) (O.state out.new))) }
     ensures untouched { OnOk result (out.new ≡ out.old) }
-    ensures files { F.files shelf.new ≡ F.files shelf.old }
-    ensures writes { F.write_faults shelf.new ≡ F.write_faults shelf.old }
     ensures lines { IfOk result (λ reading. length reading.rule_lines.items ≡ length
         reading.model.rules) }
-    ensures later { F.read_faults shelf.old ≤ F.read_faults shelf.new }
+    ensures only { OnlyReads (F.state shelf.old) (F.state shelf.new) }
 {
-    match text_of_file(alloc, name, shelf, out) {
+    match read_file(alloc, name, Some(TEXT_BYTES), shelf, out) {
         Ok(text) => reading_of_text(alloc, text.as_slice(), out),
         Err(status) => Err(status),
     }
@@ -108,8 +104,7 @@ pub(crate) fn reading_of_file<F: Shelf, O: Sink>(
 fn earlier_of_text<O: Sink>(alloc: Global, text: &[u8], out: &mut O) -> Result<Earlier, Status>
     requires { length text.now ≤ most_bytes }
     ensures outcome { MatchResult result (λ e. IsEarlierTextOf text.now e.pairs)
-        (HasEarlierFaultOutcome text.now
-        (printing (O.written out.old) (O.written out.new) (O.faults out.old) (O.faults out.new))) }
+        (HasEarlierFaultOutcome text.now (O.state out.old) (O.state out.new)) }
     ensures untouched { OnOk result (out.new ≡ out.old) }
 {
     match read_earlier(alloc, text) {
@@ -130,17 +125,14 @@ pub(crate) fn earlier_of_file<F: Shelf, O: Sink>(
     out: &mut O,
 ) -> Result<Earlier, Status>
     ensures outcome { MatchResult result
-        (λ e. IsEarlierOf (shelving (F.files shelf.old) (F.read_faults shelf.old) (F.read_faults shelf.new))
-        name.now e.pairs)
+        (λ e. IsEarlierOf (F.state shelf.old).files name.now e.pairs)
         (HasNoEarlier name.now
-        (shelving (F.files shelf.old) (F.read_faults shelf.old) (F.read_faults shelf.new))
-        (printing (O.written out.old) (O.written out.new) (O.faults out.old) (O.faults out.new))) }
+        (outside (F.state shelf.old) (O.state out.old))
+        (outside (F.state shelf.new) (O.state out.new))) }
     ensures untouched { OnOk result (out.new ≡ out.old) }
-    ensures files { F.files shelf.new ≡ F.files shelf.old }
-    ensures writes { F.write_faults shelf.new ≡ F.write_faults shelf.old }
-    ensures later { F.read_faults shelf.old ≤ F.read_faults shelf.new }
+    ensures only { OnlyReads (F.state shelf.old) (F.state shelf.new) }
 {
-    match text_of_file(alloc, name, shelf, out) {
+    match read_file(alloc, name, Some(TEXT_BYTES), shelf, out) {
         Ok(text) => earlier_of_text(alloc, text.as_slice(), out),
         Err(status) => Err(status),
     }

@@ -17,6 +17,5 @@ mod run;
 mod show;
 mod solve;
 
-pub use print::tell_memory;
-pub use program::{exit_code, words_after_name};
+pub use program::{exit_code, run_program, words_after_name};
 pub use run::run_quiet;

@@ -1,4 +1,4 @@
-// The numbers that options give.
+//! The numbers that options give.
 ghost use Rattle.std.specs.Prelude.{◌≡◌, ◌≤◌, IfSome, option_map};
 ghost use Rattle.std.specs.Char.{is_ascii_digit};
 ghost use Rattle.std.specs.List.{list_all};
@@ -50,7 +50,8 @@ fn number_in(least: u64, greatest: u64, text: &str) -> Option<u64>
 /// The same of a text that may be left out, which then stands for the default.
 pub(crate) fn number_or(least: u64, greatest: u64, default: u64, text: Option<&str>) -> Option<u64>
     requires { default ≤ greatest }
-    ensures number { result ≡ number_or least greatest default (option_map (λ t. t.now) text.entry) }
+    ensures number { result
+        ≡ number_or least greatest default (option_map (λ t. t.now) text.entry) }
     ensures within { IfSome result (λ number. number ≤ greatest) }
 {
     match text {

@@ -1,9 +1,9 @@
-// The words that each command takes, as options of the kit's parser of command lines.
-ghost use Rattle.std.specs.Prelude.{◌≡◌, IfOk, true, map, option_map};
+//! The words that each command takes, as options of the kit's parser of command lines.
+ghost use Rattle.std.specs.Prelude.{◌≡◌, IfOk, true, [], ◌∷◌, codes, map, option_map};
 ghost use Rattle.std.specs.String.{string_bytes};
 ghost use Rattle.clap.specs.Words.{app_of, first_of, found_of, is_simple_and_free, rows_of, with_rule};
 ghost use Rattle.cgm_cli.specs.Adding.{with_numbers};
-ghost use Rattle.cgm_cli.specs.CommandLine.{check_options, encode_options, given, option, positional, show_options, solve_options};
+ghost use Rattle.cgm_cli.specs.CommandLine.{check_options, encode_options, given, option, options_of, positional, show_options, solve_options};
 
 use clap::error::ErrorKind;
 use clap::{Arg, ArgMatches, Command, Error};
@@ -15,7 +15,8 @@ fn with_positional<'w>(
     options: Command<'w>,
     id: &'w str,
 ) -> Result<Command<'w>, AllocError>
-    ensures { IfOk result (λ more. app_of more ≡ with_rule (app_of options.entry) (positional id.now)) }
+    ensures { IfOk result
+        (λ more. app_of more ≡ with_rule (app_of options.entry) (positional id.now)) }
 {
     options.arg(Arg::new(alloc, id).required(true))
 }
@@ -26,7 +27,8 @@ fn with_option<'w>(
     options: Command<'w>,
     name: &'w str,
 ) -> Result<Command<'w>, AllocError>
-    ensures { IfOk result (λ more. app_of more ≡ with_rule (app_of options.entry) (option name.now)) }
+    ensures { IfOk result
+        (λ more. app_of more ≡ with_rule (app_of options.entry) (option name.now)) }
 {
     options.arg(Arg::new(alloc, name).long(name))
 }
@@ -41,12 +43,20 @@ fn with_numbers<'w>(alloc: Global, options: Command<'w>) -> Result<Command<'w>, 
     with_option(alloc, with_restarts, "seed")
 }
 
+/// `WORD MODEL`, with which each command begins.
+fn model_options<'w>(alloc: Global, word: &'w str) -> Result<Command<'w>, AllocError>
+    ensures { IfOk result
+        (λ options. app_of options ≡ options_of word.now (codes "model" ∷ []) []) }
+{
+    let options = Command::new(alloc, word).disable_help_flag(true);
+    with_positional(alloc, options, "model")
+}
+
 /// `solve MODEL --earlier=FILE --cert=FILE --workers=N --budget=N --restarts=N --seed=N`
 pub(crate) fn solve_options<'w>(alloc: Global) -> Result<Command<'w>, AllocError>
     ensures { IfOk result (λ options. app_of options ≡ solve_options) }
 {
-    let word = Command::new(alloc, "solve").disable_help_flag(true);
-    let with_model = with_positional(alloc, word, "model")?;
+    let with_model = model_options(alloc, "solve")?;
     let with_earlier = with_option(alloc, with_model, "earlier")?;
     let with_cert = with_option(alloc, with_earlier, "cert")?;
     with_numbers(alloc, with_cert)
@@ -56,8 +66,7 @@ pub(crate) fn solve_options<'w>(alloc: Global) -> Result<Command<'w>, AllocError
 pub(crate) fn check_options<'w>(alloc: Global) -> Result<Command<'w>, AllocError>
     ensures { IfOk result (λ options. app_of options ≡ check_options) }
 {
-    let word = Command::new(alloc, "check").disable_help_flag(true);
-    let with_model = with_positional(alloc, word, "model")?;
+    let with_model = model_options(alloc, "check")?;
     let with_cert = with_positional(alloc, with_model, "cert")?;
     with_option(alloc, with_cert, "earlier")
 }
@@ -66,16 +75,14 @@ pub(crate) fn check_options<'w>(alloc: Global) -> Result<Command<'w>, AllocError
 pub(crate) fn show_options<'w>(alloc: Global) -> Result<Command<'w>, AllocError>
     ensures { IfOk result (λ options. app_of options ≡ show_options) }
 {
-    let word = Command::new(alloc, "show").disable_help_flag(true);
-    with_positional(alloc, word, "model")
+    model_options(alloc, "show")
 }
 
 /// `encode MODEL --earlier=FILE`
 pub(crate) fn encode_options<'w>(alloc: Global) -> Result<Command<'w>, AllocError>
     ensures { IfOk result (λ options. app_of options ≡ encode_options) }
 {
-    let word = Command::new(alloc, "encode").disable_help_flag(true);
-    let with_model = with_positional(alloc, word, "model")?;
+    let with_model = model_options(alloc, "encode")?;
     with_option(alloc, with_model, "earlier")
 }
 

@@ -1,7 +1,7 @@
-// Printing reports and fault lines.
+//! Printing reports and fault lines.
 ghost use Rattle.std.specs.Prelude.{◌≡◌};
 ghost use Rattle.cgm_base.specs.declared.status.Status.TheVariants as statuses;
-ghost use Rattle.cgm_cli.specs.Effects.{IsTold, PrintsReport, printing};
+ghost use Rattle.cgm_cli.specs.Effects.{IsTold, PrintsReport};
 ghost use Rattle.cgm_cli.specs.FaultLines.{memory_fault};
 
 use cgm_base::Status;
@@ -9,18 +9,14 @@ use cgm_shelf::{Sink, write_whole};
 
 /// Prints a fault line; where the sink fails, a front of it.
 pub(crate) fn tell<O: Sink>(out: &mut O, line: &[u8])
-    ensures { IsTold
-        (printing (O.written out.old) (O.written out.new) (O.faults out.old) (O.faults out.new))
-        line.now }
+    ensures { IsTold line.now (O.state out.old) (O.state out.new) }
 {
     let _ = write_whole(out, line);
 }
 
 /// Prints a report and answers its status, or that the sink failed.
 pub(crate) fn print_report<O: Sink>(out: &mut O, report: &[u8], status: Status) -> Status
-    ensures { PrintsReport
-        (printing (O.written out.old) (O.written out.new) (O.faults out.old) (O.faults out.new))
-        report.now status result }
+    ensures { PrintsReport report.now status (O.state out.old) (O.state out.new) result }
 {
     match write_whole(out, report) {
         Ok(()) => status,
@@ -29,11 +25,9 @@ pub(crate) fn print_report<O: Sink>(out: &mut O, report: &[u8], status: Status) 
 }
 
 /// Prints the fault line of want of memory; where the sink fails, a front of it. Answers `Memory`.
-pub fn tell_memory<O: Sink>(out: &mut O) -> Status
+pub(crate) fn tell_memory<O: Sink>(out: &mut O) -> Status
     ensures status { result ≡ statuses.Memory }
-    ensures told { IsTold
-        (printing (O.written out.old) (O.written out.new) (O.faults out.old) (O.faults out.new))
-        memory_fault }
+    ensures told { IsTold memory_fault (O.state out.old) (O.state out.new) }
 {
     tell(out, b"fault memory\n");
     Status::Memory

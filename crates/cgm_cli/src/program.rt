@@ -1,16 +1,51 @@
-// What the program makes of its arguments and of a status.
-ghost use Rattle.std.specs.Prelude.{◌≡◌, ◌↔◌, [], drop, IfOk, IfErr, IsErr};
+//! What the program makes of its arguments and of a status.
+ghost use Rattle.std.specs.Prelude.{◌≡◌, ◌↔◌, [], drop, map, None, IfOk, IfErr, IsErr};
 ghost use Rattle.std.specs.IoError.{error_kind};
 ghost use Rattle.std.specs.Process.{exit_status};
 ghost use Rattle.std.specs.declared.io.ErrorKind.TheVariants as kinds;
 ghost use Rattle.std.specs.Vec.Iter.{into_iter_items};
+ghost use Rattle.std.specs.String.{string_bytes};
 ghost use Rattle.cgm_base.specs.Status.{code_of};
+ghost use Rattle.cgm_base.specs.declared.status.Status.TheVariants as statuses;
+ghost use Rattle.cgm_cli.specs.CommandLine.{command_line};
+ghost use Rattle.cgm_cli.specs.Effects.{world};
+ghost use Rattle.cgm_cli.specs.Outcome.{Runs};
 
+use crate::print::tell_memory;
+use crate::run::run_quiet;
 use cgm_base::Status;
+use cgm_shelf::{Shelf, Sink};
+use cgm_trail::Work;
 use std::alloc::{AllocError, Global};
 use std::env::Args;
 use std::io;
 use std::process::ExitCode;
+
+/// Does what the program does for its arguments: what `run_quiet` does for the words after the
+/// program's own name. Arguments that can't be had because they aren't text are no command line; where
+/// there is no memory for them, the answer is `Memory`.
+pub fn run_program<F: Shelf, O: Sink>(
+    alloc: Global,
+    args: io::Result<Args>,
+    shelf: &mut F,
+    out: &mut O,
+    work: &mut Work,
+) -> Status
+    ensures given { IfOk args
+        (λ args. Runs (command_line (map string_bytes (drop 1 (into_iter_items args))))
+        (world (F.state shelf.old) (O.state out.old) work.old)
+        (world (F.state shelf.new) (O.state out.new) work.new) result) }
+    ensures refused { IfErr args
+        (λ error. Runs None
+        (world (F.state shelf.old) (O.state out.old) work.old)
+        (world (F.state shelf.new) (O.state out.new) work.new) result
+        × (error_kind error ≡ kinds.OutOfMemory → result ≡ statuses.Memory)) }
+{
+    match words_after_name(alloc, args) {
+        Ok(words) => run_quiet(alloc, words.as_slice(), shelf, out, work),
+        Err(_) => tell_memory(out),
+    }
+}
 
 /// The words after the program's own name, all in their order. Arguments that can't be had because
 /// they aren't text give no words, which are no command line. Want of memory for the arguments stays

@@ -1,27 +1,22 @@
 //! The top call: what the program does for its words.
-ghost use Rattle.std.specs.Prelude.{◌≡◌, length, map, option_map};
+ghost use Rattle.std.specs.Prelude.{◌≡◌, length, map};
 ghost use Rattle.std.specs.String.{string_bytes};
 ghost use Rattle.cgm_model.specs.Model.{lists_of};
-ghost use Rattle.cgm_search.specs.Searching.{IsPlan};
-ghost use Rattle.cgm_cli.specs.CheckOutcome.{HasCheckOutcome};
 ghost use Rattle.cgm_cli.specs.CommandLine.{command_line};
 ghost use Rattle.cgm_cli.specs.Commands.{HasPlan, told_by};
-ghost use Rattle.cgm_cli.specs.Effects.{printing, shelving, working, writing};
-ghost use Rattle.cgm_cli.specs.Inputs.{HasFileOutcome, HasInputOutcome, HasProblemOutcome};
-ghost use Rattle.cgm_cli.specs.Outcome.{AreFilesOf, AreFilesOfCommand, AreFilesOfSearch, HasCommandOutcome, HasEncodeOutcome, HasOutcome, HasShowOutcome, IsWorkOf, IsWorkOfCommand, IsWorkOfSearch};
-ghost use Rattle.cgm_cli.specs.SolveOutcome.{HasSolveOutcome, wanted};
+ghost use Rattle.cgm_cli.specs.Effects.{world};
+ghost use Rattle.cgm_cli.specs.Inputs.{HasProblemOutcome};
+ghost use Rattle.cgm_cli.specs.Outcome.{AreFilesOf, Ends, HasEncodeOutcome, HasOutcome, HasOwnOutcome, IsWorkOf, LeavesFiles, LeavesWork};
 
 use crate::check::check;
 use crate::command::{Command, command_in};
 use crate::encoding::{encoding_of, print_encoding};
-use crate::file::reading_of_file;
-use crate::input::{Input, input_of_files};
+use crate::input::{Input, discard, input_of_files};
 use crate::print::{tell, tell_memory};
 use crate::show::show;
 use crate::solve::solve;
 use cgm_base::Status;
 use cgm_shelf::{Shelf, Sink};
-use cgm_solve::Plan;
 use cgm_trail::Work;
 use std::alloc::Global;
 
@@ -61,15 +56,11 @@ pub fn run_quiet<F: Shelf, O: Sink>(
     work: &mut Work,
 ) -> Status
     ensures outcome { HasOutcome (map string_bytes words.now)
-        (shelving (F.files shelf.old) (F.read_faults shelf.old) (F.read_faults shelf.new))
-        (writing (F.files shelf.old) (F.files shelf.new) (F.write_faults shelf.old) (F.write_faults shelf.new))
-        (printing (O.written out.old) (O.written out.new) (O.faults out.old) (O.faults out.new))
-        (working work.old work.new) result }
+        (world (F.state shelf.old) (O.state out.old) work.old)
+        (world (F.state shelf.new) (O.state out.new) work.new) result }
     ensures files { AreFilesOf (command_line (map string_bytes words.now))
-        (writing (F.files shelf.old) (F.files shelf.new) (F.write_faults shelf.old) (F.write_faults shelf.new))
-        result }
-    ensures work { IsWorkOf (command_line (map string_bytes words.now)) (working work.old work.new)
-        result }
+        (F.state shelf.old) (F.state shelf.new) result }
+    ensures work { IsWorkOf (command_line (map string_bytes words.now)) work.old work.new result }
 {
     match command_in(alloc, words) {
         Ok(Some(command)) => run_command(alloc, command, shelf, out, work),
@@ -81,7 +72,7 @@ pub fn run_quiet<F: Shelf, O: Sink>(
     }
 }
 
-/// Does what a command asks for.
+/// Does what a command asks for: takes what its files give, else the status.
 fn run_command<F: Shelf, O: Sink>(
     alloc: Global,
     command: Command<'_>,
@@ -90,137 +81,58 @@ fn run_command<F: Shelf, O: Sink>(
     work: &mut Work,
 ) -> Status
     requires { HasPlan command }
-    ensures outcome { HasCommandOutcome (told_by command.entry)
-        (shelving (F.files shelf.old) (F.read_faults shelf.old) (F.read_faults shelf.new))
-        (writing (F.files shelf.old) (F.files shelf.new) (F.write_faults shelf.old) (F.write_faults shelf.new))
-        (printing (O.written out.old) (O.written out.new) (O.faults out.old) (O.faults out.new))
-        (working work.old work.new) result }
-    ensures files { AreFilesOfCommand (told_by command.entry)
-        (writing (F.files shelf.old) (F.files shelf.new) (F.write_faults shelf.old) (F.write_faults shelf.new))
-        result }
-    ensures work { IsWorkOfCommand (told_by command.entry) (working work.old work.new) result }
+    ensures { Ends (told_by command.entry)
+        (world (F.state shelf.old) (O.state out.old) work.old)
+        (world (F.state shelf.new) (O.state out.new) work.new) result }
 {
-    match command {
-        Command::Solve {
-            model,
-            earlier,
-            cert,
-            plan,
-            ..
-        } => solve_files(alloc, model, earlier, cert, plan, shelf, out, work),
-        Command::Check {
-            model,
-            cert,
-            earlier,
-        } => check_files(alloc, model, cert, earlier, shelf, out),
-        Command::Show { model } => show_file(alloc, model, shelf, out),
-        Command::Encode { model, earlier } => encode_files(alloc, model, earlier, shelf, out),
+    match input_of_files(alloc, command.model(), command.earlier(), shelf, out) {
+        Ok(input) => {
+            let status = run_on(alloc, command, &input, shelf, out, work);
+            discard(input);
+            status
+        }
+        Err(status) => status,
     }
 }
 
-/// The command `solve MODEL` with this plan, with the file of an earlier realization and that of the
-/// certificate where they are given.
-fn solve_files<F: Shelf, O: Sink>(
+/// Does what a command asks for with what its files gave.
+fn run_on<F: Shelf, O: Sink>(
     alloc: Global,
-    name: &str,
-    earlier: Option<&str>,
-    cert: Option<&str>,
-    plan: Plan,
+    command: Command<'_>,
+    input: &Input,
     shelf: &mut F,
     out: &mut O,
     work: &mut Work,
 ) -> Status
-    requires { IsPlan plan }
-    ensures outcome { HasInputOutcome (HasProblemOutcome
-        (HasSolveOutcome (wanted plan (option_map (λ file. file.now) cert.entry))
-        (working work.old work.new)
-        (writing (F.files shelf.old) (F.files shelf.new) (F.write_faults shelf.old) (F.write_faults shelf.new))))
-        name.now (option_map (λ file. file.now) earlier.entry)
-        (shelving (F.files shelf.old) (F.read_faults shelf.old) (F.read_faults shelf.new))
-        (printing (O.written out.old) (O.written out.new) (O.faults out.old) (O.faults out.new))
+    requires lines { length input.now.reading.rule_lines.items
+        ≡ length input.now.reading.model.rules }
+    requires plan { HasPlan command }
+    ensures outcome { HasOwnOutcome (told_by command.entry)
+        (world (F.state shelf.old) (O.state out.old) work.old)
+        (world (F.state shelf.new) (O.state out.new) work.new)
+        (lists_of input.now.reading.model) input.now.reading.rule_lines.items
+        input.now.earlier.pairs result }
+    ensures files { LeavesFiles (told_by command.entry) (F.state shelf.old) (F.state shelf.new)
         result }
-    ensures files { AreFilesOfSearch (option_map (λ file. file.now) cert.entry)
-        (writing (F.files shelf.old) (F.files shelf.new) (F.write_faults shelf.old) (F.write_faults shelf.new))
-        result }
-    ensures work { IsWorkOfSearch (working work.old work.new) result }
+    ensures work { LeavesWork (told_by command.entry) work.old work.new result }
 {
-    match input_of_files(alloc, name, earlier, shelf, out) {
-        Ok(input) => solve(alloc, &input, cert, plan, shelf, out, work),
-        Err(status) => status,
-    }
-}
-
-/// The command `check MODEL CERT`, with the file of an earlier realization where one is given.
-fn check_files<F: Shelf, O: Sink>(
-    alloc: Global,
-    name: &str,
-    cert: &str,
-    earlier: Option<&str>,
-    shelf: &mut F,
-    out: &mut O,
-) -> Status
-    ensures outcome { HasInputOutcome (HasProblemOutcome (HasCheckOutcome cert.now
-        (shelving (F.files shelf.old) (F.read_faults shelf.old) (F.read_faults shelf.new))))
-        name.now (option_map (λ file. file.now) earlier.entry)
-        (shelving (F.files shelf.old) (F.read_faults shelf.old) (F.read_faults shelf.new))
-        (printing (O.written out.old) (O.written out.new) (O.faults out.old) (O.faults out.new))
-        result }
-    ensures files { F.files shelf.new ≡ F.files shelf.old }
-    ensures writes { F.write_faults shelf.new ≡ F.write_faults shelf.old }
-{
-    match input_of_files(alloc, name, earlier, shelf, out) {
-        Ok(input) => check(alloc, &input, cert, shelf, out),
-        Err(status) => status,
-    }
-}
-
-/// The command `encode MODEL`, with the file of an earlier realization where one is given.
-fn encode_files<F: Shelf, O: Sink>(
-    alloc: Global,
-    name: &str,
-    earlier: Option<&str>,
-    shelf: &mut F,
-    out: &mut O,
-) -> Status
-    ensures outcome { HasInputOutcome (HasProblemOutcome HasEncodeOutcome)
-        name.now (option_map (λ file. file.now) earlier.entry)
-        (shelving (F.files shelf.old) (F.read_faults shelf.old) (F.read_faults shelf.new))
-        (printing (O.written out.old) (O.written out.new) (O.faults out.old) (O.faults out.new))
-        result }
-    ensures files { F.files shelf.new ≡ F.files shelf.old }
-    ensures writes { F.write_faults shelf.new ≡ F.write_faults shelf.old }
-{
-    match input_of_files(alloc, name, earlier, shelf, out) {
-        Ok(input) => encode_input(alloc, &input, out),
-        Err(status) => status,
+    match command {
+        Command::Solve(request) => solve(alloc, request, input, shelf, out, work),
+        Command::Check(request) => check(alloc, input, request.cert, shelf, out),
+        Command::Show { .. } => show(alloc, &input.reading.model, out),
+        Command::Encode(_) => encode_input(alloc, input, out),
     }
 }
 
 /// Makes the problem of a model and an earlier realization, and prints its text.
 fn encode_input<O: Sink>(alloc: Global, input: &Input, out: &mut O) -> Status
     requires { length input.now.reading.rule_lines.items ≡ length input.now.reading.model.rules }
-    ensures { HasProblemOutcome HasEncodeOutcome
-        (lists_of input.now.reading.model) input.now.reading.rule_lines.items input.now.earlier.pairs
-        (printing (O.written out.old) (O.written out.new) (O.faults out.old) (O.faults out.new))
-        result }
+    ensures { HasProblemOutcome (HasEncodeOutcome (O.state out.old) (O.state out.new))
+        (O.state out.old) (O.state out.new) (lists_of input.now.reading.model)
+        input.now.reading.rule_lines.items input.now.earlier.pairs result }
 {
     match encoding_of(alloc, input, out) {
         Ok(encoded) => print_encoding(alloc, &encoded, out),
-        Err(status) => status,
-    }
-}
-
-/// The command `show MODEL`.
-fn show_file<F: Shelf, O: Sink>(alloc: Global, name: &str, shelf: &mut F, out: &mut O) -> Status
-    ensures outcome { HasFileOutcome HasShowOutcome name.now
-        (shelving (F.files shelf.old) (F.read_faults shelf.old) (F.read_faults shelf.new))
-        (printing (O.written out.old) (O.written out.new) (O.faults out.old) (O.faults out.new))
-        result }
-    ensures files { F.files shelf.new ≡ F.files shelf.old }
-    ensures writes { F.write_faults shelf.new ≡ F.write_faults shelf.old }
-{
-    match reading_of_file(alloc, name, shelf, out) {
-        Ok(reading) => show(alloc, &reading.model, out),
         Err(status) => status,
     }
 }

@@ -1,6 +1,5 @@
 //! The command `show`.
 ghost use Rattle.cgm_model.specs.Model.{lists_of};
-ghost use Rattle.cgm_cli.specs.Effects.{printing};
 ghost use Rattle.cgm_cli.specs.Outcome.{HasShowOutcome};
 
 use crate::print::{print_report, tell_memory};
@@ -12,9 +11,7 @@ use std::alloc::Global;
 
 /// Prints the canonical text of a model.
 pub(crate) fn show<O: Sink>(alloc: Global, m: &Model, out: &mut O) -> Status
-    ensures { HasShowOutcome (lists_of m.now)
-        (printing (O.written out.old) (O.written out.new) (O.faults out.old) (O.faults out.new))
-        result }
+    ensures { HasShowOutcome (O.state out.old) (O.state out.new) (lists_of m.now) result }
 {
     match print(alloc, m) {
         Ok(text) => print_report(out, text.as_slice(), Status::Done),

@@ -1,4 +1,4 @@
-// A model solved by one worker, the certificate written, and the answer printed.
+//! A model solved by one worker, the certificate written, and the answer printed.
 ghost use Rattle.std.specs.Prelude.{◌≡◌, Some, length, option_map};
 ghost use Rattle.std.specs.List.{All};
 ghost use Rattle.cgm_atom.specs.Ranges.{IsPrintable};
@@ -6,12 +6,13 @@ ghost use Rattle.cgm_model.specs.Model.{lists_of};
 ghost use Rattle.cgm_report.specs.Answers.{IsReportable, report_of};
 ghost use Rattle.cgm_search.specs.Searching.{IsPlan};
 ghost use Rattle.cgm_cli.specs.Answers.{answer_status, entries_of};
-ghost use Rattle.cgm_cli.specs.Effects.{printing, working, writing};
-ghost use Rattle.cgm_cli.specs.Inputs.{HasProblemOutcome};
-ghost use Rattle.cgm_cli.specs.Outcome.{AreFilesOfSearch, IsWorkOfSearch};
-ghost use Rattle.cgm_cli.specs.SolveOutcome.{HasSolveOutcome, IsDelivered, wanted};
+ghost use Rattle.cgm_cli.specs.Commands.{solving};
+ghost use Rattle.cgm_cli.specs.Effects.{outside, world};
+ghost use Rattle.cgm_cli.specs.Outcome.{HasOwnOutcome, LeavesFiles, LeavesWork};
+ghost use Rattle.cgm_cli.specs.SolveOutcome.{IsDelivered};
 
 use crate::answer::{entries_of, status_of};
+use crate::command::SolveRequest;
 use crate::encoding::tell_row_limit;
 use crate::input::Input;
 use crate::print::{print_report, tell, tell_memory};
@@ -20,39 +21,37 @@ use cgm_cert::print_cert;
 use cgm_model::Model;
 use cgm_report::report;
 use cgm_shelf::{Shelf, Sink, write_file};
-use cgm_solve::{Answer, Plan, SolveStop, solve_alone};
+use cgm_solve::{Answer, SolveStop, solve_alone};
 use cgm_trail::Work;
 use std::alloc::Global;
 
-/// Solves a model by one worker with this plan, with what is known of an earlier realization. Writes
-/// the certificate where a file is named for it, and prints the answer, or why there is none.
+/// Solves a model by one worker with the plan of the request, with what is known of an earlier
+/// realization. Writes the certificate where a file is named for it, and prints the answer, or why
+/// there is none.
 pub(crate) fn solve<F: Shelf, O: Sink>(
     alloc: Global,
+    request: SolveRequest<'_>,
     input: &Input,
-    cert: Option<&str>,
-    plan: Plan,
     shelf: &mut F,
     out: &mut O,
     work: &mut Work,
 ) -> Status
-    requires lines { length input.now.reading.rule_lines.items ≡ length input.now.reading.model.rules }
-    requires plan { IsPlan plan }
-    ensures outcome { HasProblemOutcome
-        (HasSolveOutcome (wanted plan (option_map (λ file. file.now) cert.entry))
-        (working work.old work.new)
-        (writing (F.files shelf.old) (F.files shelf.new) (F.write_faults shelf.old) (F.write_faults shelf.new)))
-        (lists_of input.now.reading.model) input.now.reading.rule_lines.items input.now.earlier.pairs
-        (printing (O.written out.old) (O.written out.new) (O.faults out.old) (O.faults out.new))
+    requires lines { length input.now.reading.rule_lines.items
+        ≡ length input.now.reading.model.rules }
+    requires plan { IsPlan request.plan }
+    ensures outcome { HasOwnOutcome (solving request.entry)
+        (world (F.state shelf.old) (O.state out.old) work.old)
+        (world (F.state shelf.new) (O.state out.new) work.new)
+        (lists_of input.now.reading.model) input.now.reading.rule_lines.items
+        input.now.earlier.pairs result }
+    ensures files { LeavesFiles (solving request.entry) (F.state shelf.old) (F.state shelf.new)
         result }
-    ensures work { IsWorkOfSearch (working work.old work.new) result }
-    ensures files { AreFilesOfSearch (option_map (λ file. file.now) cert.entry)
-        (writing (F.files shelf.old) (F.files shelf.new) (F.write_faults shelf.old) (F.write_faults shelf.new))
-        result }
-    ensures reads { F.read_faults shelf.new ≡ F.read_faults shelf.old }
+    ensures work { LeavesWork (solving request.entry) work.old work.new result }
+    ensures reads { (F.state shelf.new).read_faults ≡ (F.state shelf.old).read_faults }
 {
     let m = &input.reading.model;
-    match solve_alone(alloc, m, &input.earlier, plan, work) {
-        Ok(answer) => deliver(alloc, m, &answer, cert, shelf, out),
+    match solve_alone(alloc, m, &input.earlier, request.plan, work) {
+        Ok(answer) => deliver(alloc, m, &answer, request.cert, shelf, out),
         Err(SolveStop::Row { rule }) => tell_row_limit(alloc, input, rule, out),
         Err(SolveStop::Memory) => tell_memory(out),
     }
@@ -72,10 +71,9 @@ fn deliver<F: Shelf, O: Sink>(
     requires entries { All IsPrintable (entries_of answer.now) }
     ensures outcome { IsDelivered (option_map (λ file. file.now) cert.entry) (entries_of answer.now)
         (report_of (lists_of m.now) answer.now) (answer_status answer.now)
-        (writing (F.files shelf.old) (F.files shelf.new) (F.write_faults shelf.old) (F.write_faults shelf.new))
-        (printing (O.written out.old) (O.written out.new) (O.faults out.old) (O.faults out.new))
-        result }
-    ensures reads { F.read_faults shelf.new ≡ F.read_faults shelf.old }
+        (outside (F.state shelf.old) (O.state out.old))
+        (outside (F.state shelf.new) (O.state out.new)) result }
+    ensures reads { (F.state shelf.new).read_faults ≡ (F.state shelf.old).read_faults }
 {
     match report(alloc, m, answer) {
         Ok(text) => {
@@ -99,11 +97,11 @@ fn certify<F: Shelf, O: Sink>(
     out: &mut O,
 ) -> Status
     requires { All IsPrintable (entries_of answer.now) }
-    ensures outcome { IsDelivered (Some name.now) (entries_of answer.now) report.now (answer_status answer.now)
-        (writing (F.files shelf.old) (F.files shelf.new) (F.write_faults shelf.old) (F.write_faults shelf.new))
-        (printing (O.written out.old) (O.written out.new) (O.faults out.old) (O.faults out.new))
-        result }
-    ensures reads { F.read_faults shelf.new ≡ F.read_faults shelf.old }
+    ensures outcome { IsDelivered (Some name.now) (entries_of answer.now) report.now
+        (answer_status answer.now)
+        (outside (F.state shelf.old) (O.state out.old))
+        (outside (F.state shelf.new) (O.state out.new)) result }
+    ensures reads { (F.state shelf.new).read_faults ≡ (F.state shelf.old).read_faults }
 {
     match print_cert(alloc, entries_of(answer)) {
         Ok(text) => match write_file(shelf, name, text.as_slice()) {

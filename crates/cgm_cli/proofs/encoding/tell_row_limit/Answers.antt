@@ -2,7 +2,7 @@ use Rattle.std.proofs.Common.{◌<◌, length, get_or, subst, sym}
 use Rattle.cgm_base.specs.declared.status.Status.TheVariants as statuses
 use Rattle.cgm_model.specs.Model.{lists_of}
 use Rattle.cgm_cli.specs.FaultLines.{limit_fault}
-use Rattle.cgm_cli.specs.Effects.{Printing, TellsOrLacksMemory, printing}
+use Rattle.cgm_cli.specs.Effects.{TellsOrLacksMemory}
 use Rattle.cgm_cli.specs.Inputs.{row_limit}
 use Rattle.cgm_cli.proofs.RuleLines.{has_line, no_problem}
 use Rattle.cgm_cli.proofs.encoding.tell_row_limit.Goals as goal
@@ -16,7 +16,7 @@ bounds-rule_lines-rule g c =
 pub returns : goal.returns
 returns g c =
     let read = c.args.input.now.reading in
-    let told = c.tell_fault.new.out in
-    let sink : Printing = printing (g.O.Sink.written c.args.out.now) (g.O.Sink.written told) (g.O.Sink.faults c.args.out.now) (g.O.Sink.faults told) in
-    no_problem (lists_of read.model) read.rule_lines.items c.args.rule sink c.tell_fault.result c.requires.lines c.requires.first
-    (subst (λ xs. TellsOrLacksMemory sink (limit_fault (row_limit (get_or xs c.args.rule 0))) statuses.Limit c.tell_fault.result) c.as_slice-rule_lines.ensures.value c.tell_fault.ensures)
+    let old = g.O.Sink.state c.args.out.now in
+    let new = g.O.Sink.state c.tell_fault.new.out in
+    no_problem (lists_of read.model) read.rule_lines.items c.args.rule old new c.tell_fault.result c.requires.lines c.requires.first
+    (subst (λ xs. TellsOrLacksMemory (limit_fault (row_limit (get_or xs c.args.rule 0))) statuses.Limit old new c.tell_fault.result) c.as_slice-rule_lines.ensures.value c.tell_fault.ensures)

@@ -1,5 +1,4 @@
 use Rattle.std.proofs.Common.{◌≡◌, codes, ap, ◌∙◌}
-use Rattle.clap.specs.Simple.{App}
 use Rattle.clap.specs.Words.{app_of, with_rule}
 use Rattle.cgm_cli.specs.CommandLine.{option}
 use Rattle.cgm_cli.proofs.options.with_numbers.Goals as goal

@@ -1,27 +1,23 @@
-use Rattle.std.proofs.Common.{subst, sym}
+use Rattle.std.proofs.Common.{ap, option_map}
+use Rattle.cgm_model.specs.Model.{lists_of}
 use Rattle.cgm_cli.specs.Commands.{told_by}
-use Rattle.cgm_cli.specs.Effects.{Printing, Shelving, Working, Writing, printing, shelving, working, writing}
-use Rattle.cgm_cli.specs.Outcome.{HasCommandOutcome}
+use Rattle.cgm_cli.proofs.Ending.{ends, ends_early}
 use Rattle.cgm_cli.proofs.run.run_command.Goals as goal
 
-pub returns-in-Solve-clause-outcome : goal.returns-in-Solve-clause-outcome
-returns-in-Solve-clause-outcome g c =
-    let old = c.args.shelf.now in
-    let new = c.solve_files.new.shelf in
-    let told = c.solve_files.new.out in
-    let shelf : Shelving = shelving (g.F.Shelf.files old) (g.F.Shelf.read_faults old) (g.F.Shelf.read_faults new) in
-    let files : Writing = writing (g.F.Shelf.files old) (g.F.Shelf.files new) (g.F.Shelf.write_faults old) (g.F.Shelf.write_faults new) in
-    let sink : Printing = printing (g.O.Sink.written c.args.out.now) (g.O.Sink.written told) (g.O.Sink.faults c.args.out.now) (g.O.Sink.faults told) in
-    let work : Working = working c.args.work.now c.solve_files.new.work in
-    subst (λ command. HasCommandOutcome (told_by command) shelf files sink work c.solve_files.result) (sym c.in-Solve.is) c.solve_files.ensures.outcome
+pub returns-in-Ok : goal.returns-in-Ok
+returns-in-Ok g c =
+    let read = c.in-Ok.input in
+    ends (told_by c.args.command)
+    (g.F.Shelf.state c.args.shelf.now) (g.F.Shelf.state c.input_of_files.new.shelf) (g.F.Shelf.state c.run_on-status.new.shelf)
+    (g.O.Sink.state c.args.out.now) (g.O.Sink.state c.input_of_files.new.out) (g.O.Sink.state c.run_on-status.new.out)
+    c.args.work.now c.run_on-status.new.work
+    c.model.result.now (option_map (λ file. file.now) c.earlier.result) (lists_of read.reading.model) read.reading.rule_lines.items read.earlier.pairs c.run_on-status.result
+    c.model.ensures c.earlier.ensures c.in-Ok.ensures.only (ap g.O.Sink.state c.in-Ok.ensures.untouched) c.in-Ok.ensures.outcome
+    c.run_on-status.ensures.outcome c.run_on-status.ensures.files c.run_on-status.ensures.work
 
-pub returns-in-Check-clause-outcome : goal.returns-in-Check-clause-outcome
-returns-in-Check-clause-outcome g c =
-    let old = c.args.shelf.now in
-    let new = c.check_files.new.shelf in
-    let told = c.check_files.new.out in
-    let shelf : Shelving = shelving (g.F.Shelf.files old) (g.F.Shelf.read_faults old) (g.F.Shelf.read_faults new) in
-    let files : Writing = writing (g.F.Shelf.files old) (g.F.Shelf.files new) (g.F.Shelf.write_faults old) (g.F.Shelf.write_faults new) in
-    let sink : Printing = printing (g.O.Sink.written c.args.out.now) (g.O.Sink.written told) (g.O.Sink.faults c.args.out.now) (g.O.Sink.faults told) in
-    let work : Working = working c.args.work.now c.args.work.now in
-    subst (λ command. HasCommandOutcome (told_by command) shelf files sink work c.check_files.result) (sym c.in-Check.is) c.check_files.ensures.outcome
+pub returns-in-Err : goal.returns-in-Err
+returns-in-Err g c =
+    ends_early (told_by c.args.command) (g.F.Shelf.state c.args.shelf.now) (g.F.Shelf.state c.input_of_files.new.shelf)
+    (g.O.Sink.state c.args.out.now) (g.O.Sink.state c.input_of_files.new.out) c.args.work.now
+    c.model.result.now (option_map (λ file. file.now) c.earlier.result) c.in-Err.status
+    c.model.ensures c.earlier.ensures c.in-Err.ensures.only c.in-Err.ensures.outcome

@@ -23,10 +23,10 @@ use Rattle.cgm_model.specs.declared.lists.Quantity.{Quantity}
 use Rattle.cgm_model.specs.declared.lists.Quantity.TheVariants as quantities
 use Rattle.cgm_model.specs.declared.lists.SumValue.{SumValue}
 use Rattle.cgm_model.specs.declared.lists.Weighing.{Weighing}
+use Rattle.cgm_model.specs.Leaves.{element_numbers, is_leaf_task, leaf_tasks}
 use Rattle.cgm_model.specs.Statement.{IsKnownQuantity}
 use Rattle.cgm_model.specs.WellFormed.{IsWellFormed}
 use Rattle.cgm_evolve.specs.Costs.{elements_of_interest, interests_or}
-use Rattle.cgm_evolve.specs.Leaves.{element_numbers, is_leaf_task, leaf_tasks}
 use Rattle.cgm_evolve.specs.Pairs.{Pair}
 use Rattle.cgm_obj.specs.Counts.{is_free_requirement}
 use Rattle.cgm_enc_formula.specs.Building.{rules_part}

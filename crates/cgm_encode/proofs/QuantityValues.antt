@@ -20,11 +20,11 @@ use Rattle.cgm_model.specs.declared.lists.Quantity.TheVariants as quantities
 use Rattle.cgm_model.specs.declared.lists.SumValue.{SumValue}
 use Rattle.cgm_model.specs.declared.lists.Weighing.{Weighing}
 use Rattle.cgm_model.specs.Formulas.{IsKnownTruth}
+use Rattle.cgm_model.specs.Leaves.{element_numbers, is_leaf_task, leaf_tasks}
 use Rattle.cgm_model.specs.Place.{EachFrom}
 use Rattle.cgm_model.specs.Statement.{IsKnownQuantity}
 use Rattle.cgm_model.specs.Sums.{sum_value, sums_of, total_by, value_for, weight_for}
 use Rattle.cgm_evolve.specs.Costs.{differs, earlier_truth, elements_of_interest, interests_or, is_changed, is_new_work, is_true, was_true}
-use Rattle.cgm_evolve.specs.Leaves.{element_numbers, is_leaf_task, leaf_tasks}
 use Rattle.cgm_evolve.specs.Pairs.{Pair}
 use Rattle.cgm_obj.specs.Counts.{is_free_requirement, is_met}
 use Rattle.cgm_obj.specs.Vector.{objective_number, quantity}

@@ -13,9 +13,9 @@ use Rattle.cgm_model.specs.declared.lists.Quantity.TheVariants as quantities
 use Rattle.cgm_model.specs.declared.lists.SumValue.{SumValue}
 use Rattle.cgm_model.specs.declared.lists.Weighing.{Weighing}
 use Rattle.cgm_model.specs.Formulas.{IsKnownTruth}
+use Rattle.cgm_model.specs.Leaves.{element_numbers, leaf_tasks}
 use Rattle.cgm_model.specs.Statement.{IsKnownQuantity}
 use Rattle.cgm_evolve.specs.Costs.{elements_of_interest}
-use Rattle.cgm_evolve.specs.Leaves.{element_numbers, leaf_tasks}
 use Rattle.cgm_evolve.specs.Pairs.{Pair}
 use Rattle.cgm_obj.specs.Counts.{is_free_requirement}
 use Rattle.cgm_enc_formula.specs.Terms.{number_variable}

@@ -1,63 +1,33 @@
 //! Elements that quantities count.
-ghost use Rattle.std.specs.Prelude.{◌≡◌, ◌==◌, ◌&&◌, ◌++◌, ◌∷◌, [], ℕ, not, false, map, filter, length, slice_get, slice_index_or, IfOk, OnOk};
-ghost use Rattle.std.specs.List.{list_any};
+ghost use Rattle.std.specs.Prelude.{◌≡◌, ◌&&◌, ◌++◌, ◌∷◌, [], not, filter, IfOk, OnOk};
+ghost use Rattle.cgm_model.specs.Leaves as leaves;
 ghost use Rattle.cgm_model.specs.Model.{lists_of};
-ghost use Rattle.cgm_model.specs.Statement.{is_assumption as is_assumption_kind};
 ghost use Rattle.cgm_evolve.specs.Costs as costs;
-ghost use Rattle.cgm_evolve.specs.Leaves as leaves;
 ghost use Rattle.cgm_obj.specs.Counts as counts;
 ghost use Rattle.cgm_encode.specs.Quantities as quantities;
 
-use crate::marks::{is_marked, source_marks, target_marks};
 use crate::names::element_count;
 use cgm_atom::OutOfMemory;
 use cgm_evolve::Earlier;
-use cgm_model::{ElementKind, Model};
+use cgm_model::Model;
+use cgm_obj::is_free_requirement;
 use std::alloc::Global;
-
-/// Whether an element is a leaf task, by the marks of targets.
-fn is_leaf_task(m: &Model, targets: &[bool], element: u32) -> bool
-    requires { (k : ℕ) → slice_index_or targets.now k false ≡ list_any (λ r. r.target == k) m.now.refinements }
-    ensures { result ≡ leaves.is_leaf_task (lists_of m.now) element }
-{
-    !is_marked(targets, element) && !is_assumption(m, element)
-}
-
-fn is_assumption(m: &Model, element: u32) -> bool
-    ensures { result ≡ is_assumption_kind (slice_get (map (λ e. e.kind) m.now.elements) element) }
-{
-    match m.elements.as_slice().get(element as usize) {
-        None => false,
-        Some(e) => match e.kind {
-            ElementKind::Assume => true,
-            ElementKind::Goal => false,
-            ElementKind::Task => false,
-        },
-    }
-}
 
 /// The leaf tasks, by number.
 pub(crate) fn leaf_tasks(alloc: Global, m: &Model) -> Result<Vec<u32>, OutOfMemory>
     ensures { IfOk result (λ tasks. tasks.items ≡ leaves.leaf_tasks (lists_of m.now)) }
 {
-    let targets = target_marks(alloc, m)?;
     let mut tasks = Vec::new(alloc);
     for element in 0..element_count(m) {
-        push_leaf_task(&mut tasks, m, targets.as_slice(), element)?;
+        push_leaf_task(&mut tasks, m, element)?;
     }
     Ok(tasks)
 }
 
-fn push_leaf_task(
-    tasks: &mut Vec<u32>,
-    m: &Model,
-    targets: &[bool],
-    element: u32,
-) -> Result<(), OutOfMemory>
-    requires { (k : ℕ) → slice_index_or targets.now k false ≡ list_any (λ r. r.target == k) m.now.refinements }
+fn push_leaf_task(tasks: &mut Vec<u32>, m: &Model, element: u32) -> Result<(), OutOfMemory>
     ensures { OnOk result (tasks.new.items ≡ tasks.old.items ++ filter (leaves.is_leaf_task (lists_of m.now)) (element ∷ [])) }
 {
-    if is_leaf_task(m, targets, element) {
+    if m.is_leaf_task(element) {
         tasks.push(element)?;
     }
     Ok(())
@@ -97,9 +67,8 @@ fn was_true(earlier: Option<bool>) -> bool
 pub(crate) fn possible_work(alloc: Global, m: &Model, e: &Earlier) -> Result<Vec<u32>, OutOfMemory>
     ensures { IfOk result (λ tasks. tasks.items ≡ quantities.possible_work (lists_of m.now) e.now.pairs) }
 {
-    let targets = target_marks(alloc, m)?;
     let interest = elements_of_interest(alloc, m)?;
-    let tasks = work_among(alloc, m, e, targets.as_slice(), interest.as_slice())?;
+    let tasks = work_among(alloc, m, e, interest.as_slice())?;
     Ok(tasks)
 }
 
@@ -108,15 +77,13 @@ fn work_among(
     alloc: Global,
     m: &Model,
     e: &Earlier,
-    targets: &[bool],
     elements: &[u32],
 ) -> Result<Vec<u32>, OutOfMemory>
-    requires { (k : ℕ) → slice_index_or targets.now k false ≡ list_any (λ r. r.target == k) m.now.refinements }
     ensures { IfOk result (λ tasks. tasks.items ≡ filter (λ k. leaves.is_leaf_task (lists_of m.now) k && not (quantities.was_true_before (lists_of m.now) e.now.pairs k)) elements.now) }
 {
     let mut tasks = Vec::new(alloc);
     for element in elements {
-        push_possible_work(&mut tasks, m, e, targets, *element)?;
+        push_possible_work(&mut tasks, m, e, *element)?;
     }
     Ok(tasks)
 }
@@ -125,33 +92,29 @@ fn push_possible_work(
     tasks: &mut Vec<u32>,
     m: &Model,
     e: &Earlier,
-    targets: &[bool],
     element: u32,
 ) -> Result<(), OutOfMemory>
-    requires { (k : ℕ) → slice_index_or targets.now k false ≡ list_any (λ r. r.target == k) m.now.refinements }
     ensures { OnOk result (tasks.new.items ≡ tasks.old.items ++ filter (λ k. leaves.is_leaf_task (lists_of m.now) k && not (quantities.was_true_before (lists_of m.now) e.now.pairs k)) (element ∷ [])) }
 {
-    if is_possible_work(m, e, targets, element) {
+    if is_possible_work(m, e, element) {
         tasks.push(element)?;
     }
     Ok(())
 }
 
-fn is_possible_work(m: &Model, e: &Earlier, targets: &[bool], element: u32) -> bool
-    requires { (k : ℕ) → slice_index_or targets.now k false ≡ list_any (λ r. r.target == k) m.now.refinements }
+fn is_possible_work(m: &Model, e: &Earlier, element: u32) -> bool
     ensures { result ≡ (leaves.is_leaf_task (lists_of m.now) element && not (quantities.was_true_before (lists_of m.now) e.now.pairs element)) }
 {
-    is_leaf_task(m, targets, element) && !was_true_before(m, e, element)
+    m.is_leaf_task(element) && !was_true_before(m, e, element)
 }
 
 /// The requirements without `must`, by number.
 pub(crate) fn free_requirements(alloc: Global, m: &Model) -> Result<Vec<u32>, OutOfMemory>
     ensures { IfOk result (λ elements. elements.items ≡ quantities.free_requirements (lists_of m.now)) }
 {
-    let sources = source_marks(alloc, m)?;
     let mut requirements = Vec::new(alloc);
     for element in 0..element_count(m) {
-        push_free_requirement(&mut requirements, m, sources.as_slice(), element)?;
+        push_free_requirement(&mut requirements, m, element)?;
     }
     Ok(requirements)
 }
@@ -159,40 +122,12 @@ pub(crate) fn free_requirements(alloc: Global, m: &Model) -> Result<Vec<u32>, Ou
 fn push_free_requirement(
     requirements: &mut Vec<u32>,
     m: &Model,
-    sources: &[bool],
     element: u32,
 ) -> Result<(), OutOfMemory>
-    requires { (k : ℕ) → slice_index_or sources.now k false ≡ counts.is_source (lists_of m.now) k }
     ensures { OnOk result (requirements.new.items ≡ requirements.old.items ++ filter (counts.is_free_requirement (lists_of m.now)) (element ∷ [])) }
 {
-    if is_free_requirement(m, sources, element) {
+    if is_free_requirement(m, element) {
         requirements.push(element)?;
     }
     Ok(())
-}
-
-fn is_free_requirement(m: &Model, sources: &[bool], element: u32) -> bool
-    requires { (k : ℕ) → slice_index_or sources.now k false ≡ counts.is_source (lists_of m.now) k }
-    ensures { result ≡ counts.is_free_requirement (lists_of m.now) element }
-{
-    is_free_goal(m, element) && !is_marked(sources, element)
-}
-
-fn is_free_goal(m: &Model, element: u32) -> bool
-    ensures { result ≡ counts.is_free_goal (slice_get m.now.elements element) }
-{
-    match m.elements.as_slice().get(element as usize) {
-        None => false,
-        Some(e) => is_goal(e.kind) && !e.must,
-    }
-}
-
-fn is_goal(kind: ElementKind) -> bool
-    ensures { result ≡ counts.is_goal kind }
-{
-    match kind {
-        ElementKind::Goal => true,
-        ElementKind::Task => false,
-        ElementKind::Assume => false,
-    }
 }

@@ -7,7 +7,6 @@ mod encoding;
 mod expressions;
 mod interest;
 pub mod laws;
-mod marks;
 mod names;
 mod preferences;
 mod printer;

@@ -1,5 +1,5 @@
 use Rattle.cgm_model.specs.Model.{lists_of}
-use Rattle.cgm_evolve.specs.Leaves.{is_leaf_task}
+use Rattle.cgm_model.specs.Leaves.{is_leaf_task}
 use Rattle.cgm_encode.proofs.Kept.{numbers_kept}
 use Rattle.cgm_encode.proofs.interest.leaf_tasks.Goals as goal
 

@@ -1,6 +1,6 @@
 use Rattle.std.proofs.Common.{◌&&◌, not}
 use Rattle.cgm_model.specs.Model.{lists_of}
-use Rattle.cgm_evolve.specs.Leaves.{is_leaf_task}
+use Rattle.cgm_model.specs.Leaves.{is_leaf_task}
 use Rattle.cgm_encode.specs.Quantities.{was_true_before}
 use Rattle.cgm_encode.proofs.Kept.{items_kept}
 use Rattle.cgm_encode.proofs.interest.work_among.Goals as goal

@@ -1,7 +1,7 @@
 use Rattle.std.proofs.Common.{◌≡◌, ◌&&◌, not, take}
 use Rattle.std.specs.Prelude.{filter}
 use Rattle.cgm_model.specs.Model.{lists_of}
-use Rattle.cgm_evolve.specs.Leaves.{is_leaf_task}
+use Rattle.cgm_model.specs.Leaves.{is_leaf_task}
 use Rattle.cgm_encode.specs.Quantities.{was_true_before}
 use Rattle.cgm_encode.proofs.interest.work_among.Given as goal
 

@@ -72,11 +72,7 @@ pub fn verify_encoded(
 }
 
 /// The same with entries of its own for the answer.
-fn verify_copy(
-    alloc: Global,
-    encoded: &Encoded,
-    entries: &[Entry],
-) -> Result<Verified, OutOfMemory>
+fn verify_copy(alloc: Global, encoded: &Encoded, entries: &[Entry]) -> Result<Verified, OutOfMemory>
     ensures { IfOk result
         (λ verified. ForEncoded encoded.now (λ m pairs. IsVerified m pairs entries.now verified)) }
 {

@@ -147,6 +147,14 @@ header_stop tokens draft stop some shallow unbegun first None is =
     stop_more (AreFirst tokens) (tokens_come_to tokens None) stop (λ fault f. there false None tokens (faulty fault) some shallow f) first
 header_stop tokens draft stop some shallow unbegun first (Some said) is = absurd (true≢false (sym is.header ∙ unbegun))
 
+pub added_stop : {X : Type 0} (tokens : List Lexeme) (draft : ModelDraft) (r : Result X LineStop) → tokens ≢ [] → nests_too_deep tokens ≡ false → draft.has_header ≡ true → IfErr r (IsStop (AreJudged draft.builder tokens)) → IfErr r (IsStopAfter (tokens_come_to tokens) draft)
+added_stop tokens draft (Ok x) some shallow begun stopped = tt
+added_stop tokens draft (Err stop) some shallow begun stopped = statement_stop tokens draft stop some shallow begun stopped
+
+pub begun_stop : {X : Type 0} (tokens : List Lexeme) (draft : ModelDraft) (r : Result X LineStop) → tokens ≢ [] → nests_too_deep tokens ≡ false → draft.has_header ≡ false → IfErr r (IsStop (AreFirst tokens)) → IfErr r (IsStopAfter (tokens_come_to tokens) draft)
+begun_stop tokens draft (Ok x) some shallow unbegun stopped = tt
+begun_stop tokens draft (Err stop) some shallow unbegun stopped = header_stop tokens draft stop some shallow unbegun stopped
+
 -- lines
 
 judged_line : (line : List ℕ) (tokens : List Lexeme) (before : Option Lists) (v : Verdict) → line_lexemes line ≡ Ok tokens → tokens_come_to tokens before v → ComesTo before line v

@@ -30,7 +30,7 @@ pub use limits::{
 };
 pub use lists::Seq;
 pub use outcome::Narrowed;
-pub use placing::copy_placed;
+pub use placing::place_all;
 pub use problems::Problem;
 pub use rows::{greatest_activity, kept_by_term, narrow_by_row};
 pub use std::alloc::AllocError as OutOfMemory;

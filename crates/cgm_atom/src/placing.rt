@@ -1,11 +1,12 @@
 //! Hints to pending lemmas, and the places that these lemmas get in a log.
-ghost use Rattle.std.specs.Prelude.{◌≡◌, length, map, IfOk};
+ghost use Rattle.std.specs.Prelude.{◌≡◌, map};
 ghost use Rattle.std.specs.List.{All};
-ghost use Rattle.cgm_atom.specs.Placing.{CanBePlaced, HintsCanBePlaced, all_placed, placed as placed_hint};
+ghost use Rattle.cgm_atom.specs.Placing.{CanBePlaced, HintsCanBePlaced, all_placed, placed as placed_hint, placed_entry};
 
 use crate::entries::{Entry, Hint};
 use crate::lists::Seq;
-use std::alloc::{AllocError as OutOfMemory, Global};
+use std::alloc::Global;
+use std::mem::replace;
 
 impl Hint {
     ghost use Rattle.std.specs.Prelude.{◌≡◌};
@@ -86,15 +87,28 @@ fn place_hints(hints: Seq<Hint>, before: u64) -> Seq<Hint>
     Seq::of(hints)
 }
 
-/// Copies of the entries with each hint placed.
+/// The same entries, each with its hints placed. Takes no memory.
 /// Condition: the number of each pending lemma is at least 1, and its place fits 64 bits.
-pub fn copy_placed(alloc: Global, entries: &[Entry], before: u64) -> Result<Vec<Entry>, OutOfMemory>
-    requires { All (HintsCanBePlaced before) entries.now }
-    ensures { IfOk result (λ copies. copies.items ≡ all_placed before entries.now) }
+pub fn place_all(alloc: Global, entries: Vec<Entry>, before: u64) -> Vec<Entry>
+    requires { All (HintsCanBePlaced before) entries.items }
+    ensures { result.items ≡ all_placed before entries.items }
 {
-    let mut copies = Vec::new(alloc);
-    for entry in entries {
-        copies.push(entry.copy(alloc)?.placed(before))?;
+    let mut entries = entries;
+    for entry in entries.iter_mut() {
+        place(alloc, entry, before);
     }
-    Ok(copies)
+    entries
+}
+
+/// Takes the entry out, with a blank one in its place meanwhile, and puts it back placed.
+fn place(alloc: Global, entry: &mut Entry, before: u64)
+    requires { HintsCanBePlaced before entry.old }
+    ensures { entry.new ≡ placed_entry before entry.old }
+{
+    let blank = Entry::Best {
+        by: 0,
+        values: Seq::of(Vec::new(alloc)),
+    };
+    let taken = replace(entry, blank);
+    *entry = taken.placed(before);
 }

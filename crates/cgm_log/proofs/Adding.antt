@@ -1,10 +1,12 @@
 -- What a trade adds to the log.
-use Rattle.std.proofs.Common.{◌≡◌, ℕ, Bool, true, false, List, [], ◌∷◌, ◌++◌, drop, length, refl, sym, ap, subst, ◌∙◌, append-nil, arith}
-use Rattle.std.specs.Prelude.{IsTrue, if◌then◌else◌, IfOk, OnOk, Result, Ok, Err}
+use Rattle.std.proofs.Common.{◌≡◌, ℕ, Bool, true, false, List, [], ◌∷◌, ◌++◌, ◌^◌, ◌<◌, drop, length, refl, sym, ap, subst, ◌∙◌, append-nil, arith}
+use Rattle.std.specs.Prelude.{IsTrue, if◌then◌else◌, IfOk, OnOk, OnErr, Result, Ok, Err}
+use Rattle.std.specs.List.{All}
 use Rattle.std.specs.declared.option.Option.TheVariants.{Some}
 use Rattle.std.proofs.lemmas.List.{length-map}
-use Rattle.std.proofs.lemmas.List.Elements.{All-nil}
+use Rattle.std.proofs.lemmas.List.Elements.{All-append, All-nil}
 use Rattle.cgm_atom.specs.declared.entries.Entry.{Entry}
+use Rattle.cgm_atom.specs.Acceptance.{IsAccepted}
 use Rattle.cgm_atom.specs.Instance.{Instance}
 use Rattle.cgm_atom.specs.LogState.{state_of}
 use Rattle.cgm_atom.specs.Placing.{all_placed}
@@ -33,11 +35,9 @@ counted index log own = ap (λ (i : Index). i.entries) own ∙ ap length (state_
 abbrev pub added : Instance → List Entry → Batch → List Entry
 added p log b = all_placed (length log) b.lemmas ++ kept_candidate p (state_of log) b.by b.candidate
 
-pub landing_is : (p : Instance) (log : List Entry) (b : Batch) (n : ℕ) (lemmas kept landing : List Entry) → n ≡ length log → lemmas ≡ b.lemmas → kept ≡ kept_candidate p (state_of log) b.by b.candidate → landing ≡ all_placed n lemmas ++ kept → landing ≡ added p log b
-landing_is p log b n lemmas kept landing e f g h =
-    h
-    ∙ ap (λ (k : ℕ). all_placed k lemmas ++ kept) e
-    ∙ ap (λ (xs : List Entry). all_placed (length log) xs ++ kept) f
+pub landing_is : (p : Instance) (log : List Entry) (b : Batch) (lemmas kept : List Entry) → lemmas ≡ b.lemmas → kept ≡ kept_candidate p (state_of log) b.by b.candidate → all_placed (length log) lemmas ++ kept ≡ added p log b
+landing_is p log b lemmas kept f g =
+    ap (λ (xs : List Entry). all_placed (length log) xs ++ kept) f
     ∙ ap (λ (xs : List Entry). all_placed (length log) b.lemmas ++ xs) g
 
 when_closed : (t : Bool) (log added : List Entry) → t ≡ true → log ≡ log ++ (if t then [] else added)
@@ -53,6 +53,17 @@ closed_stays p log b h = when_closed (state_of log).closed log (all_placed (leng
 
 pub open_grows : (p : Instance) (log : List Entry) (b : Batch) → (state_of log).closed ≡ false → log ++ (all_placed (length log) b.lemmas ++ kept_candidate p (state_of log) b.by b.candidate) ≡ with_landed p log b
 open_grows p log b h = when_open (state_of log).closed log (all_placed (length log) b.lemmas ++ kept_candidate p (state_of log) b.by b.candidate) h
+
+-- a log to which accepted entries were added, or none
+pub log_after : {E : Type 0} (r : Result (Unit {0}) E) (p : Instance) (old new more : List Entry) → IsLog (record { problem = p; entries = old }) → OnOk r (new ≡ old ++ more) → OnErr r (new ≡ old) → IsAccepted p (old ++ more) → All IsPrintable more → length new < 2 ^ 63 → IsLog (record { problem = p; entries = new })
+log_after (Ok x) p old new more log ok err accepted printable count = record {
+  problem = log.problem;
+  accepted = subst (λ (xs : List Entry). IsAccepted p xs) (sym ok) accepted;
+  printable = subst (λ (xs : List Entry). All IsPrintable xs) (sym ok) (All-append IsPrintable old more log.printable printable);
+  count = count;
+}
+log_after (Err e) p old new more log ok err accepted printable count =
+    subst (λ (xs : List Entry). IsLog (record { problem = p; entries = xs })) (sym err) log
 
 -- ---- who has seen all is told nothing new
 

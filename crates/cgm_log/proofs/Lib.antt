@@ -1,3 +1,4 @@
 pub mod Adding
 pub mod Landings
+pub mod Placed
 pub mod Printing

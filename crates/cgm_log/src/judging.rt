@@ -1,14 +1,12 @@
-//! What becomes of a candidate, and which entries a batch adds to a log.
-ghost use Rattle.std.specs.Prelude.{◌≡◌, ◌^◌, ◌<◌, ◌++◌, length, IfOk, IfSome};
-ghost use Rattle.std.specs.List.{All};
+//! What becomes of a candidate.
+ghost use Rattle.std.specs.Prelude.{◌≡◌, ◌^◌, ◌<◌, length, IfOk, IfSome};
 ghost use Rattle.cgm_atom.specs.Acceptance.{IsAcceptedState};
 ghost use Rattle.cgm_atom.specs.Instance.{IsSolution};
 ghost use Rattle.cgm_atom.specs.LogState.{last_best};
-ghost use Rattle.cgm_atom.specs.Placing.{HintsCanBePlaced, all_placed};
 ghost use Rattle.cgm_log.specs.Landing.{fate_after, fate_of, kept_candidate, kept_entry};
 
 use crate::batches::Fate;
-use cgm_atom::{Entry, OutOfMemory, Problem, Seq, copy_placed};
+use cgm_atom::{Entry, OutOfMemory, Problem, Seq};
 use cgm_step::{IndexedLog, is_less};
 use std::alloc::Global;
 
@@ -95,20 +93,4 @@ fn keep(alloc: Global, worker: u32, values: &[i64], fate: &Fate) -> Result<Vec<E
         }
         Fate::Behind { .. } => Ok(kept),
     }
-}
-
-/// The lemmas, each placed after `before` entries, and then what is kept of the candidate.
-pub(crate) fn in_order(
-    alloc: Global,
-    lemmas: &[Entry],
-    before: u64,
-    kept: Vec<Entry>,
-) -> Result<Vec<Entry>, OutOfMemory>
-    requires { All (HintsCanBePlaced before) lemmas.now }
-    ensures { IfOk result (λ landing. landing.items ≡ all_placed before lemmas.now ++ kept.items) }
-{
-    let mut kept = kept;
-    let mut landing = copy_placed(alloc, lemmas, before)?;
-    landing.append(&mut kept)?;
-    Ok(landing)
 }

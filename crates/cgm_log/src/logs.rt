@@ -1,9 +1,11 @@
 //! Logs.
-ghost use Rattle.std.specs.Prelude.{◌≡◌, ◌+◌, ◌<◌, ◌≤◌, [], ◌++◌, drop, length, take, IfOk, OnOk, OnErr, IfErr, IfSome};
+ghost use Rattle.std.specs.Prelude.{◌≡◌, ◌+◌, ◌<◌, ◌≤◌, [], ◌++◌, drop, false, length, take, IfOk, OnOk, OnErr, IfErr, IfSome};
 ghost use Rattle.std.specs.List.{All};
+ghost use Rattle.std.specs.Vec.{vec_capacity, vec_len};
 ghost use Rattle.cgm_atom.specs.Acceptance.{IsAccepted};
 ghost use Rattle.cgm_atom.specs.Instance.{IsSolution};
 ghost use Rattle.cgm_atom.specs.LogState.{state_of};
+ghost use Rattle.cgm_atom.specs.Placing.{HintsCanBePlaced, all_placed};
 ghost use Rattle.cgm_atom.specs.Ranges.{IsPrintable};
 ghost use Rattle.cgm_step.specs.Indexing.{IsIndexOf};
 ghost use Rattle.cgm_log.specs.Landing.{IsProper, fate_of, kept_candidate, with_landed};
@@ -11,8 +13,8 @@ ghost use Rattle.cgm_log.specs.LogBook.{IsLog};
 ghost use Rattle.cgm_log.specs.Trading.{IsAnswer, news_of};
 
 use crate::batches::{Batch, Refund, Traded};
-use crate::judging::{Judged, in_order, judge};
-use cgm_atom::{Entry, OutOfMemory, Problem, Seq, copy_entries};
+use crate::judging::{Judged, judge};
+use cgm_atom::{Entry, OutOfMemory, Problem, Seq, copy_entries, place_all};
 use cgm_step::{IndexedLog, LogIndex};
 use std::alloc::Global;
 use std::marker::Model;
@@ -77,6 +79,14 @@ impl Log {
         self.entries.as_slice()
     }
 
+    /// Gives the entries, in their order. Takes no memory.
+    pub fn into_entries(self) -> Seq<Entry>
+        ensures { result ≡ self.entries }
+    {
+        let Log { entries, .. } = self;
+        Seq::of(entries)
+    }
+
     /// The entries with their index.
     pub fn indexed(&self) -> IndexedLog<'_>
         ensures state { result ≡ state_of self.now.entries }
@@ -111,35 +121,52 @@ impl Log {
         ensures refund { OnErr result (self.new ≡ self.old) }
         ensures batch { IfErr result (λ r. r.batch ≡ batch) }
     {
-        match self.land(seen, &batch) {
-            Ok(traded) => Ok(traded),
+        let news = match self.copy_from(seen) {
+            Ok(news) => news,
+            Err(_) => return Err(Refund { batch }),
+        };
+        if self.closed() {
+            return Ok(Traded::Closed { news });
+        }
+        match self.judge(&batch) {
+            Ok(judged) => self.land(news, judged, batch),
             Err(_) => Err(Refund { batch }),
         }
     }
 
-    fn land(&mut self, seen: u64, batch: &Batch) -> Result<Traded, OutOfMemory>
-        requires all_seen { seen ≡ length self.old.entries }
-        requires proper { IsProper self.old.problem (take seen self.old.entries) batch.now }
-        ensures answer { IfOk result (λ t. IsAnswer self.old.problem self.old.entries batch.now t) }
-        ensures news { IfOk result (λ t. news_of t ≡ drop seen self.old.entries) }
+    /// Adds the lemmas of a batch, and what is kept of its candidate, to a log that isn't closed.
+    fn land(&mut self, news: Seq<Entry>, judged: Judged, batch: Batch) -> Result<Traded, Refund>
+        requires still_open { (state_of self.old.entries).closed ≡ false }
+        requires proper { IsProper self.old.problem self.old.entries batch }
+        requires kept { judged.kept.items
+            ≡ kept_candidate self.old.problem (state_of self.old.entries) batch.by batch.candidate }
+        requires fate { judged.fate
+            ≡ fate_of self.old.problem (state_of self.old.entries) batch.candidate }
+        ensures answer { IfOk result (λ t. IsAnswer self.old.problem self.old.entries batch t) }
+        ensures news { IfOk result (λ t. news_of t ≡ news) }
         ensures landed { OnOk result
-            (self.new.entries ≡ with_landed self.old.problem self.old.entries batch.now) }
+            (self.new.entries ≡ with_landed self.old.problem self.old.entries batch) }
         ensures problem { self.new.problem ≡ self.old.problem }
         ensures unchanged { OnErr result (self.new ≡ self.old) }
+        ensures batch { IfErr result (λ r. r.batch ≡ batch) }
     {
-        let news = self.copy_from(seen)?;
-        if self.closed() {
-            return Ok(Traded::Closed { news });
+        let first = self.count() + 1;
+        let Judged { fate, kept } = judged;
+        let Batch {
+            by,
+            lemmas,
+            candidate,
+        } = batch;
+        match self.append(lemmas.into_inner(), kept) {
+            Ok(()) => Ok(Traded::Landed { news, first, fate }),
+            Err(lemmas) => Err(Refund {
+                batch: Batch {
+                    by,
+                    lemmas: Seq::of(lemmas),
+                    candidate,
+                },
+            }),
         }
-        let before = self.count();
-        let judged = self.judge(batch)?;
-        let landing = in_order(self.alloc, batch.lemmas.as_slice(), before, judged.kept)?;
-        self.append(landing)?;
-        Ok(Traded::Landed {
-            news,
-            first: before + 1,
-            fate: judged.fate,
-        })
     }
 
     /// How many entries there are.
@@ -177,36 +204,79 @@ impl Log {
         )
     }
 
-    /// Adds entries that are accepted after those of the log.
-    fn append(&mut self, landing: Vec<Entry>) -> Result<(), OutOfMemory>
-        requires accepted { IsAccepted self.old.problem (self.old.entries ++ landing.items) }
-        requires printable { All IsPrintable landing.items }
-        ensures ok { OnOk result
-            (self.new ≡ record self.old { entries = self.old.entries ++ landing.items }) }
+    /// Adds lemmas, each placed, and then what is kept of a candidate, to the entries after which they
+    /// are accepted. Without memory the lemmas come back as they were.
+    fn append(&mut self, lemmas: Vec<Entry>, kept: Vec<Entry>) -> Result<(), Vec<Entry>>
+        requires hints { All (HintsCanBePlaced (length self.old.entries)) lemmas.items }
+        requires no_hints { all_placed (length self.old.entries) kept.items ≡ kept.items }
+        requires accepted { IsAccepted self.old.problem (self.old.entries
+            ++ (all_placed (length self.old.entries) lemmas.items ++ kept.items)) }
+        requires printable { All IsPrintable
+            (all_placed (length self.old.entries) lemmas.items ++ kept.items) }
+        ensures ok { OnOk result (self.new ≡ record self.old {
+          entries = self.old.entries
+              ++ (all_placed (length self.old.entries) lemmas.items ++ kept.items);
+        }) }
         ensures err { OnErr result (self.new ≡ self.old) }
+        ensures lemmas { IfErr result (λ l. l.items ≡ lemmas.items) }
     {
-        append_indexed(&mut self.entries, &mut self.index, landing)
+        append_placed(self.alloc, &mut self.entries, &mut self.index, lemmas, kept)
     }
 }
 
-/// Adds entries and their part of the index, or neither for want of memory.
-fn append_indexed(
+/// Moves lemmas, each placed, and then what is kept of a candidate, behind the entries, and adds them
+/// to the index. Without memory the lemmas come back, and the entries and the index stay.
+fn append_placed(
+    alloc: Global,
     entries: &mut Vec<Entry>,
     index: &mut LogIndex,
-    landing: Vec<Entry>,
+    lemmas: Vec<Entry>,
+    kept: Vec<Entry>,
+) -> Result<(), Vec<Entry>>
+    requires own { IsIndexOf index.old entries.old.items }
+    requires hints { All (HintsCanBePlaced (length entries.old.items)) lemmas.items }
+    requires no_hints { all_placed (length entries.old.items) kept.items ≡ kept.items }
+    ensures own { IsIndexOf index.new entries.new.items }
+    ensures ok { OnOk result (entries.new.items ≡ entries.old.items
+        ++ (all_placed (length entries.old.items) lemmas.items ++ kept.items)) }
+    ensures err { OnErr result (entries.new.items ≡ entries.old.items) }
+    ensures lemmas { IfErr result (λ l. l.items ≡ lemmas.items) }
+{
+    let before = entries.len() as u64;
+    let count = lemmas.len();
+    let mut landing = lemmas;
+    if let Err(_) = make_room(entries, index, &mut landing, kept) {
+        landing.truncate(count);
+        return Err(landing);
+    }
+    let mut landing = place_all(alloc, landing, before);
+    match entries.append(&mut landing) {
+        Ok(()) => Ok(()),
+        Err(_) => unreachable!(),
+    }
+}
+
+/// Puts what is kept of a candidate behind the lemmas, makes room for them all, and adds them to the
+/// index. Without memory the lemmas stay in front, and the index is as it was.
+fn make_room(
+    entries: &mut Vec<Entry>,
+    index: &mut LogIndex,
+    landing: &mut Vec<Entry>,
+    kept: Vec<Entry>,
 ) -> Result<(), OutOfMemory>
     requires own { IsIndexOf index.old entries.old.items }
-    ensures own { IsIndexOf index.new entries.new.items }
-    ensures ok { OnOk result (entries.new.items ≡ entries.old.items ++ landing.items) }
-    ensures err { OnErr result (entries.new.items ≡ entries.old.items) }
+    ensures entries { entries.new.items ≡ entries.old.items }
+    ensures room { OnOk result
+        (vec_len entries.new + vec_len landing.new ≤ vec_capacity entries.new) }
+    ensures landing { OnOk result (landing.new.items ≡ landing.old.items ++ kept.items) }
+    ensures indexed { OnOk result
+        (IsIndexOf index.new (entries.old.items ++ (landing.old.items ++ kept.items))) }
+    ensures front { OnErr result
+        (take (length landing.old.items) landing.new.items ≡ landing.old.items) }
+    ensures unchanged { OnErr result (index.new ≡ index.old) }
 {
-    let count = entries.len();
-    let mut landing = landing;
-    entries.append(&mut landing)?;
-    let (_, more) = entries.as_slice().split_at(count);
-    if let Err(error) = index.append(more) {
-        entries.truncate(count);
-        return Err(error);
-    }
-    Ok(())
+    let mut kept = kept;
+    landing.append(&mut kept)?;
+    entries.try_reserve(landing.len())?;
+    index.append(landing.as_slice())
 }

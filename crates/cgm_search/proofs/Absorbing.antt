@@ -1,11 +1,11 @@
 -- What a worker knows stays true with each next entry of the log, and when it forgets a long lemma.
-use Rattle.std.proofs.Common.{◌≡◌, ℕ, zero, suc, ◌+◌, ◌^◌, ◌<◌, ◌==◌, not, if◌then◌else◌, List, [], ◌∷◌, ◌++◌, length, drop, get_or, refl, ap, sym, ◌∙◌, append_assoc, arith}
+use Rattle.std.proofs.Common.{◌≡◌, ℕ, zero, suc, ◌+◌, ◌^◌, ◌<◌, ◌==◌, not, if◌then◌else◌, List, [], ◌∷◌, ◌++◌, length, get_or, refl, ap, sym, ◌∙◌, append_assoc, arith}
 use Rattle.std.specs.Prelude.{ℤ, nat_lt}
 use Rattle.std.specs.declared.option.Option.{Option}
 use Rattle.std.specs.declared.option.Option.TheVariants.{Some, None}
 use Rattle.std.specs.List.{filter, position_from}
 use Rattle.std.specs.Option.{option_and_then, option_map}
-use Rattle.std.proofs.lemmas.List.{drop_more, length_push}
+use Rattle.std.proofs.lemmas.List.{length_push}
 use Rattle.std.proofs.lemmas.List.Elements.{All-nil}
 use Rattle.std.proofs.lemmas.Option.{slice_get-get_or}
 use Rattle.cgm_atom.specs.declared.constraints.Atom.{Atom}
@@ -97,31 +97,25 @@ known_next old new e h accepted room problem entries own store = record {
   store = rw (problem, entries, store) (store_with old.problem (seen old) old.store e h.store);
 }
 
-accepted_by_first : (p : Instance) (s : LogState) (e : Entry) (rest all : List Entry) → all ≡ e ∷ rest → IsAcceptedAfter p s all → (first_fault p s e ≡ None) × IsAcceptedAfter p (state_with s e) rest
-accepted_by_first p s e rest all same h = rw same at h
-
-pub next_of_more : (p : Instance) (s : LogState) (more : List Entry) (i : ℕ) (e : Entry) → i < length more → e ≡ get_or more i e → IsAcceptedAfter p s (drop i more) → (first_fault p s e ≡ None) × IsAcceptedAfter p (state_with s e) (drop (i + 1) more)
-next_of_more p s more i e short here h =
-    let next : drop i more ≡ e ∷ drop (i + 1) more = drop_more more i e short ∙ ap (λ (x : Entry). x ∷ drop (i + 1) more) (sym here) in
-    accepted_by_first p s e (drop (i + 1) more) (drop i more) next h
+pub accepted_first : (p : Instance) (s : LogState) (e : Entry) (rest all : List Entry) → all ≡ e ∷ rest → IsAcceptedAfter p s all → (first_fault p s e ≡ None) × IsAcceptedAfter p (state_with s e) rest
+accepted_first p s e rest all same h = rw same at h
 
 pub accepted_on : (p p' : Instance) (old new : List Entry) (e : Entry) (rest : List Entry) → p' ≡ p → new ≡ old ++ e ∷ [] → IsAcceptedAfter p (state_with (state_of old) e) rest → IsAcceptedAfter p' (state_of new) rest
 accepted_on p p' old new e rest same added h = rw (same, added, state_of-push old e) h
 
-pub entries_next : (first more : List Entry) (old new : List Entry) (i : ℕ) (e : Entry) → i < length more → e ≡ get_or more i e → new ≡ old ++ e ∷ [] → old ++ drop i more ≡ first ++ more → new ++ drop (i + 1) more ≡ first ++ more
-entries_next first more old new i e short here added h =
-    let next : drop i more ≡ e ∷ drop (i + 1) more = drop_more more i e short ∙ ap (λ (x : Entry). x ∷ drop (i + 1) more) (sym here) in
-    rw added (append_assoc old (e ∷ []) (drop (i + 1) more) ∙ ap (λ (xs : List Entry). old ++ xs) (sym next) ∙ h)
+pub entries_next : (first more old new : List Entry) (e : Entry) (rest all : List Entry) → all ≡ e ∷ rest → new ≡ old ++ e ∷ [] → old ++ all ≡ first ++ more → new ++ rest ≡ first ++ more
+entries_next first more old new e rest all next added h =
+    rw added (append_assoc old (e ∷ []) rest ∙ ap (λ (xs : List Entry). old ++ xs) (sym next) ∙ h)
 
-pub room_next : (more old new : List Entry) (i : ℕ) (e : Entry) → i < length more → e ≡ get_or more i e → new ≡ old ++ e ∷ [] → length old + length (drop i more) < 2 ^ 63 → length new + length (drop (i + 1) more) < 2 ^ 63
-room_next more old new i e short here added h =
-    let next : length (drop i more) ≡ suc (length (drop (i + 1) more)) = ap length (drop_more more i e short) in
+pub room_next : (old new : List Entry) (e : Entry) (rest all : List Entry) → all ≡ e ∷ rest → new ≡ old ++ e ∷ [] → length old + length all < 2 ^ 63 → length new + length rest < 2 ^ 63
+room_next old new e rest all next added h =
+    let left : length all ≡ suc (length rest) = ap length next in
     let long = ap length added ∙ length_push old e in
     omega arith
 
-pub room_here : (more old : List Entry) (i : ℕ) (e : Entry) → i < length more → length old + length (drop i more) < 2 ^ 63 → length old + 1 < 2 ^ 63
-room_here more old i e short h =
-    let next : length (drop i more) ≡ suc (length (drop (i + 1) more)) = ap length (drop_more more i e short) in
+pub room_here : (old : List Entry) (e : Entry) (rest all : List Entry) → all ≡ e ∷ rest → length old + length all < 2 ^ 63 → length old + 1 < 2 ^ 63
+room_here old e rest all next h =
+    let left : length all ≡ suc (length rest) = ap length next in
     omega arith
 
 -- ---- forgetting

@@ -1,22 +1,17 @@
 -- What a trade adds to what a worker has seen: the news, and then what landed of its batch.
-use Rattle.std.proofs.Common.{◌≡◌, ℕ, ◌+◌, ◌-◌, ◌^◌, ◌<◌, Bool, true, false, List, [], ◌∷◌, ◌++◌, length, get_or, refl, sym, ap, subst, ◌∙◌, append_assoc, arith, length-append}
+use Rattle.std.proofs.Common.{◌≡◌, ℕ, ◌+◌, ◌-◌, ◌<◌, Bool, true, false, List, [], ◌∷◌, ◌++◌, length, refl, sym, ap, subst, ◌∙◌, append_assoc, arith, length-append}
 use Rattle.std.specs.Prelude.{ℤ, if◌then◌else◌, Result, Ok, Err, OnOk}
 use Rattle.std.specs.declared.option.Option.{Option}
 use Rattle.std.specs.declared.option.Option.TheVariants.{Some, None}
-use Rattle.std.specs.List.{All}
 use Rattle.cgm_atom.specs.declared.entries.Entry.{Entry}
-use Rattle.cgm_atom.specs.declared.entries.Entry.TheVariants.{Best, Lemma}
-use Rattle.cgm_atom.specs.declared.entries.Hint.{Hint}
-use Rattle.cgm_atom.specs.declared.entries.Hint.TheVariants as hint
 use Rattle.cgm_atom.specs.Acceptance.{IsAccepted, IsAcceptedAfter, IsClosed}
 use Rattle.cgm_atom.specs.Instance.{Instance}
 use Rattle.cgm_atom.specs.LogState.{LogState, empty_state, state_of, state_with}
-use Rattle.cgm_atom.specs.Placing.{CanBePlaced, HintsCanBePlaced, IsBefore, all_placed}
-use Rattle.cgm_atom.specs.Ranges.{IsHintInRange}
+use Rattle.cgm_atom.specs.Placing.{all_placed}
 use Rattle.cgm_atom.proofs.StateLemmas.{IsAccepted-next, state_of-push}
 use Rattle.cgm_log.specs.declared.batches.Batch.{Batch}
 use Rattle.cgm_log.specs.declared.batches.Fate.{Fate}
-use Rattle.cgm_log.specs.Landing.{IsLemmaOf, fate_of, kept_candidate, landed, with_landed}
+use Rattle.cgm_log.specs.Landing.{fate_of, kept_candidate, landed, with_landed}
 use Rattle.cgm_log.proofs.Adding.{closed_stays}
 use Rattle.cgm_search.specs.Trading.{HasLanded, IsLonger, kept_of}
 
@@ -69,8 +64,12 @@ landing_accepted p log mid landing b e f h = rw (e, f) (accepted_rest p log (lan
 pub closed_taken : (p : Instance) (log now : List Entry) (b : Batch) → IsClosed log → now ≡ log → now ≡ with_landed p log b
 closed_taken p log now b closed e = e ∙ closed_stays p log b closed
 
-pub landed_taken : (p : Instance) (log mid landing now : List Entry) (b : Batch) → mid ≡ log → landing ≡ landed p log b → now ≡ mid ++ landing → now ≡ with_landed p log b
+landed_taken : (p : Instance) (log mid landing now : List Entry) (b : Batch) → mid ≡ log → landing ≡ landed p log b → now ≡ mid ++ landing → now ≡ with_landed p log b
 landed_taken p log mid landing now b e f h = h ∙ ap (λ (xs : List Entry). xs ++ landing) e ∙ ap (λ (xs : List Entry). log ++ xs) f
+
+pub taken_on_ok : {T E : Type 0} (r : Result T E) (p : Instance) (log mid landing now : List Entry) (b : Batch) → mid ≡ log → landing ≡ landed p log b → OnOk r (now ≡ mid ++ landing) → OnOk r (now ≡ with_landed p log b)
+taken_on_ok (Ok x) p log mid landing now b e f h = landed_taken p log mid landing now b e f h
+taken_on_ok (Err x) p log mid landing now b e f h = tt
 
 pub news_fit : (p : Instance) (seen news : List Entry) (b : Batch) (limit : ℕ) → length (with_landed p (seen ++ news) b) < limit → length seen + length news < limit
 news_fit p seen news b limit h =
@@ -84,23 +83,6 @@ landing_fits p log mid landing b limit e f h =
     let m = ap length e in
     let l = ap length f in
     omega arith
-
--- ---- hints that can be placed
-
-hint_placed : (n seen : ℕ) (h : Hint) → n < 2 ^ 63 → IsBefore seen h → IsHintInRange h → CanBePlaced n h
-hint_placed n seen (hint.Clause number) small before range = tt
-hint_placed n seen (hint.Row number) small before range = tt
-hint_placed n seen (hint.Entry place) small before range = tt
-hint_placed n seen (hint.Own i) small before range = (before, omega arith)
-hint_placed n seen (hint.Cut ordinal part) small before range = tt
-
-lemma_placed : (n seen by : ℕ) (e : Entry) → n < 2 ^ 63 → IsLemmaOf by seen e → HintsCanBePlaced n e
-lemma_placed n seen by (Best maker values) small h = absurd h
-lemma_placed n seen by (Lemma maker clause hints bound) small h =
-    λ k d short. hint_placed n seen (get_or hints k d) small (h.2 k d short) (h.1.2 k d short)
-
-pub batch_placed : (n seen by : ℕ) (lemmas : List Entry) → n < 2 ^ 63 → All (IsLemmaOf by seen) lemmas → All (HintsCanBePlaced n) lemmas
-batch_placed n seen by lemmas small h = λ k d short. lemma_placed n seen by (get_or lemmas k d) small (h k d short)
 
 -- ---- a longer log
 

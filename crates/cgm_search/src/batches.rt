@@ -5,7 +5,7 @@ ghost use Rattle.cgm_atom.specs.Placing.{HintsCanBePlaced, all_placed};
 ghost use Rattle.cgm_learn.specs.Learning.{lemma_by};
 ghost use Rattle.cgm_search.specs.Trading.{kept_of};
 
-use cgm_atom::{Entry, OutOfMemory, Seq, copy_entries, copy_placed};
+use cgm_atom::{Entry, OutOfMemory, Seq, copy_entries, place_all};
 use cgm_learn::Learned;
 use cgm_log::{Batch, Fate};
 use std::alloc::Global;
@@ -87,17 +87,22 @@ fn copy_candidate(
 /// What landed of a batch whose first lemma has the place `first`, where its candidate had this fate.
 pub(crate) fn landing_of(
     alloc: Global,
-    b: &Batch,
+    batch: Batch,
     first: u64,
     fate: &Option<Fate>,
 ) -> Result<Vec<Entry>, OutOfMemory>
     requires first { 1 ≤ first }
-    requires placed { All (HintsCanBePlaced (first - 1)) b.now.lemmas }
+    requires placed { All (HintsCanBePlaced (first - 1)) batch.lemmas }
     ensures { IfOk result (λ landing. landing.items
-        ≡ all_placed (first - 1) b.now.lemmas ++ kept_of b.now.by b.now.candidate fate.now) }
+        ≡ all_placed (first - 1) batch.lemmas ++ kept_of batch.by batch.candidate fate.now) }
 {
-    let mut kept = kept_entries(alloc, b.by, &b.candidate, fate)?;
-    let mut landing = copy_placed(alloc, b.lemmas.as_slice(), first - 1)?;
+    let Batch {
+        by,
+        lemmas,
+        candidate,
+    } = batch;
+    let mut kept = kept_entries(alloc, by, candidate, fate)?;
+    let mut landing = place_all(alloc, lemmas.into_inner(), first - 1);
     landing.append(&mut kept)?;
     Ok(landing)
 }
@@ -105,26 +110,25 @@ pub(crate) fn landing_of(
 fn kept_entries(
     alloc: Global,
     worker: u32,
-    candidate: &Option<Seq<i64>>,
+    candidate: Option<Seq<i64>>,
     fate: &Option<Fate>,
 ) -> Result<Vec<Entry>, OutOfMemory>
-    ensures { IfOk result (λ kept. kept.items ≡ kept_of worker candidate.now fate.now) }
+    ensures { IfOk result (λ kept. kept.items ≡ kept_of worker candidate fate.now) }
 {
     match candidate {
         None => Ok(Vec::new(alloc)),
         Some(values) => match fate {
             None => Ok(Vec::new(alloc)),
             Some(Fate::Behind { .. }) => Ok(Vec::new(alloc)),
-            Some(Fate::Kept { .. }) => one_best(alloc, worker, values.as_slice()),
+            Some(Fate::Kept { .. }) => one_best(alloc, worker, values),
         },
     }
 }
 
-fn one_best(alloc: Global, worker: u32, values: &[i64]) -> Result<Vec<Entry>, OutOfMemory>
-    ensures { IfOk result (λ kept. kept.items ≡ Entry.Best worker values.now ∷ []) }
+fn one_best(alloc: Global, worker: u32, values: Seq<i64>) -> Result<Vec<Entry>, OutOfMemory>
+    ensures { IfOk result (λ kept. kept.items ≡ Entry.Best worker values ∷ []) }
 {
     let mut kept = Vec::new(alloc);
-    let values = Seq::of(Vec::from_slice(alloc, values)?);
     kept.push(Entry::Best { by: worker, values })?;
     Ok(kept)
 }

@@ -68,12 +68,12 @@ impl Known {
     }
 
     /// Takes up the next entries of the log.
-    pub(crate) fn absorb_all(&mut self, alloc: Global, more: &[Entry]) -> Result<(), OutOfMemory>
+    pub(crate) fn absorb_all(&mut self, alloc: Global, more: Vec<Entry>) -> Result<(), OutOfMemory>
         requires known { IsKnown self.old }
-        requires accepted { IsAcceptedAfter self.old.problem (seen_state self.old) more.now }
-        requires room { length (seen self.old) + length more.now < 2 ^ 63 }
+        requires accepted { IsAcceptedAfter self.old.problem (seen_state self.old) more.items }
+        requires room { length (seen self.old) + length more.items < 2 ^ 63 }
         ensures known { OnOk result (IsKnown self.new) }
-        ensures entries { OnOk result (seen self.new ≡ seen self.old ++ more.now) }
+        ensures entries { OnOk result (seen self.new ≡ seen self.old ++ more.items) }
         ensures problem { self.new.problem ≡ self.old.problem }
     {
         for entry in more {
@@ -83,12 +83,12 @@ impl Known {
     }
 
     /// Takes up the next entry of the log.
-    fn absorb(&mut self, alloc: Global, entry: &Entry) -> Result<(), OutOfMemory>
+    fn absorb(&mut self, alloc: Global, entry: Entry) -> Result<(), OutOfMemory>
         requires known { IsKnown self.old }
-        requires accepted { first_fault self.old.problem (seen_state self.old) entry.now ≡ None }
+        requires accepted { first_fault self.old.problem (seen_state self.old) entry ≡ None }
         requires room { length (seen self.old) + 1 < 2 ^ 63 }
         ensures known { OnOk result (IsKnown self.new) }
-        ensures entries { OnOk result (seen self.new ≡ seen self.old ++ entry.now ∷ []) }
+        ensures entries { OnOk result (seen self.new ≡ seen self.old ++ entry ∷ []) }
         ensures problem { self.new.problem ≡ self.old.problem }
     {
         self.take_in(alloc, entry)?;
@@ -97,18 +97,18 @@ impl Known {
     }
 
     /// Adds the next entry of the log, and what it gives the store.
-    fn take_in(&mut self, alloc: Global, entry: &Entry) -> Result<(), OutOfMemory>
+    fn take_in(&mut self, alloc: Global, entry: Entry) -> Result<(), OutOfMemory>
         requires known { IsKnown self.old }
-        requires accepted { first_fault self.old.problem (seen_state self.old) entry.now ≡ None }
+        requires accepted { first_fault self.old.problem (seen_state self.old) entry ≡ None }
         requires room { length (seen self.old) + 1 < 2 ^ 63 }
         ensures known { OnOk result (IsKnown self.new) }
-        ensures entries { OnOk result (seen self.new ≡ seen self.old ++ entry.now ∷ []) }
+        ensures entries { OnOk result (seen self.new ≡ seen self.old ++ entry ∷ []) }
         ensures problem { self.new.problem ≡ self.old.problem }
     {
         let log = IndexedLog::of(self.entries.as_slice(), &self.index);
-        keep(alloc, &self.problem, &log, &mut self.store, entry)?;
-        self.index.add(entry)?;
-        self.entries.push(entry.copy(alloc)?)?;
+        keep(alloc, &self.problem, &log, &mut self.store, &entry)?;
+        self.index.add(&entry)?;
+        self.entries.push(entry)?;
         Ok(())
     }
 

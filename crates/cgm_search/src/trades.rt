@@ -44,7 +44,7 @@ impl Search {
             Ok(traded) => {
                 gate.arrive(self.worker, AFTER_TRADE);
                 let _count = trader.seen();
-                self.known.take_up(self.alloc, &traded, &copy)
+                self.known.take_up(self.alloc, traded, copy)
             }
         }
     }
@@ -52,24 +52,22 @@ impl Search {
 
 impl Known {
     /// Takes up the news of an answer, and what landed of the batch.
-    fn take_up(&mut self, alloc: Global, traded: &Traded, batch: &Batch) -> Result<(), OutOfMemory>
+    fn take_up(&mut self, alloc: Global, traded: Traded, batch: Batch) -> Result<(), OutOfMemory>
         requires known { IsKnown self.old }
-        requires answer { IsAnswer self.old.problem (after_news self.old traded.now)
-            batch.now traded.now }
-        requires accepted { IsAccepted self.old.problem
-            (after_trade self.old traded.now batch.now) }
-        requires room { length (after_trade self.old traded.now batch.now) < 2 ^ 63 }
-        requires proper { IsProper self.old.problem (seen self.old) batch.now }
+        requires answer { IsAnswer self.old.problem (after_news self.old traded) batch traded }
+        requires accepted { IsAccepted self.old.problem (after_trade self.old traded batch) }
+        requires room { length (after_trade self.old traded batch) < 2 ^ 63 }
+        requires proper { IsProper self.old.problem (seen self.old) batch }
         ensures known { OnOk result (IsKnown self.new) }
-        ensures entries { OnOk result (seen self.new ≡ after_trade self.old traded.now batch.now) }
+        ensures entries { OnOk result (seen self.new ≡ after_trade self.old traded batch) }
         ensures problem { self.new.problem ≡ self.old.problem }
     {
         match traded {
-            Traded::Closed { news } => self.absorb_all(alloc, news.as_slice()),
+            Traded::Closed { news } => self.absorb_all(alloc, news.into_inner()),
             Traded::Landed { news, first, fate } => {
-                self.absorb_all(alloc, news.as_slice())?;
-                let landing = landing_of(alloc, batch, *first, fate)?;
-                self.absorb_all(alloc, landing.as_slice())
+                self.absorb_all(alloc, news.into_inner())?;
+                let landing = landing_of(alloc, batch, first, &fate)?;
+                self.absorb_all(alloc, landing)
             }
         }
     }

@@ -1,5 +1,4 @@
-use Rattle.std.proofs.Common.{◌∷◌, ◌++◌, [], refl, ap, ◌∙◌}
-use Rattle.cgm_atom.specs.declared.entries.Entry.{Entry}
+use Rattle.std.proofs.Common.{refl, ap, ◌∙◌}
 use Rattle.cgm_atom.specs.LogState.{state_of}
 use Rattle.cgm_log.proofs.Printing.{bests_fit}
 use Rattle.cgm_search.specs.Knowing.{seen}
@@ -13,7 +12,7 @@ keep-requires-clause-bests_room c =
 pub returns-clause-known : goal.returns-clause-known
 returns-clause-known c =
     let known = c.args.self.now in
-    known_next known _ c.args.entry.now c.requires.known c.requires.accepted c.requires.room refl
-    (c.in_ok-push.ensures.items ∙ ap (λ (x : Entry). seen known ++ x ∷ []) c.in_ok-copy.ensures)
+    known_next known _ c.args.entry c.requires.known c.requires.accepted c.requires.room refl
+    c.in_ok-push.ensures.items
     (c.in_ok-add.ensures.own (seen known) c.requires.known.own)
     (rw (c.of-log.ensures ∙ ap state_of c.as_slice.ensures.value) at c.in_ok-keep.ensures)

@@ -6,14 +6,14 @@ use Rattle.cgm_search.proofs.LandedBatches.{landed_on_ok}
 use Rattle.cgm_search.proofs.Seats.{told_on_ok}
 use Rattle.cgm_search.proofs.searches.Search.exchange.Goals as goal
 
-pub returns-clause-told : goal.returns-clause-told
-returns-clause-told g c =
+pub returns-in-Ok-clause-told : goal.returns-in-Ok-clause-told
+returns-in-Ok-clause-told g c =
     let new : Search = record c.args.self.now { known = c.take_up.new.self } in
     told_on_ok c.take_up.result c.args.self.now new (g.T.Trader.seat c.args.trader.now) (g.T.Trader.seat c.trade.new.self) c.in-Ok.traded c.args.batch c.in_ok-copy.copy
     c.requires.seat (record { problem = c.take_up.ensures.problem; trail = refl; choice = refl; plan = refl; worker = refl })
     c.trade.ensures.problem c.trade.ensures.number c.in-Ok.ensures.landed c.in_ok-copy.ensures c.take_up.ensures.entries
 
-pub returns-clause-landed : goal.returns-clause-landed
-returns-clause-landed g c =
+pub returns-in-Ok-clause-landed : goal.returns-in-Ok-clause-landed
+returns-in-Ok-clause-landed g c =
     landed_on_ok c.take_up.result c.args.self.now.known.problem (seen c.args.self.now.known) (news_of c.in-Ok.traded) (seen c.take_up.new.self) c.args.batch c.in_ok-copy.copy
     c.in_ok-copy.ensures c.take_up.ensures.entries

@@ -12,7 +12,7 @@ use crate::encoding::encoding_of;
 use crate::faults::{PlacedFault, tell_fault};
 use crate::input::Input;
 use crate::print::{tell, tell_memory};
-use cgm_atom::Entry;
+use cgm_atom::{Entry, Seq};
 use cgm_base::Status;
 use cgm_cert::{CertStop, read_cert};
 use cgm_encode::Encoded;
@@ -115,7 +115,7 @@ fn check_text<O: Sink>(
         result }
 {
     match entries_of_text(alloc, text, out) {
-        Ok(entries) => check_entries(alloc, input, encoded, entries.as_slice(), out),
+        Ok(entries) => check_entries(alloc, input, encoded, Seq::of(entries), out),
         Err(status) => status,
     }
 }
@@ -142,11 +142,11 @@ fn check_entries<O: Sink>(
     alloc: Global,
     input: &Input,
     encoded: &Encoded,
-    entries: &[Entry],
+    entries: Seq<Entry>,
     out: &mut O,
 ) -> Status
     requires { IsEncodingOf (lists_of input.now.reading.model) input.now.earlier.pairs encoded.now }
-    ensures { HasEntriesOutcome (lists_of input.now.reading.model) input.now.earlier.pairs entries.now
+    ensures { HasEntriesOutcome (lists_of input.now.reading.model) input.now.earlier.pairs entries
         (printing (O.written out.old) (O.written out.new) (O.faults out.old) (O.faults out.new))
         result }
 {

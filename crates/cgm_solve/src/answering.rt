@@ -1,11 +1,12 @@
 //! What is told of an ended run.
 ghost use Rattle.std.specs.Prelude.{◌≡◌, IfOk};
+ghost use Rattle.cgm_atom.specs.Acceptance.{IsClosed};
 ghost use Rattle.cgm_solve.specs.Readings.{ReadsLastBest};
 ghost use Rattle.cgm_solve.specs.Runs.{IsExhausted, IsTold, closed_answer};
 
 use crate::reading::read;
 use crate::running::Ended;
-use cgm_atom::{Entry, OutOfMemory, Seq, copy_entries};
+use cgm_atom::{Entry, OutOfMemory, Seq};
 use cgm_encode::{Answer, Encoded, Found};
 use cgm_log::Log;
 use cgm_search::Stopped;
@@ -13,14 +14,15 @@ use cgm_trail::{Trail, Work};
 use std::alloc::Global;
 
 /// The answer of a closed log, or of one that isn't closed where the worker's budget is spent. Then the
-/// work gains its trail.
+/// work gains its trail. Its entries are those of the log.
 pub(crate) fn tell(
     alloc: Global,
     encoded: &Encoded,
     ended: Ended,
     work: &mut Work,
 ) -> Result<Answer, OutOfMemory>
-    requires { ended.log.problem ≡ encoded.now.problem }
+    requires problem { ended.log.problem ≡ encoded.now.problem }
+    requires closed { ended.stopped ≡ Stopped.Final → IsClosed ended.log.entries }
     ensures { IsTold encoded.now ended work.old work.new result }
 {
     let Ended {
@@ -29,14 +31,15 @@ pub(crate) fn tell(
         stopped,
     } = ended;
     let best = read_last_best(alloc, encoded, &log)?;
-    let entries = copy_entries(alloc, log.entries())?;
-    if log.closed() {
+    let is_closed = log.closed();
+    let entries = log.into_entries();
+    if is_closed {
         return Ok(closed_answer(best, entries));
     }
     match stopped {
         Stopped::Spent => exhausted(alloc, best, entries, trail, work),
         // A worker ends so only where the log is closed.
-        Stopped::Final => Err(OutOfMemory),
+        Stopped::Final => unreachable!(),
         Stopped::Memory => Err(OutOfMemory),
     }
 }

@@ -37,41 +37,47 @@ pub fn verify(
     ensures { IsVerifyAnswer (lists_of m.now) e.now.pairs entries.now result }
 {
     let encoded = encode(alloc, m, e)?;
-    match verify_encoded(alloc, &encoded, entries) {
+    match verify_copy(alloc, &encoded, entries) {
         Ok(verified) => Ok(verified),
         Err(_) => Err(SolveStop::Memory),
     }
 }
 
-/// The same over an encoding that was made before: its model is the one that it was made of.
+/// The same over an encoding that was made before: its model is the one that it was made of. The
+/// entries that the answer has are those that are given.
 ///
 /// `Err` is want of memory.
 pub fn verify_encoded(
     alloc: Global,
     encoded: &Encoded,
-    entries: &[Entry],
+    entries: Seq<Entry>,
 ) -> Result<Verified, OutOfMemory>
     ensures { IfOk result
-        (λ verified. ForEncoded encoded.now (λ m pairs. IsVerified m pairs entries.now verified)) }
+        (λ verified. ForEncoded encoded.now (λ m pairs. IsVerified m pairs entries verified)) }
 {
     encoded.problem.recall_well_formed();
-    let verdict = check(alloc, &encoded.problem, entries)?;
+    let verdict = check(alloc, &encoded.problem, entries.as_slice())?;
     match verdict {
         Verdict::Least { values } => {
             let found = read(alloc, encoded, values.as_slice())?;
-            let entries = copy_entries(alloc, entries)?;
             Ok(Verified::Shown(Answer::Realized { found, entries }))
         }
-        Verdict::NoSolution => {
-            let entries = copy_entries(alloc, entries)?;
-            Ok(Verified::Shown(Answer::Unrealizable { entries }))
-        }
+        Verdict::NoSolution => Ok(Verified::Shown(Answer::Unrealizable { entries })),
         Verdict::Open { best } => {
             let best = read_best(alloc, encoded, &best)?;
             Ok(Verified::Shown(Answer::Open { best }))
         }
         Verdict::Refused { step, why } => Ok(Verified::Refused { step, why }),
     }
+}
+
+/// The same with entries of its own for the answer.
+fn verify_copy(alloc: Global, encoded: &Encoded, entries: &[Entry]) -> Result<Verified, OutOfMemory>
+    ensures { IfOk result
+        (λ verified. ForEncoded encoded.now (λ m pairs. IsVerified m pairs entries.now verified)) }
+{
+    let entries = copy_entries(alloc, entries)?;
+    verify_encoded(alloc, encoded, entries)
 }
 
 /// The realization that the values of a best stand for, if there are any.

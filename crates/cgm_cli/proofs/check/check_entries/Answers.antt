@@ -10,8 +10,8 @@ print_answer-requires g c =
     let model = c.args.input.now.reading.model in
     let m = lists_of model in
     let pairs = c.args.input.now.earlier.pairs in
-    shown_reportable m pairs c.args.entries.now c.in-Ok-Shown.answer
-    (subst (λ v. IsVerified m pairs c.args.entries.now v) c.in-Ok-Shown.field-0-is (c.in-Ok-Shown.ensures m pairs model.well_formed c.requires))
+    shown_reportable m pairs c.args.entries c.in-Ok-Shown.answer
+    (subst (λ v. IsVerified m pairs c.args.entries v) c.in-Ok-Shown.field-0-is (c.in-Ok-Shown.ensures m pairs model.well_formed c.requires))
 
 pub returns-in-Ok-Shown : goal.returns-in-Ok-Shown
 returns-in-Ok-Shown g c =
@@ -20,6 +20,6 @@ returns-in-Ok-Shown g c =
     let pairs = c.args.input.now.earlier.pairs in
     let told = c.print_answer.new.out in
     let sink : Printing = printing (g.O.Sink.written c.args.out.now) (g.O.Sink.written told) (g.O.Sink.faults c.args.out.now) (g.O.Sink.faults told) in
-    checked m pairs c.args.entries.now sink c.in-Ok-Shown.answer c.print_answer.result
-    (subst (λ v. IsVerified m pairs c.args.entries.now v) c.in-Ok-Shown.field-0-is (c.in-Ok-Shown.ensures m pairs model.well_formed c.requires))
+    checked m pairs c.args.entries sink c.in-Ok-Shown.answer c.print_answer.result
+    (subst (λ v. IsVerified m pairs c.args.entries v) c.in-Ok-Shown.field-0-is (c.in-Ok-Shown.ensures m pairs model.well_formed c.requires))
     c.print_answer.ensures

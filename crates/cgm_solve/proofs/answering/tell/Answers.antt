@@ -4,12 +4,11 @@ use Rattle.cgm_solve.specs.Runs.{IsToldOf}
 use Rattle.cgm_solve.proofs.ClosedLogs.{told_closed}
 use Rattle.cgm_solve.proofs.answering.tell.Goals as goal
 
--- src/answering.rt:35:9
-pub returns-then-closed : goal.returns-then-closed
-returns-then-closed c =
+pub returns-then-is_closed : goal.returns-then-is_closed
+returns-then-is_closed c =
     subst (λ (a : Answer). IsToldOf c.args.encoded.now c.args.ended c.args.work.now c.args.work.now a) (sym c.closed_answer.ensures) (
-    told_closed c.args.encoded.now c.args.ended c.args.work.now c.in_ok-best.best c.in_ok-entries.entries
-    (c.in_ok-entries.ensures ∙ c.entries.ensures.entries)
-    (sym c.closed.ensures.closed ∙ c.if-closed.true)
+    told_closed c.args.encoded.now c.args.ended c.args.work.now c.in_ok-best.best c.into_entries.result
+    c.into_entries.ensures
+    (sym c.closed.ensures.closed ∙ c.if-is_closed.true)
     c.in_ok-best.ensures
     )

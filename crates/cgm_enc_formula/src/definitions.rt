@@ -10,7 +10,7 @@ ghost use Rattle.cgm_enc_graph.specs.Adding.{CanTake, with_written};
 
 use crate::literals::{Literal, atom, opposite, positive};
 use crate::terms::negative;
-use cgm_atom::{Atom, OutOfMemory, ProblemBuilder, Row, Seq, Var};
+use cgm_atom::{Atom, BuildStop, OutOfMemory, ProblemBuilder, Row, Seq, Var};
 use cgm_enc_graph::{add_clause, literal, negated};
 use std::alloc::Global;
 
@@ -139,7 +139,10 @@ fn new_name(b: &mut ProblemBuilder) -> Result<u32, OutOfMemory>
 {
     match b.var(0, 1) {
         Ok(v) => Ok(v.0),
-        Err(_) => Err(OutOfMemory),
+        Err(BuildStop::Memory) => Err(OutOfMemory),
+        // Both bounds are within their limit.
+        Err(BuildStop::Bound) => unreachable!(),
+        Err(BuildStop::Row) => unreachable!(),
     }
 }
 

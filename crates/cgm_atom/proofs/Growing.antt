@@ -29,9 +29,6 @@ atom_of_more n m a h atom_of = (omega (arith, atom_of.0), atom_of.1)
 clause_of_more : (n m : ℕ) (c : Clause) → n ≤ m → IsClauseOf n c → IsClauseOf m c
 clause_of_more n m c h clause_of = λ i a inside. atom_of_more n m (get_or c.atoms i a) h (clause_of i a inside)
 
-abbrev pushed : Bounds → ℤ → ℤ → Bounds
-pushed b lo hi = record { lower = b.lower ++ lo ∷ []; upper = b.upper ++ hi ∷ [] }
-
 terms_of_more : (n m : ℕ) (terms : List (ℤ × Var)) → n ≤ m → AreTermsOf n terms → AreTermsOf m terms
 terms_of_more n m [] h terms_of = tt
 terms_of_more n m (t ∷ terms) h terms_of =
@@ -41,24 +38,28 @@ guard_of_more : (g : Option Atom) (n m : ℕ) → n ≤ m → IfSome g (λ a. a.
 guard_of_more None n m h guard = guard
 guard_of_more (Some a) n m h guard = omega (arith, guard)
 
-greatest_size-pushed : (b : Bounds) (lo hi : ℤ) (x : ℕ) → length b.upper ≡ length b.lower → x < length b.lower → greatest_size (pushed b lo hi) x ≡ greatest_size b x
-greatest_size-pushed b lo hi x e h =
-    let low : lower_of (pushed b lo hi) x ≡ lower_of b x = get_or_append_left b.lower (lo ∷ []) (pos 0) x h in
-    let high : upper_of (pushed b lo hi) x ≡ upper_of b x = get_or_append_left b.upper (hi ∷ []) (pos 0) x (omega arith) in
+-- the bounds with more at their ends
+abbrev pub longer : Bounds → List ℤ → List ℤ → Bounds
+longer b ls us = record { lower = b.lower ++ ls; upper = b.upper ++ us }
+
+greatest_size-longer : (b : Bounds) (ls us : List ℤ) (x : ℕ) → length b.upper ≡ length b.lower → x < length b.lower → greatest_size (longer b ls us) x ≡ greatest_size b x
+greatest_size-longer b ls us x e h =
+    let low : lower_of (longer b ls us) x ≡ lower_of b x = get_or_append_left b.lower ls (pos 0) x h in
+    let high : upper_of (longer b ls us) x ≡ upper_of b x = get_or_append_left b.upper us (pos 0) x (omega arith) in
     rw (low, high) refl
 
-measure-pushed : (b : Bounds) (lo hi : ℤ) (terms : List (ℤ × Var)) → length b.upper ≡ length b.lower → AreTermsOf (length b.lower) terms → measure (pushed b lo hi) terms ≡ measure b terms
-measure-pushed b lo hi [] e h = refl
-measure-pushed b lo hi (t ∷ terms) e h =
-    rw (greatest_size-pushed b lo hi t.1.0 e h.0, measure-pushed b lo hi terms e h.3) refl
+pub measure-longer : (b : Bounds) (ls us : List ℤ) (terms : List (ℤ × Var)) → length b.upper ≡ length b.lower → AreTermsOf (length b.lower) terms → measure (longer b ls us) terms ≡ measure b terms
+measure-longer b ls us [] e h = refl
+measure-longer b ls us (t ∷ terms) e h =
+    rw (greatest_size-longer b ls us t.1.0 e h.0, measure-longer b ls us terms e h.3) refl
 
-row_of_pushed : (b : Bounds) (lo hi : ℤ) (r : Row) → length b.upper ≡ length b.lower → IsRowOf b r → IsRowOf (pushed b lo hi) r
+row_of_pushed : (b : Bounds) (lo hi : ℤ) (r : Row) → length b.upper ≡ length b.lower → IsRowOf b r → IsRowOf (longer b (lo ∷ []) (hi ∷ [])) r
 row_of_pushed b lo hi r e h =
-    let more : length (pushed b lo hi).lower ≡ length b.lower + 1 = length-append b.lower (lo ∷ []) in
+    let more : length (longer b (lo ∷ []) (hi ∷ [])).lower ≡ length b.lower + 1 = length-append b.lower (lo ∷ []) in
     record {
-      guard = guard_of_more r.guard (length b.lower) (length (pushed b lo hi).lower) (omega arith) h.guard;
+      guard = guard_of_more r.guard (length b.lower) (length (longer b (lo ∷ []) (hi ∷ [])).lower) (omega arith) h.guard;
       terms = terms_of_more _ _ r.terms (omega arith) h.terms;
-      measure_limit = rw (measure-pushed b lo hi r.terms e h.terms) h.measure_limit;
+      measure_limit = rw (measure-longer b (lo ∷ []) (hi ∷ []) r.terms e h.terms) h.measure_limit;
       least_limit = h.least_limit;
     }
 

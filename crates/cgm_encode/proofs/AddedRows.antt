@@ -20,11 +20,12 @@ with_none p = ap (λ (rows : List Row). record p { rows = rows }) (append-nil p.
 -- the pairs from place i on are left
 pub record AreRowsLeft (old : Instance) (variables : List ℕ) (expressions : List Expression) (i : ℕ) (new : Instance) : Type 0 where
   pub total : with_rows new (rows_of (drop i variables) (drop i expressions)) ≡ with_rows old (rows_of variables expressions)
+  pub bounds : new.bounds ≡ old.bounds
   pub count : var_count new ≡ var_count old
   pub rows : length new.rows ≡ length old.rows + 2 * i
 
 pub rows_first : (p : Instance) (variables : List ℕ) (expressions : List Expression) → AreRowsLeft p variables expressions 0 p
-rows_first p variables expressions = record { total = refl; count = refl; rows = omega arith }
+rows_first p variables expressions = record { total = refl; bounds = refl; count = refl; rows = omega arith }
 
 here : (variables : List ℕ) (expressions : List Expression) (i v : ℕ) (e : Expression) → i < length variables → i < length expressions → v ≡ get_or variables i v → e ≡ get_or expressions i e → rows_of (drop i variables) (drop i expressions) ≡ defining_rows (v, e) ++ rows_of (drop (i + 1) variables) (drop (i + 1) expressions)
 here variables expressions i v e in_variables in_expressions v_is e_is =
@@ -40,6 +41,7 @@ rows_more old p q variables expressions i v e in_variables in_expressions v_is e
       total = with_more p (defining_rows (v, e)) more
           ∙ ap (λ (rows : List Row). with_rows p rows) (sym (here variables expressions i v e in_variables in_expressions v_is e_is))
           ∙ far.total;
+      bounds = far.bounds;
       count = far.count;
       rows = omega arith;
     } in

@@ -15,10 +15,10 @@ use Rattle.cgm_enc_formula.specs.Definitions.{negative}
 use Rattle.cgm_enc_formula.specs.Terms.{is_zero, nonzero}
 use Rattle.cgm_encode.specs.Totals.{Share, Total, combined, combined_terms, least_activity, least_term, opposite_total, total_range}
 
-size_sum : (x y : ℤ) → unsigned_abs (x +ℤ y) ≤ unsigned_abs x + unsigned_abs y
+pub size_sum : (x y : ℤ) → unsigned_abs (x +ℤ y) ≤ unsigned_abs x + unsigned_abs y
 size_sum x y = grind (arith, ints)
 
-opposite_size : (k : ℤ) → unsigned_abs (neg_ℤ k) ≡ unsigned_abs k
+pub opposite_size : (k : ℤ) → unsigned_abs (neg_ℤ k) ≡ unsigned_abs k
 opposite_size k = omega (arith, ints)
 
 module _ (b : Bounds) where

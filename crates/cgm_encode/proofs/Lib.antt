@@ -6,6 +6,7 @@ pub mod Boxes
 pub mod CombinedSizes
 pub mod CombinedTerms
 pub mod Decoding
+pub mod DefiningSizes
 pub mod DefiningTerms
 pub mod Extending
 pub mod GroupPlaces

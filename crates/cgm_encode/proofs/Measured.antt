@@ -100,6 +100,7 @@ small_measured p n t few small ordered =
       coefficients = All-weaker (λ (u : ℤ × Var). unsigned_abs u.0 ≤ 1000000000000) (λ u. unsigned_abs u.0 < 2 ^ 63) (λ u l. within (unsigned_abs u.0) l) (combined_terms n t.shares) small.coefficients;
       measure_limit = omega arith;
       constant = omega arith;
+      size = omega arith;
       ordered = ordered;
     }
 

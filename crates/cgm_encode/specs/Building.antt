@@ -8,7 +8,7 @@ use Rattle.cgm_atom.specs.declared.constraints.Row.{Row}
 use Rattle.cgm_atom.specs.declared.constraints.Var.{Var}
 use Rattle.cgm_atom.specs.Bounds.{Bounds}
 use Rattle.cgm_atom.specs.Instance.{Instance, var_count}
-use Rattle.cgm_atom.specs.Limits.{AreTermsOf, max_measure, measure}
+use Rattle.cgm_atom.specs.Limits.{AreTermsOf, IsBound, max_bound, max_measure, measure}
 use Rattle.cgm_atom.specs.Narrowing.{greatest_activity}
 use Rattle.cgm_enc_formula.specs.Definitions.{negative}
 use Rattle.cgm_encode.specs.declared.expressions.Expression.{Expression}
@@ -49,6 +49,14 @@ expression_of n t = record { terms = combined_terms n t.shares; constant = t.con
 abbrev pub expression_range : Bounds → Expression → Range
 expression_range b e = (least_activity b e.terms +ℤ e.constant, greatest_activity b e.terms +ℤ e.constant)
 
+-- both ends of the range are within the limit of a bound
+abbrev pub AreBounds : Range → Type 0
+AreBounds r = IsBound r.0 × IsBound r.1
+
+-- the measure of the expression's terms and the size of its constant are together within the limit of a bound
+abbrev pub HasBoundSize : Bounds → Expression → Type 0
+HasBoundSize b e = measure b e.terms + unsigned_abs e.constant ≤ max_bound
+
 -- for the variable v and the expression L + d: `v - L >= d`, then `-v + L >= -d`
 abbrev pub defining_rows : ℕ × Expression → List Row
 defining_rows e =
@@ -62,6 +70,7 @@ pub record IsMeasured (p : Instance) (e : Expression) : Type 0 where
   pub coefficients : All (λ t. unsigned_abs t.0 < 2 ^ 63) e.terms
   pub measure_limit : measure p.bounds e.terms ≤ max_measure
   pub constant : unsigned_abs e.constant ≤ max_measure
+  pub size : HasBoundSize p.bounds e
   pub ordered : (expression_range p.bounds e).0 ≤ℤ (expression_range p.bounds e).1
 
 -- the expression can define a variable behind the first n: its terms are those of the first n variables, and its sign can be changed

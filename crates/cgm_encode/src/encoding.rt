@@ -169,6 +169,7 @@ fn define(
     ensures added { OnOk result (b.new ≡ with_defined b.old expressions.now) }
     ensures variables { IfOk result (λ variables. variables.items ≡ range_with_len (count_of b.old) (length expressions.now)) }
 {
+    b.recall_well_formed();
     let ranges = ranges_of(alloc, b, expressions)?;
     let variables = add_variables(alloc, b, ranges.as_slice())?;
     add_defining_rows(alloc, b, variables.as_slice(), expressions)?;

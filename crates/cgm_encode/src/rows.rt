@@ -1,14 +1,14 @@
 //! The rows by which variables are the values of expressions.
 ghost use Rattle.std.specs.Prelude.{◌≡◌, ◌≢◌, ◌+◌, ◌-◌, ◌*◌, ◌<◌, ◌≤◌, ◌^◌, ◌∷◌, length, flat_map, pos, negsuc, neg_ℤ, unsigned_abs, All, IfOk, OnOk};
 ghost use Rattle.std.specs.List.{zip};
-ghost use Rattle.cgm_atom.specs.Building.{with_row};
+ghost use Rattle.cgm_atom.specs.Building.{IsRowSize, with_row};
 ghost use Rattle.cgm_atom.specs.Instance.{var_count};
 ghost use Rattle.cgm_atom.specs.Limits.{AreTermsOf};
-ghost use Rattle.cgm_encode.specs.Building.{IsDefining, defining_rows, with_rows};
+ghost use Rattle.cgm_encode.specs.Building.{HasBoundSize, IsDefining, defining_rows, with_rows};
 ghost use Rattle.cgm_encode.specs.Totals.{row_of};
 
 use crate::expressions::{Expression, negative};
-use cgm_atom::{OutOfMemory, ProblemBuilder, Row, Seq, Var};
+use cgm_atom::{BuildStop, OutOfMemory, ProblemBuilder, Row, Seq, Var};
 use std::alloc::Global;
 
 /// Adds the rows by which each variable is the value of the expression at its place.
@@ -21,6 +21,7 @@ pub(crate) fn add_defining_rows(
     requires count { length variables.now ≡ length expressions.now }
     requires known { All (λ v. v < var_count b.old) variables.now }
     requires expressions { All (λ v. All (IsDefining v) expressions.now) variables.now }
+    requires sizes { All (HasBoundSize b.old.bounds) expressions.now }
     requires room { length b.old.rows + 2 * length expressions.now ≤ 2 ^ 32 - 1 }
     ensures { OnOk result (b.new ≡ with_rows b.old (flat_map defining_rows (zip variables.now expressions.now))) }
 {
@@ -38,10 +39,12 @@ fn add_two_rows(
     e: &Expression,
 ) -> Result<(), OutOfMemory>
     requires expression { IsDefining v e.now }
+    requires size { HasBoundSize b.old.bounds e.now }
     requires known { v < var_count b.old }
     requires room { length b.old.rows + 2 ≤ 2 ^ 32 - 1 }
     ensures { OnOk result (b.new ≡ with_rows b.old (defining_rows (v, e.now))) }
 {
+    b.recall_well_formed();
     let negative_terms = negative(alloc, e.terms.as_slice())?;
     let terms = with_first(alloc, 1, v, negative_terms.as_slice())?;
     add_row(b, terms, e.constant)?;
@@ -64,10 +67,10 @@ fn with_first(
     Ok(terms)
 }
 
-/// Adds a row without a guard. Where the row's measure passes its limit, which that of no sum and
-/// no objective of a model does, the answer is as for want of memory.
+/// Adds a row without a guard.
 fn add_row(b: &mut ProblemBuilder, terms: Vec<(i64, Var)>, least: i64) -> Result<(), OutOfMemory>
     requires terms { AreTermsOf (var_count b.old) terms.items }
+    requires size { IsRowSize b.old.bounds (row_of terms.items least) }
     requires room { length b.old.rows < 2 ^ 32 - 1 }
     ensures { OnOk result (b.new ≡ with_row b.old (row_of terms.items least)) }
 {
@@ -78,6 +81,9 @@ fn add_row(b: &mut ProblemBuilder, terms: Vec<(i64, Var)>, least: i64) -> Result
     };
     match b.row(row) {
         Ok(_) => Ok(()),
-        Err(_) => Err(OutOfMemory),
+        Err(BuildStop::Memory) => Err(OutOfMemory),
+        // The row's measure and its least value are within their limits.
+        Err(BuildStop::Row) => unreachable!(),
+        Err(BuildStop::Bound) => unreachable!(),
     }
 }

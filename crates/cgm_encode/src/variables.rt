@@ -3,10 +3,10 @@ ghost use Rattle.std.specs.Prelude.{◌≡◌, ◌+◌, ◌-◌, ◌^◌, ◌<�
 ghost use Rattle.std.specs.List.{range_with_len};
 ghost use Rattle.cgm_atom.specs.Building.{with_var};
 ghost use Rattle.cgm_atom.specs.Instance.{var_count};
-ghost use Rattle.cgm_encode.specs.Building.{with_ranges};
+ghost use Rattle.cgm_encode.specs.Building.{AreBounds, with_ranges};
 ghost use Rattle.cgm_encode.specs.Problem.{bits, own_range};
 
-use cgm_atom::{OutOfMemory, ProblemBuilder};
+use cgm_atom::{BuildStop, OutOfMemory, ProblemBuilder};
 use cgm_model::Variable;
 use std::alloc::Global;
 
@@ -30,6 +30,7 @@ pub(crate) fn add_bits(
 /// Adds the variables of a model, each with its bounds.
 pub(crate) fn add_own(b: &mut ProblemBuilder, vars: &[Variable]) -> Result<(), OutOfMemory>
     requires ordered { All (λ v. v.lo ≤ℤ v.hi) vars.now }
+    requires bounds { All (λ v. AreBounds (own_range v)) vars.now }
     requires room { var_count b.old + length vars.now ≤ 2 ^ 32 - 1 }
     ensures { OnOk result (b.new ≡ with_ranges b.old (map own_range vars.now)) }
 {
@@ -41,6 +42,7 @@ pub(crate) fn add_own(b: &mut ProblemBuilder, vars: &[Variable]) -> Result<(), O
 
 fn add_one_own(b: &mut ProblemBuilder, v: &Variable) -> Result<(), OutOfMemory>
     requires ordered { v.now.lo ≤ℤ v.now.hi }
+    requires bounds { AreBounds (own_range v.now) }
     requires room { var_count b.old < 2 ^ 32 - 1 }
     ensures { OnOk result (b.new ≡ with_var b.old v.now.lo v.now.hi) }
 {
@@ -55,6 +57,7 @@ pub(crate) fn add_variables(
     ranges: &[(i64, i64)],
 ) -> Result<Vec<u32>, OutOfMemory>
     requires ordered { All (λ r. r.0 ≤ℤ r.1) ranges.now }
+    requires bounds { All AreBounds ranges.now }
     requires room { var_count b.old + length ranges.now ≤ 2 ^ 32 - 1 }
     ensures added { OnOk result (b.new ≡ with_ranges b.old ranges.now) }
     ensures variables { IfOk result (λ variables. variables.items ≡ range_with_len (var_count b.old) (length ranges.now)) }
@@ -66,16 +69,19 @@ pub(crate) fn add_variables(
     Ok(variables)
 }
 
-/// Adds a variable with its least and its greatest value, and answers it. Where one passes the limit
-/// of a bound, which no range of a model's problem does, the answer is as for want of memory.
+/// Adds a variable with its least and its greatest value, and answers it.
 fn add_variable(b: &mut ProblemBuilder, range: &(i64, i64)) -> Result<u32, OutOfMemory>
     requires ordered { range.now.0 ≤ℤ range.now.1 }
+    requires bounds { AreBounds range.now }
     requires room { var_count b.old < 2 ^ 32 - 1 }
     ensures added { OnOk result (b.new ≡ with_var b.old range.now.0 range.now.1) }
     ensures variable { IfOk result (λ x. x ≡ var_count b.old) }
 {
     match b.var(range.0, range.1) {
         Ok(v) => Ok(v.0),
-        Err(_) => Err(OutOfMemory),
+        Err(BuildStop::Memory) => Err(OutOfMemory),
+        // Both bounds are within their limit.
+        Err(BuildStop::Bound) => unreachable!(),
+        Err(BuildStop::Row) => unreachable!(),
     }
 }

@@ -6,9 +6,10 @@ use Rattle.cgm_atom.specs.Instance.{Instance, var_count}
 use Rattle.cgm_model.specs.declared.lists.Variable.{Variable}
 use Rattle.cgm_model.specs.Model.{lists_of}
 use Rattle.cgm_enc_graph.specs.Literals.{truth_variables}
-use Rattle.cgm_encode.specs.Building.{with_ranges}
+use Rattle.cgm_encode.specs.Building.{AreBounds, with_ranges}
 use Rattle.cgm_encode.specs.Problem.{bits, own_range}
 use Rattle.cgm_encode.proofs.AddedVariables.{ranges_count}
+use Rattle.cgm_encode.proofs.DefiningSizes.{own_bounds}
 use Rattle.cgm_encode.proofs.Growing.{own_grown}
 use Rattle.cgm_encode.proofs.KnownSizes.{known_sizes}
 use Rattle.cgm_encode.proofs.Measured.{few_parts}
@@ -47,3 +48,7 @@ returns c =
     ∙ ap (λ (p : Instance). with_ranges p (bits c.truth_count.result)) c.requires
     ∙ ap (λ (k : ℕ). with_ranges empty_instance (bits k)) c.truth_count.ensures)
     ∙ own_grown m
+
+pub add_own-requires-clause-bounds : goal.add_own-requires-clause-bounds
+add_own-requires-clause-bounds c =
+    subst (λ (vs : List Variable). All (λ v. AreBounds (own_range v)) vs) (sym c.as_slice.ensures) (own_bounds (lists_of c.args.m.now) c.args.m.now.well_formed)

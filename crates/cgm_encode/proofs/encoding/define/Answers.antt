@@ -6,8 +6,9 @@ use Rattle.std.proofs.lemmas.List.FromFn.{length-range_with_len}
 use Rattle.cgm_atom.specs.declared.constraints.Row.{Row}
 use Rattle.cgm_atom.specs.Instance.{Instance, var_count}
 use Rattle.cgm_encode.specs.declared.expressions.Expression.{Expression}
-use Rattle.cgm_encode.specs.Building.{IsDefining, defining_rows, expression_range, with_ranges, with_rows}
+use Rattle.cgm_encode.specs.Building.{AreBounds, HasBoundSize, IsDefining, defining_rows, expression_range, with_ranges, with_rows}
 use Rattle.cgm_encode.specs.Totals.{Range}
+use Rattle.cgm_encode.proofs.DefiningSizes.{ranges_bound, sizes_longer}
 use Rattle.cgm_encode.proofs.Measured.{all_defining, ranges_ordered, rows_numbered, variables_within}
 use Rattle.cgm_encode.proofs.AddedVariables.{ranges_count}
 use Rattle.cgm_encode.proofs.encoding.define.Goals as goal
@@ -74,3 +75,14 @@ returns-clause-variables c =
     let long : length c.as_slice.result.now ≡ length es =
     ap (λ (rs : List Range). length rs) (c.as_slice.ensures.value ∙ c.in_ok-ranges.ensures.ranges) ∙ length-map es (expression_range b.bounds) in
     c.in_ok-variables.ensures.variables ∙ ap (λ (k : ℕ). range_with_len (var_count b) k) long
+
+pub add_variables-requires-clause-bounds : goal.add_variables-requires-clause-bounds
+add_variables-requires-clause-bounds c =
+    subst (λ (rs : List Range). All AreBounds rs) (sym (c.as_slice.ensures.value ∙ c.in_ok-ranges.ensures.ranges)) (ranges_bound c.args.b.now c.args.expressions.now c.requires.measured)
+
+pub add_defining_rows-requires-clause-sizes : goal.add_defining_rows-requires-clause-sizes
+add_defining_rows-requires-clause-sizes c =
+    let b = c.args.b.now in
+    let es = c.args.expressions.now in
+    subst (λ (p : Instance). All (HasBoundSize p.bounds) es) (sym c.in_ok-variables.ensures.added)
+    (sizes_longer b c.as_slice.result.now es c.recall_well_formed.ensures.proper.same_count c.requires.measured)

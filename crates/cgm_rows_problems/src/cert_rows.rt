@@ -18,9 +18,26 @@ fn is_bad(alloc: Global, text: &str, at: u64, what: CertKind) -> bool {
 }
 
 /// The text of the entries that are read from a text.
-pub(crate) fn printed_again(alloc: Global, text: &[u8]) -> Result<Vec<u8>, Fail> {
+fn printed_again(alloc: Global, text: &[u8]) -> Result<Vec<u8>, Fail> {
     let entries = read_cert(alloc, text)?;
     Ok(print_cert(alloc, entries.as_slice())?)
+}
+
+/// Whether what is read from a text is printed as the text.
+pub(crate) fn is_printed_again(alloc: Global, text: &[u8]) -> Result<bool, Fail> {
+    Ok(printed_again(alloc, text)?.as_slice() == text)
+}
+
+/// Whether the line is printed as it was, behind the header.
+fn is_line_again(alloc: Global, line: &str) -> Result<bool, Fail> {
+    let text = format!(in alloc; "cgm-cert 1\n{line}\n")?;
+    is_printed_again(alloc, text.as_bytes())
+}
+
+/// Whether the line, behind the header, is no entry's.
+fn is_no_entry(alloc: Global, line: &str) -> Result<bool, Fail> {
+    let text = format!(in alloc; "cgm-cert 1\n{line}\n")?;
+    Ok(is_bad(alloc, text.as_str(), 2, CertKind::Entry))
 }
 
 /// Texts, the number of their first faulty line, and what is wrong with it.
@@ -127,12 +144,13 @@ fn first_faults(rt: HostRuntime) -> Result<(), Fail> {
     for (text, line, kind) in FAULTS {
         assert!(rt; is_bad(rt.alloc(), text, *line, *kind), "at {text}");
     }
+    Ok(())
+}
+
+#[test]
+fn lines_of_no_entry(rt: HostRuntime) -> Result<(), Fail> {
     for line in NO_ENTRIES {
-        let text = format!(in rt.alloc(); "cgm-cert 1\n{line}\n")?;
-        assert!(rt;
-            is_bad(rt.alloc(), text.as_str(), 2, CertKind::Entry),
-            "at {line}"
-        );
+        assert!(rt; is_no_entry(rt.alloc(), line)?, "at {line}");
     }
     Ok(())
 }
@@ -168,13 +186,10 @@ const WHOLE: &[&str] = &[
 #[test]
 fn printed_as_they_were(rt: HostRuntime) -> Result<(), Fail> {
     for line in LINES {
-        let text = format!(in rt.alloc(); "cgm-cert 1\n{line}\n")?;
-        let again = printed_again(rt.alloc(), text.as_bytes())?;
-        assert!(rt; again.as_slice() == text.as_bytes(), "at {line}");
+        assert!(rt; is_line_again(rt.alloc(), line)?, "at {line}");
     }
     for text in WHOLE {
-        let again = printed_again(rt.alloc(), text.as_bytes())?;
-        assert!(rt; again.as_slice() == text.as_bytes(), "at {text}");
+        assert!(rt; is_printed_again(rt.alloc(), text.as_bytes())?, "at {text}");
     }
     Ok(())
 }
@@ -189,20 +204,24 @@ const CUTS: &[(usize, usize, u64)] = &[
     (58, 74, 4),
 ];
 
-/// Whether a front of `ONE` has the entries of its lines where it ends with one, and else ends in an
-/// unfinished line.
-fn is_cut(alloc: Global, bytes: usize, from: usize, lines: u64) -> Result<bool, Fail>
+/// Whether so many bytes of a text have the entries of their lines where they end with one, and else
+/// end in an unfinished line.
+fn is_cut(alloc: Global, text: &str, bytes: usize, from: usize, lines: u64) -> Result<bool, Fail>
     requires { lines < 100 }
 {
-    match ONE.get(0..bytes) {
+    match text.get(0..bytes) {
         None => Ok(false),
-        Some(front) => {
-            if bytes > from {
-                return Ok(is_bad(alloc, front, lines + 1, CertKind::Unfinished));
-            }
-            has_entries(alloc, front, lines)
-        }
+        Some(front) => is_cut_at(alloc, front, bytes > from, lines),
     }
+}
+
+fn is_cut_at(alloc: Global, front: &str, is_open: bool, lines: u64) -> Result<bool, Fail>
+    requires { lines < 100 }
+{
+    if is_open {
+        return Ok(is_bad(alloc, front, lines + 1, CertKind::Unfinished));
+    }
+    has_entries(alloc, front, lines)
 }
 
 /// Whether a text has an entry for each of so many lines but the header, or nothing where it has none.
@@ -218,7 +237,10 @@ fn fronts(rt: HostRuntime) -> Result<(), Fail> {
     for (from, to, lines) in CUTS {
         assert!(rt; *lines < 100);
         for bytes in *from..=*to {
-            assert!(rt; is_cut(rt.alloc(), bytes, *from, *lines)?, "at {bytes}");
+            assert!(rt;
+                is_cut(rt.alloc(), ONE, bytes, *from, *lines)?,
+                "at {bytes}"
+            );
         }
     }
     Ok(())

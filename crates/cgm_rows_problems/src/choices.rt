@@ -1,16 +1,15 @@
 // What orders decide: `order` has a seed, a worker and the decision on the trail's box, `all` a seed,
 // a worker and how many decisions there are until all is fixed, `raise` a variable and how often it
 // is raised, and `heaviest` the decision of the order by conflicts. `none` stands for no decision.
-ghost use Rattle.std.specs.Prelude.{◌≡◌, ◌<◌, length};
+ghost use Rattle.std.specs.Prelude.{◌≡◌, ◌<◌, length, IfOk};
 ghost use Rattle.cgm_atom.specs.Instance.{var_count};
 
 use crate::steps::make;
-use crate::words::{atom, parted};
+use crate::words::{atom, count, is_count, parted, place};
 use cgm_atom::{Atom, Hint, Problem, Var};
 use cgm_split::{Activity, Order, next};
 use cgm_trail::Trail;
 use std::alloc::Global;
-use std::process::Abort;
 use std::test::Fail;
 
 /// More decisions are not followed.
@@ -18,7 +17,6 @@ const MOST: u32 = 100;
 
 /// Whether what a statement says of decisions is so. Variables are raised on the way.
 pub(crate) fn is_chosen(
-    rt: &impl Abort,
     alloc: Global,
     p: &Problem,
     t: &Trail,
@@ -32,18 +30,28 @@ pub(crate) fn is_chosen(
     let (head, rest) = parted(statement);
     match head {
         "order" => is_ordered(alloc, p, t, rest),
-        "all" => are_all(rt, alloc, p, rest),
+        "all" => are_all(alloc, p, rest),
         "raise" => raise(p, activity, rest),
         "heaviest" => is_heaviest(p, t, activity, rest),
         _ => Ok(true),
     }
 }
 
-fn choice(word: &str) -> Result<Option<Atom>, Fail> {
+/// Whether the word is this choice.
+fn is_choice(word: &str, found: Option<Atom>) -> Result<bool, Fail> {
     match word {
-        "none" => Ok(None),
-        a => Ok(Some(atom(a)?)),
+        "none" => Ok(found.is_none()),
+        a => Ok(found == Some(atom(a)?)),
     }
+}
+
+/// The order of a worker by a seed.
+fn order_of(alloc: Global, p: &Problem, seed: &str, worker: &str) -> Result<Order, Fail>
+    ensures { IfOk result (λ o. length o.variables ≡ var_count p.now) }
+{
+    let seed = count(seed)?;
+    let worker = place(worker)?;
+    Ok(Order::new(alloc, p, seed, worker)?)
 }
 
 fn is_ordered(alloc: Global, p: &Problem, t: &Trail, words: &str) -> Result<bool, Fail>
@@ -51,8 +59,8 @@ fn is_ordered(alloc: Global, p: &Problem, t: &Trail, words: &str) -> Result<bool
 {
     let (seed, rest) = parted(words);
     let (worker, wanted) = parted(rest);
-    let mut order = Order::new(alloc, p, seed.parse()?, worker.parse()?)?;
-    Ok(decision(p, t, &mut order) == choice(wanted)?)
+    let mut order = order_of(alloc, p, seed, worker)?;
+    is_choice(wanted, decision(p, t, &mut order))
 }
 
 /// What the order decides on the box of a trail.
@@ -65,26 +73,36 @@ fn decision(p: &Problem, t: &Trail, order: &mut Order) -> Option<Atom>
     next(t.state(), order)
 }
 
-fn are_all(rt: &impl Abort, alloc: Global, p: &Problem, words: &str) -> Result<bool, Fail> {
+fn are_all(alloc: Global, p: &Problem, words: &str) -> Result<bool, Fail> {
     let (seed, rest) = parted(words);
-    let (worker, count) = parted(rest);
-    let mut order = Order::new(alloc, p, seed.parse()?, worker.parse()?)?;
-    let mut t = Trail::new(alloc, p)?;
-    Ok(follow(rt, p, &mut t, &mut order)? == count.parse::<u32>()?)
+    let (worker, wanted) = parted(rest);
+    let mut order = order_of(alloc, p, seed, worker)?;
+    are_followed(alloc, p, &mut order, wanted)
 }
 
-/// How many decisions there are until all is fixed. Each is open when it is made.
-fn follow(rt: &impl Abort, p: &Problem, t: &mut Trail, order: &mut Order) -> Result<u32, Fail>
+fn are_followed(alloc: Global, p: &Problem, order: &mut Order, wanted: &str) -> Result<bool, Fail>
+    requires { length order.old.variables ≡ var_count p.now }
+{
+    let mut t = Trail::new(alloc, p)?;
+    follow(p, &mut t, order, wanted)
+}
+
+/// Whether there are so many decisions until all is fixed. Each is open when it is made.
+fn follow(p: &Problem, t: &mut Trail, order: &mut Order, wanted: &str) -> Result<bool, Fail>
     requires problem { t.old.problem ≡ p.now }
     requires order { length order.old.variables ≡ var_count p.now }
 {
     for made in 0..MOST {
         match decision(p, t, order) {
-            None => return Ok(made),
-            Some(a) => make(rt, p, t, Hint::Row(0), a)?,
+            None => return Ok(is_count(wanted, u64::from(made))),
+            Some(a) => {
+                if !make(p, t, Hint::Row(0), a)? {
+                    return Ok(false);
+                }
+            }
         }
     }
-    Ok(MOST)
+    Ok(false)
 }
 
 fn raise(p: &Problem, activity: &mut Activity, words: &str) -> Result<bool, Fail>
@@ -92,8 +110,8 @@ fn raise(p: &Problem, activity: &mut Activity, words: &str) -> Result<bool, Fail
     ensures { length activity.new.weights ≡ var_count p.now }
 {
     let (x, times) = parted(words);
-    let x: u32 = x.parse()?;
-    let times: u32 = times.parse()?;
+    let x = place(x)?;
+    let times = place(times)?;
     if x >= p.vars() {
         return Ok(false);
     }
@@ -118,5 +136,5 @@ fn is_heaviest(p: &Problem, t: &Trail, activity: &Activity, wanted: &str) -> Res
     requires order { length activity.now.weights ≡ var_count p.now }
 {
     t.recall_trail();
-    Ok(activity.next(t.state()) == choice(wanted)?)
+    is_choice(wanted, activity.next(t.state()))
 }

@@ -1,6 +1,6 @@
 // What the analysis of conflicts teaches, what trades with a log answer, and where lemmas land.
-use crate::lessons::is_taught;
-use crate::trades::are_answered;
+use crate::drivers::{Driver, hold};
+use crate::trades::failing;
 use cgm_atom::Hint;
 use std::test::Fail;
 
@@ -22,10 +22,7 @@ const LESSONS: &[&str] = &[
 
 #[test]
 fn lessons(rt: HostRuntime) -> Result<(), Fail> {
-    for case in LESSONS {
-        assert!(rt; is_taught(&rt, rt.alloc(), case)?, "at {case}");
-    }
-    Ok(())
+    hold(&rt, rt.alloc(), Driver::Lessons, "", LESSONS)
 }
 
 const ONE: &str = "vars 0..1 0..1; row 1*1 -1*0 >= 0; row -1*1 1*0 >= 0; objectives 1; \
@@ -34,7 +31,9 @@ const ONE: &str = "vars 0..1 0..1; row 1*1 -1*0 >= 0; row -1*1 1*0 >= 0; objecti
 
 #[test]
 fn trade_on_one(rt: HostRuntime) -> Result<(), Fail> {
-    are_answered(&rt, rt.alloc(), ONE)
+    let failing = failing(rt.alloc(), ONE)?;
+    assert!(rt; failing.is_none(), "at {failing:?}");
+    Ok(())
 }
 
 #[test]

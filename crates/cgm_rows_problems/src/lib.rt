@@ -9,17 +9,23 @@ mod chain_rows;
 #[cfg(test)]
 mod choices;
 #[cfg(test)]
+mod drivers;
+#[cfg(test)]
 mod given;
 #[cfg(test)]
 mod lesson_rows;
 #[cfg(test)]
 mod lessons;
 #[cfg(test)]
+mod narrowing;
+#[cfg(test)]
 mod narrowing_rows;
 #[cfg(test)]
 mod problems;
 #[cfg(test)]
 mod resting;
+#[cfg(test)]
+mod run_rows;
 #[cfg(test)]
 mod runs;
 #[cfg(test)]
@@ -34,6 +40,8 @@ mod trail_rows;
 mod trails;
 #[cfg(test)]
 mod value_rows;
+#[cfg(test)]
+mod values;
 #[cfg(test)]
 mod verdict_rows;
 #[cfg(test)]

@@ -1,45 +1,66 @@
 // Problems as text, and how they are made. The statement `vars` has the least and the greatest value
 // of each variable, `clause` the atoms of a clause, `row` the terms, the least sum and the guard of a
 // row, and `objectives` the objectives.
-ghost use Rattle.std.specs.Prelude.{◌≡◌, ◌≢◌, ◌<◌, pos, length, IsTrue, IfOk, IfSome, OnOk};
+ghost use Rattle.std.specs.Prelude.{◌≡◌, ◌≢◌, ◌<◌, ◌≤ℤ◌, pos, length, IsTrue, IfOk, IfSome, OnOk};
 ghost use Rattle.std.specs.List.{All};
 ghost use Rattle.cgm_atom.specs.Limits.{AreTermsOf, IsAbsent, IsAtomOf};
 ghost use Rattle.cgm_rows_problems.specs.Sizes.{HasSizes};
 
-use crate::words::{after, atom, atoms, parted, range};
+use crate::words::{after, atom, atoms, number, parted, place, range};
 use cgm_atom::{Atom, Clause, MAX_ATOM_NUMBER, Problem, ProblemBuilder, Row, Seq, Var};
 use std::alloc::Global;
-use std::process::Abort;
 use std::test::Fail;
 
 /// The problem of a text. Statements of other words are passed over.
-pub(crate) fn problem_of(rt: &impl Abort, alloc: Global, text: &str) -> Result<Problem, Fail> {
+pub(crate) fn problem_of(alloc: Global, text: &str) -> Result<Problem, Fail> {
     let mut builder = ProblemBuilder::new(alloc);
-    let count = add_variables(rt, &mut builder, after(text, "vars"))?;
-    add_clauses(rt, alloc, &mut builder, count, text)?;
-    add_rows(rt, alloc, &mut builder, count, text)?;
-    add_objectives(rt, &mut builder, count, after(text, "objectives"))?;
+    build(alloc, &mut builder, text)?;
     Ok(builder.finish())
 }
 
+/// Gives the memory of a problem back.
+pub(crate) fn discard(p: Problem) {
+    let _gone = p;
+}
+
+fn build(alloc: Global, builder: &mut ProblemBuilder, text: &str) -> Result<(), Fail>
+    requires { HasSizes builder.old 0 0 0 0 }
+{
+    let count = add_variables(builder, after(text, "vars"))?;
+    add_clauses(alloc, builder, count, text)?;
+    add_rows(alloc, builder, count, text)?;
+    add_objectives(builder, count, after(text, "objectives"))
+}
+
 /// Adds all variables, and answers their number.
-fn add_variables(rt: &impl Abort, builder: &mut ProblemBuilder, ranges: &str) -> Result<u32, Fail>
+fn add_variables(builder: &mut ProblemBuilder, ranges: &str) -> Result<u32, Fail>
     requires { HasSizes builder.old 0 0 0 0 }
     ensures { IfOk result (λ count. HasSizes builder.new count 0 0 0) }
 {
     let mut count: u32 = 0;
     for word in ranges.split_whitespace() {
-        let (lo, hi) = range(word)?;
-        assert!(rt; count < 1_000);
-        assert!(rt; lo <= hi);
+        let (lo, hi) = bounds(word)?;
+        if count >= 1_000 {
+            return Err(Fail::new("too many variables"));
+        }
         builder.var(lo, hi)?;
         count += 1;
     }
     Ok(count)
 }
 
+/// The least and the greatest value of a variable.
+pub(crate) fn bounds(word: &str) -> Result<(i64, i64), Fail>
+    ensures { IfOk result (λ bounds. bounds.0 ≤ℤ bounds.1) }
+{
+    let (lo, hi) = range(word)?;
+    if lo > hi {
+        return Err(Fail::new("no values"));
+    }
+    Ok((lo, hi))
+}
+
 fn add_clauses(
-    rt: &impl Abort,
     alloc: Global,
     builder: &mut ProblemBuilder,
     count: u32,
@@ -52,8 +73,10 @@ fn add_clauses(
     for statement in text.split(';') {
         let (head, words) = parted(statement);
         if head == "clause" {
-            assert!(rt; made < 1_000);
-            builder.clause(clause_of(rt, alloc, count, words)?)?;
+            if made >= 1_000 {
+                return Err(Fail::new("too many clauses"));
+            }
+            builder.clause(clause_of(alloc, count, words)?)?;
             made += 1;
         }
     }
@@ -61,16 +84,13 @@ fn add_clauses(
 }
 
 /// The clause of these atoms over so many variables.
-pub(crate) fn clause_of(
-    rt: &impl Abort,
-    alloc: Global,
-    count: u32,
-    words: &str,
-) -> Result<Clause, Fail>
+pub(crate) fn clause_of(alloc: Global, count: u32, words: &str) -> Result<Clause, Fail>
     ensures { IfOk result (λ c. All (IsAtomOf count) c.atoms) }
 {
     let atoms = atoms(alloc, words)?;
-    assert!(rt; are_atoms(count, atoms.as_slice()), "at {words}");
+    if !are_atoms(count, atoms.as_slice()) {
+        return Err(Fail::new("no clause of the problem"));
+    }
     Ok(Clause {
         atoms: Seq::of(atoms),
     })
@@ -97,13 +117,7 @@ fn is_atom(count: u32, a: Atom) -> bool
     a.k.unsigned_abs() <= MAX_ATOM_NUMBER
 }
 
-fn add_rows(
-    rt: &impl Abort,
-    alloc: Global,
-    builder: &mut ProblemBuilder,
-    count: u32,
-    text: &str,
-) -> Result<(), Fail>
+fn add_rows(alloc: Global, builder: &mut ProblemBuilder, count: u32, text: &str) -> Result<(), Fail>
     requires { HasSizes builder.old count (length builder.old.clauses) 0 0 }
     ensures { OnOk result (HasSizes builder.new count (length builder.new.clauses) (length builder.new.rows) 0) }
 {
@@ -111,8 +125,10 @@ fn add_rows(
     for statement in text.split(';') {
         let (head, words) = parted(statement);
         if head == "row" {
-            assert!(rt; made < 1_000);
-            builder.row(row_of(rt, alloc, count, words)?)?;
+            if made >= 1_000 {
+                return Err(Fail::new("too many rows"));
+            }
+            builder.row(row_of(alloc, count, words)?)?;
             made += 1;
         }
     }
@@ -120,7 +136,7 @@ fn add_rows(
 }
 
 /// The row of these words over so many variables, as in `2*0 -3*1 >= 4 if 2>=1`.
-pub(crate) fn row_of(rt: &impl Abort, alloc: Global, count: u32, words: &str) -> Result<Row, Fail>
+pub(crate) fn row_of(alloc: Global, count: u32, words: &str) -> Result<Row, Fail>
     ensures guard { IfOk result (λ r. IfSome r.guard (λ g. g.var.0 < count)) }
     ensures terms { IfOk result (λ r. AreTermsOf count r.terms) }
 {
@@ -128,9 +144,13 @@ pub(crate) fn row_of(rt: &impl Abort, alloc: Global, count: u32, words: &str) ->
         None => Err(Fail::new("no row")),
         Some((sum, rest)) => {
             let (least, guard) = guarded(rest)?;
+            if !is_guard(count, guard) {
+                return Err(Fail::new("no guard of the problem"));
+            }
             let terms = terms(alloc, sum)?;
-            assert!(rt; is_guard(count, guard), "at {words}");
-            assert!(rt; are_terms(count, terms.as_slice()), "at {words}");
+            if !are_terms(count, terms.as_slice()) {
+                return Err(Fail::new("no terms of the problem"));
+            }
             Ok(Row {
                 guard,
                 terms: Seq::of(terms),
@@ -143,8 +163,8 @@ pub(crate) fn row_of(rt: &impl Abort, alloc: Global, count: u32, words: &str) ->
 /// The least sum and the guard, if there is one.
 fn guarded(words: &str) -> Result<(i64, Option<Atom>), Fail> {
     match words.split_once(" if ") {
-        None => Ok((words.trim().parse()?, None)),
-        Some((least, guard)) => Ok((least.parse()?, Some(atom(guard)?))),
+        None => Ok((number(words.trim())?, None)),
+        Some((least, guard)) => Ok((number(least)?, Some(atom(guard)?))),
     }
 }
 
@@ -153,7 +173,7 @@ fn terms(alloc: Global, words: &str) -> Result<Vec<(i64, Var)>, Fail> {
     for word in words.split_whitespace() {
         match word.split_once('*') {
             None => return Err(Fail::new("no term")),
-            Some((coefficient, x)) => all.push((coefficient.parse()?, Var(x.parse()?)))?,
+            Some((coefficient, x)) => all.push((number(coefficient)?, Var(place(x)?)))?,
         }
     }
     Ok(all)
@@ -212,19 +232,18 @@ fn is_absent(x: Var, terms: &[(i64, Var)]) -> bool
     }
 }
 
-fn add_objectives(
-    rt: &impl Abort,
-    builder: &mut ProblemBuilder,
-    count: u32,
-    words: &str,
-) -> Result<(), Fail>
+fn add_objectives(builder: &mut ProblemBuilder, count: u32, words: &str) -> Result<(), Fail>
     requires { HasSizes builder.old count (length builder.old.clauses) (length builder.old.rows) 0 }
 {
     let mut made: u32 = 0;
     for word in words.split_whitespace() {
-        let x: u32 = word.parse()?;
-        assert!(rt; made < 8);
-        assert!(rt; x < count);
+        let x = place(word)?;
+        if made >= 8 {
+            return Err(Fail::new("too many objectives"));
+        }
+        if x >= count {
+            return Err(Fail::new("no objective of the problem"));
+        }
         builder.objective(Var(x))?;
         made += 1;
     }

@@ -3,13 +3,11 @@
 // variable in the last best. A gate records the points at which the worker calls it.
 ghost use Rattle.std.specs.Prelude.{◌≤◌, ◌^◌};
 
-use crate::problems::problem_of;
-use crate::words::{after, parted};
+use crate::words::{after, count, is_count, number, parted};
 use cgm_atom::{Entry, OutOfMemory, Problem};
 use cgm_log::{Alone, Log, Trader};
 use cgm_search::{Gate, Plan, Stopped, Worker};
 use std::alloc::Global;
-use std::process::Abort;
 use std::sync::atomic::{AtomicBool, AtomicU64, Ordering};
 use std::test::Fail;
 
@@ -79,28 +77,34 @@ fn worker(alloc: Global, p: &Problem, budget: u64) -> Result<Worker<Alone>, Fail
     }
 }
 
-/// Runs a worker twice, the second time for the same answer, and asserts how it ends.
-pub(crate) fn has_ended(rt: &impl Abort, alloc: Global, case: &str) -> Result<(), Fail> {
-    let p = problem_of(rt, alloc, case)?;
-    let budget: u64 = after(case, "budget").parse()?;
-    assert!(rt; budget <= 1_000_000);
-    let mut w = worker(alloc, &p, budget)?;
-    let record = Record::new();
-    let stopped = w.run(&record);
-    let spent = w.spent();
-    assert!(rt; is_whole(&record));
-    assert!(rt; w.run(&record) == stopped);
-    assert!(rt; is_whole(&record));
+/// Whether a worker ends as the case says.
+pub(crate) fn has_ended(alloc: Global, p: &Problem, case: &str) -> Result<bool, Fail> {
+    let budget = count(after(case, "budget"))?;
+    if budget > 1_000_000 {
+        return Err(Fail::new("too great a budget"));
+    }
+    ends_so(worker(alloc, p, budget)?, after(case, "ends"))
+}
+
+fn ends_so(mut w: Worker<Alone>, wanted: &str) -> Result<bool, Fail> {
+    let ended = ended_twice(&mut w);
     let (trader, _) = w.into_parts();
     match trader.into_log_if_alone() {
         None => Err(Fail::new("no log")),
-        Some(log) => {
-            assert!(rt;
-                is_end(&log, stopped, spent, after(case, "ends"))?,
-                "at {case}"
-            );
-            Ok(())
-        }
+        Some(log) => is_end(&log, ended, wanted),
+    }
+}
+
+/// How a worker ends and with how many moves, or none where it ends otherwise when it runs again, or
+/// calls its gate otherwise than it should.
+fn ended_twice(w: &mut Worker<Alone>) -> Option<(Stopped, u64)> {
+    let record = Record::new();
+    let stopped = w.run(&record);
+    let spent = w.spent();
+    if is_whole(&record) && w.run(&record) == stopped && is_whole(&record) {
+        Some((stopped, spent))
+    } else {
+        None
     }
 }
 
@@ -115,18 +119,21 @@ fn is_whole(record: &Record) -> bool {
     record.last.load(Ordering::SeqCst) == 3
 }
 
-fn is_end(log: &Log, stopped: Stopped, spent: u64, wanted: &str) -> Result<bool, Fail> {
+fn is_end(log: &Log, ended: Option<(Stopped, u64)>, wanted: &str) -> Result<bool, Fail> {
     let (head, rest) = parted(wanted);
-    match head {
-        "spent" => Ok(stopped == Stopped::Spent && !log.closed() && spent == rest.parse::<u64>()?),
-        "none" => Ok(stopped == Stopped::Final && log.closed() && count_bests(log) == 0),
-        "least" => Ok(
-            stopped == Stopped::Final
-                && log.closed()
-                && last_value(log) == Some(rest.parse::<i64>()?),
-        ),
-        _ => Err(Fail::new("no end")),
+    match ended {
+        None => Ok(false),
+        Some((stopped, spent)) => match head {
+            "spent" => Ok(stopped == Stopped::Spent && !log.closed() && is_count(rest, spent)),
+            "none" => Ok(is_final(log, stopped) && count_bests(log) == 0),
+            "least" => Ok(is_final(log, stopped) && last_value(log) == Some(number(rest)?)),
+            _ => Err(Fail::new("no end")),
+        },
     }
+}
+
+fn is_final(log: &Log, stopped: Stopped) -> bool {
+    stopped == Stopped::Final && log.closed()
 }
 
 fn count_bests(log: &Log) -> usize {
@@ -146,25 +153,4 @@ fn last_value(log: &Log) -> Option<i64> {
         }
     }
     last
-}
-
-const CASES: &[&str] = &[
-    // A variable that two clauses ask to be 1 and to be 0.
-    "vars 0..1; clause 0>=1; clause 0<=0; budget 1000; ends none",
-    // The first or the second of three variables is at most 1, their sum at least 5, and the last one is
-    // the objective.
-    "vars 0..2 0..2 0..2; row 1*0 1*1 1*2 >= 5; clause 0<=1 1<=1; objectives 2; budget 1000; \
-     ends least 2",
-    // A budget is spent to the last move, and no trade is left out for it.
-    "vars 0..9 0..9; row 1*0 1*1 >= 7; budget 0; ends spent 0",
-    "vars 0..9 0..9; row 1*0 1*1 >= 7; budget 1; ends spent 1",
-    "vars 0..9 0..9; row 1*0 1*1 >= 7; budget 5; ends spent 5",
-];
-
-#[test]
-fn runs(rt: HostRuntime) -> Result<(), Fail> {
-    for case in CASES {
-        has_ended(&rt, rt.alloc(), case)?;
-    }
-    Ok(())
 }

@@ -5,39 +5,56 @@ ghost use Rattle.cgm_clauses.specs.StoreState.{CanNamesLand, IsStoreOf};
 ghost use Rattle.cgm_trail.specs.Landing.{CanLand};
 
 use crate::problems::clause_of;
-use crate::words::{after, hint, parted};
+use crate::words::{after, count, hint, parted};
 use cgm_atom::{Hint, Problem};
 use cgm_clauses::ClauseStore;
 use std::alloc::Global;
-use std::process::Abort;
 use std::test::Fail;
 
 /// The store of a problem after what a text does to it.
-pub(crate) fn store_of(
-    rt: &impl Abort,
-    alloc: Global,
-    p: &Problem,
-    text: &str,
-) -> Result<ClauseStore, Fail>
+pub(crate) fn store_of(alloc: Global, p: &Problem, text: &str) -> Result<ClauseStore, Fail>
     ensures { IfOk result (λ s. IsStoreOf p.now s) }
 {
     let mut s = ClauseStore::new(alloc, p)?;
+    fill(alloc, p, &mut s, text)?;
+    Ok(s)
+}
+
+/// Does to a store what a text does.
+fn fill(alloc: Global, p: &Problem, s: &mut ClauseStore, text: &str) -> Result<(), Fail>
+    requires store { IsStoreOf p.now s.old }
+    requires empty { s.old.added ≡ [] }
+    ensures { IsStoreOf p.now s.new }
+{
+    add_named(alloc, p, s, text)?;
+    forget(p, s, after(text, "forget"))
+}
+
+/// Adds the clauses of a text, of which the first lemma may land then.
+fn add_named(alloc: Global, p: &Problem, s: &mut ClauseStore, text: &str) -> Result<(), Fail>
+    requires store { IsStoreOf p.now s.old }
+    requires empty { s.old.added ≡ [] }
+    ensures { IsStoreOf p.now s.new }
+{
     let place = after(text, "names");
     if place.is_empty() {
-        add_all(rt, alloc, p, &mut s, text, 1)?;
-    } else {
-        add_landed(rt, alloc, p, &mut s, text, place.parse()?)?;
+        return add_all(alloc, p, s, text, 1);
     }
-    let name = after(text, "forget");
+    add_landed(alloc, p, s, text, count(place)?)
+}
+
+fn forget(p: &Problem, s: &mut ClauseStore, name: &str) -> Result<(), Fail>
+    requires { IsStoreOf p.now s.old }
+    ensures { IsStoreOf p.now s.new }
+{
     if !name.is_empty() {
         s.forget(&hint(name)?);
     }
-    Ok(s)
+    Ok(())
 }
 
 /// Adds clauses, of which the first lemma then lands at a place.
 fn add_landed(
-    rt: &impl Abort,
     alloc: Global,
     p: &Problem,
     s: &mut ClauseStore,
@@ -48,14 +65,13 @@ fn add_landed(
     requires empty { s.old.added ≡ [] }
     ensures { IsStoreOf p.now s.new }
 {
-    add_all(rt, alloc, p, s, text, first)?;
+    add_all(alloc, p, s, text, first)?;
     s.land(first);
     Ok(())
 }
 
 /// Adds clauses whose names can land where the first lemma gets this place.
 fn add_all(
-    rt: &impl Abort,
     alloc: Global,
     p: &Problem,
     s: &mut ClauseStore,
@@ -68,13 +84,12 @@ fn add_all(
     ensures names { OnOk result (CanNamesLand first s.new.added) }
 {
     for statement in text.split(';') {
-        add(rt, alloc, p, s, statement, first)?;
+        add(alloc, p, s, statement, first)?;
     }
     Ok(())
 }
 
 fn add(
-    rt: &impl Abort,
     alloc: Global,
     p: &Problem,
     s: &mut ClauseStore,
@@ -92,8 +107,10 @@ fn add(
     }
     let (name, atoms) = parted(rest);
     let name = hint(name)?;
-    assert!(rt; can_land(name, first));
-    s.add(clause_of(rt, alloc, p.vars(), atoms)?, name)?;
+    if !can_land(name, first) {
+        return Err(Fail::new("no name that can land"));
+    }
+    s.add(clause_of(alloc, p.vars(), atoms)?, name)?;
     Ok(())
 }
 

@@ -8,91 +8,90 @@ ghost use Rattle.cgm_atom.specs.LogState.{state_of};
 ghost use Rattle.cgm_log.specs.Landing.{IsProper};
 
 use crate::problems::problem_of;
-use crate::words::{numbers, parted};
+use crate::words::{are_numbers, count, is_count, numbers, parted, place};
 use cgm_atom::{BoxState, Clause, Entry, Hint, OutOfMemory, Seq, satisfied};
 use cgm_log::{Batch, Fate, Log, Traded};
 use cgm_step::accepts_next;
 use std::alloc::Global;
-use std::process::Abort;
 use std::test::Fail;
 
-/// Makes all trades of a text, and asserts each answer.
-pub(crate) fn are_answered(rt: &impl Abort, alloc: Global, text: &str) -> Result<(), Fail> {
-    let mut log = Log::new(alloc, problem_of(rt, alloc, text)?);
-    for statement in text.split(';') {
-        assert!(rt;
-            is_answered(rt, alloc, &mut log, statement)?,
-            "at {statement}"
-        );
-    }
-    Ok(())
+/// Makes all trades of a text, and answers the first statement whose answer is another.
+pub(crate) fn failing(alloc: Global, text: &str) -> Result<Option<&str>, Fail> {
+    let mut log = Log::new(alloc, problem_of(alloc, text)?);
+    failing_in(alloc, &mut log, text)
 }
 
-fn is_answered(
-    rt: &impl Abort,
-    alloc: Global,
-    log: &mut Log,
-    statement: &str,
-) -> Result<bool, Fail> {
+fn failing_in<'t>(alloc: Global, log: &mut Log, text: &'t str) -> Result<Option<&'t str>, Fail> {
+    for statement in text.split(';') {
+        if !is_answered(alloc, log, statement)? {
+            return Ok(Some(statement));
+        }
+    }
+    Ok(None)
+}
+
+fn is_answered(alloc: Global, log: &mut Log, statement: &str) -> Result<bool, Fail> {
     match statement.split_once(" = ") {
         None => Ok(true),
         Some((asked, answer)) => {
-            let traded = traded_by(rt, alloc, log, asked)?;
+            let traded = traded_by(alloc, log, asked)?;
             is_answer(alloc, &traded, answer)
         }
     }
 }
 
-fn traded_by(rt: &impl Abort, alloc: Global, log: &mut Log, asked: &str) -> Result<Traded, Fail> {
+fn traded_by(alloc: Global, log: &mut Log, asked: &str) -> Result<Traded, Fail> {
     match parted(asked) {
-        ("offer", values) => offer(rt, alloc, log, numbers(alloc, values)?),
+        ("offer", values) => offer(alloc, log, numbers(alloc, values)?),
         ("close", cut) => {
             let (best, part) = parted(cut);
-            end_by_cut(rt, alloc, log, best.parse()?, part.parse()?)
+            end_by_cut(alloc, log, count(best)?, place(part)?)
         }
         _ => Err(Fail::new("no trade")),
     }
 }
 
 fn is_answer(alloc: Global, traded: &Traded, answer: &str) -> Result<bool, Fail> {
-    let (head, rest) = parted(answer);
-    let wanted = numbers(alloc, rest)?;
     match traded {
-        Traded::Closed { .. } => Ok(head == "closed"),
+        Traded::Closed { .. } => Ok(answer == "closed"),
         Traded::Landed { first, fate, .. } => match fate {
-            None => Ok(head == "landed" && is_pair(*first, 0, wanted.as_slice())),
-            Some(Fate::Kept { ordinal }) => {
-                Ok(head == "kept" && is_pair(*first, *ordinal, wanted.as_slice()))
-            }
+            None => Ok(is_landed(*first, answer)),
+            Some(Fate::Kept { ordinal }) => Ok(is_kept(*first, *ordinal, answer)),
             Some(Fate::Behind { ordinal, values }) => {
-                Ok(head == "behind" && is_list(*ordinal, values.as_slice(), wanted.as_slice()))
+                is_behind(alloc, *ordinal, values.as_slice(), answer)
             }
         },
     }
 }
 
-/// Whether the wanted numbers are a place and, where two are wanted, an ordinal.
-fn is_pair(place: u64, ordinal: u64, wanted: &[i64]) -> bool {
-    match wanted {
-        [first] => i128::from(*first) == i128::from(place),
-        [first, second] => {
-            i128::from(*first) == i128::from(place) && i128::from(*second) == i128::from(ordinal)
-        }
-        _ => false,
-    }
+fn is_landed(place: u64, answer: &str) -> bool {
+    let (head, number) = parted(answer);
+    head == "landed" && is_count(number, place)
 }
 
-/// Whether the wanted numbers are an ordinal and these values.
-fn is_list(ordinal: u64, values: &[i64], wanted: &[i64]) -> bool {
-    match wanted.split_first() {
-        None => false,
-        Some((first, rest)) => i128::from(*first) == i128::from(ordinal) && rest == values,
+fn is_kept(place: u64, ordinal: u64, answer: &str) -> bool {
+    let (head, rest) = parted(answer);
+    let (first, second) = parted(rest);
+    head == "kept" && is_count(first, place) && is_count(second, ordinal)
+}
+
+fn is_behind(alloc: Global, ordinal: u64, values: &[i64], answer: &str) -> Result<bool, Fail> {
+    let (head, rest) = parted(answer);
+    let (number, wanted) = parted(rest);
+    if head != "behind" {
+        return Ok(false);
     }
+    if !is_count(number, ordinal) {
+        return Ok(false);
+    }
+    are_numbers(alloc, wanted, values)
 }
 
 /// Trades a candidate, which has to be a solution.
-fn offer(rt: &impl Abort, alloc: Global, log: &mut Log, values: Vec<i64>) -> Result<Traded, Fail> {
-    assert!(rt; satisfied(log.problem(), values.as_slice()));
+fn offer(alloc: Global, log: &mut Log, values: Vec<i64>) -> Result<Traded, Fail> {
+    if !satisfied(log.problem(), values.as_slice()) {
+        return Err(Fail::new("no solution"));
+    }
     let batch = Batch {
         by: 0,
         lemmas: Seq::of(Vec::new(alloc)),
@@ -102,13 +101,7 @@ fn offer(rt: &impl Abort, alloc: Global, log: &mut Log, values: Vec<i64>) -> Res
 }
 
 /// Trades the empty lemma by a part of the cut of a best, which has to be accepted.
-fn end_by_cut(
-    rt: &impl Abort,
-    alloc: Global,
-    log: &mut Log,
-    best: u64,
-    part: u32,
-) -> Result<Traded, Fail> {
+fn end_by_cut(alloc: Global, log: &mut Log, best: u64, part: u32) -> Result<Traded, Fail> {
     let lemma = Entry::Lemma {
         by: 0,
         clause: Clause {
@@ -117,7 +110,9 @@ fn end_by_cut(
         hints: Seq::of(vec![in alloc; Hint::Cut { best, part }]?),
         bound: best,
     };
-    assert!(rt; is_accepted(alloc, log, &lemma)?);
+    if !is_accepted(alloc, log, &lemma)? {
+        return Err(Fail::new("no lemma of the log"));
+    }
     let batch = Batch {
         by: 0,
         lemmas: Seq::of(vec![in alloc; lemma]?),

@@ -1,27 +1,13 @@
 // What steps, propagation and orders leave of trails. The statements are those of `trails`.
-use crate::trails::all_hold;
-use std::alloc::Global;
-use std::process::Abort;
+use crate::drivers::{Driver, hold};
 use std::test::Fail;
 
-/// Asserts each case, behind the statement of its variables.
-fn all_hold_over(
-    rt: &impl Abort,
-    alloc: Global,
-    variables: &str,
-    cases: &[&str],
-) -> Result<(), Fail> {
-    for case in cases {
-        let whole = format!(in alloc; "vars {variables}; {case}")?;
-        all_hold(rt, alloc, whole.as_str())?;
-    }
-    Ok(())
-}
-
 /// Two rows make variables 0 and 1 equal, and the second is the objective.
-const ONE: &str = "vars 0..1 0..1; row 1*1 -1*0 >= 0; row -1*1 1*0 >= 0; objectives 1; \
+const ONE: &[&str] = &[
+    "vars 0..1 0..1; row 1*1 -1*0 >= 0; row -1*1 1*0 >= 0; objectives 1; \
      order 0 0 1<=0; decide 1<=0; by-row 0 10 quiet 9; counts 2 1 0 2; bounds 0..0 0..0; start 0 2; start 1 0; \
-     change 0 1<=0 1 d; change 1 0<=0 1 r0; restart; counts 3 0 1 0; bounds 0..1 0..1";
+     change 0 1<=0 1 d; change 1 0<=0 1 r0; restart; counts 3 0 1 0; bounds 0..1 0..1",
+];
 
 /// Steps over three variables from 0 to 9.
 const TRAILS: &[&str] = &[
@@ -45,12 +31,18 @@ const TRAILS: &[&str] = &[
 
 #[test]
 fn trail_and_rows_on_one(rt: HostRuntime) -> Result<(), Fail> {
-    all_hold(&rt, rt.alloc(), ONE)
+    hold(&rt, rt.alloc(), Driver::Trails, "", ONE)
 }
 
 #[test]
 fn trails(rt: HostRuntime) -> Result<(), Fail> {
-    all_hold_over(&rt, rt.alloc(), "0..9 0..9 0..9", TRAILS)
+    hold(
+        &rt,
+        rt.alloc(),
+        Driver::Trails,
+        "vars 0..9 0..9 0..9; ",
+        TRAILS,
+    )
 }
 
 /// Clauses that are false or tighten nothing, unit clauses, and clauses that become unit or false.
@@ -221,13 +213,25 @@ const ORDERS: &[&str] = &[
 
 #[test]
 fn none_realizable(rt: HostRuntime) -> Result<(), Fail> {
-    all_hold_over(&rt, rt.alloc(), "0..1 0..1 0..1", UNREALIZABLE)
+    hold(
+        &rt,
+        rt.alloc(),
+        Driver::Trails,
+        "vars 0..1 0..1 0..1; ",
+        UNREALIZABLE,
+    )
 }
 
 #[test]
 fn sweeps(rt: HostRuntime) -> Result<(), Fail> {
     for cases in [CLAUSES, ROWS, GUARDED, STEPS, STORES] {
-        all_hold_over(&rt, rt.alloc(), "0..9 -5..5 0..1", cases)?;
+        hold(
+            &rt,
+            rt.alloc(),
+            Driver::Trails,
+            "vars 0..9 -5..5 0..1; ",
+            cases,
+        )?;
     }
     Ok(())
 }
@@ -235,9 +239,7 @@ fn sweeps(rt: HostRuntime) -> Result<(), Fail> {
 #[test]
 fn limits_and_orders(rt: HostRuntime) -> Result<(), Fail> {
     for cases in [LIMITS, ORDERS] {
-        for case in cases {
-            all_hold(&rt, rt.alloc(), case)?;
-        }
+        hold(&rt, rt.alloc(), Driver::Trails, "", cases)?;
     }
     Ok(())
 }

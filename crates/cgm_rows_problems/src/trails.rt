@@ -8,47 +8,96 @@ ghost use Rattle.cgm_atom.specs.Instance.{var_count};
 ghost use Rattle.cgm_clauses.specs.StoreState.{IsStoreOf};
 
 use crate::choices::is_chosen;
-use crate::problems::problem_of;
+use crate::narrowing::has_ranges;
 use crate::steps::take;
 use crate::stores::store_of;
-use crate::words::{atom, hint, parted, range};
-use cgm_atom::{Atom, Problem, Var};
+use crate::words::{atom, count, hint, is_count, number, parted};
+use cgm_atom::{Atom, Problem};
 use cgm_clauses::ClauseStore;
 use cgm_split::Activity;
 use cgm_trail::{Change, Reason, Trail};
 use std::alloc::Global;
-use std::process::Abort;
 use std::test::Fail;
 
-/// Takes the steps of a case, and asserts what it says of the trail.
-pub(crate) fn all_hold(rt: &impl Abort, alloc: Global, case: &str) -> Result<(), Fail> {
-    let p = problem_of(rt, alloc, case)?;
-    let mut s = store_of(rt, alloc, &p, case)?;
-    let mut t = Trail::new(alloc, &p)?;
-    let mut activity = Activity::new(alloc, &p, 0, 0)?;
-    follow_all(rt, alloc, &p, &mut s, &mut t, &mut activity, case)
+/// Takes the steps of a case, and answers the first statement that isn't so.
+pub(crate) fn failing<'t>(
+    alloc: Global,
+    p: &Problem,
+    case: &'t str,
+) -> Result<Option<&'t str>, Fail> {
+    let mut s = store_of(alloc, p, case)?;
+    failing_over(alloc, p, &mut s, case)
 }
 
-fn follow_all(
-    rt: &impl Abort,
+fn failing_over<'t>(
+    alloc: Global,
+    p: &Problem,
+    s: &mut ClauseStore,
+    case: &'t str,
+) -> Result<Option<&'t str>, Fail>
+    requires { IsStoreOf p.now s.old }
+{
+    let mut t = Trail::new(alloc, p)?;
+    failing_on(alloc, p, s, &mut t, case)
+}
+
+fn failing_on<'t>(
+    alloc: Global,
+    p: &Problem,
+    s: &mut ClauseStore,
+    t: &mut Trail,
+    case: &'t str,
+) -> Result<Option<&'t str>, Fail>
+    requires problem { t.old.problem ≡ p.now }
+    requires store { IsStoreOf p.now s.old }
+{
+    let mut activity = Activity::new(alloc, p, 0, 0)?;
+    follow_all(alloc, p, s, t, &mut activity, case)
+}
+
+fn follow_all<'t>(
     alloc: Global,
     p: &Problem,
     s: &mut ClauseStore,
     t: &mut Trail,
     activity: &mut Activity,
-    case: &str,
-) -> Result<(), Fail>
+    case: &'t str,
+) -> Result<Option<&'t str>, Fail>
     requires problem { t.old.problem ≡ p.now }
     requires store { IsStoreOf p.now s.old }
     requires order { length activity.old.weights ≡ var_count p.now }
 {
     for statement in case.split(';') {
-        take(rt, alloc, p, s, t, statement)?;
-        let met = is_chosen(rt, alloc, p, t, activity, statement)?;
-        assert!(rt; met, "at {statement} in {case}");
-        assert!(rt; is_met(p, t, statement)?, "at {statement} in {case}");
+        if !is_so(alloc, p, s, t, activity, statement)? {
+            return Ok(Some(statement));
+        }
     }
-    Ok(())
+    Ok(None)
+}
+
+/// Whether a statement's step may be taken, and what it says is so.
+fn is_so(
+    alloc: Global,
+    p: &Problem,
+    s: &mut ClauseStore,
+    t: &mut Trail,
+    activity: &mut Activity,
+    statement: &str,
+) -> Result<bool, Fail>
+    requires problem { t.old.problem ≡ p.now }
+    requires store { IsStoreOf p.now s.old }
+    requires order { length activity.old.weights ≡ var_count p.now }
+    ensures problem { t.new.problem ≡ p.now }
+    ensures store { IsStoreOf p.now s.new }
+    ensures order { length activity.new.weights ≡ var_count p.now }
+{
+    if !take(alloc, p, s, t, statement)? {
+        return Ok(false);
+    }
+    if !is_chosen(alloc, p, t, activity, statement)? {
+        return Ok(false);
+    }
+    is_met(p, t, statement)
 }
 
 /// Whether what a statement says of the trail is so.
@@ -57,7 +106,7 @@ fn is_met(p: &Problem, t: &Trail, statement: &str) -> Result<bool, Fail>
 {
     let (head, rest) = parted(statement);
     match head {
-        "counts" => has_counts(t, rest),
+        "counts" => Ok(has_counts(t, rest)),
         "bounds" => has_bounds(p, t, rest),
         "start" => has_start(t, rest),
         "change" => has_change(t, rest),
@@ -65,20 +114,14 @@ fn is_met(p: &Problem, t: &Trail, statement: &str) -> Result<bool, Fail>
     }
 }
 
-fn has_counts(t: &Trail, words: &str) -> Result<bool, Fail> {
+fn has_counts(t: &Trail, words: &str) -> bool {
     let (moves, rest) = parted(words);
     let (level, rest) = parted(rest);
     let (restarts, changes) = parted(rest);
-    if t.moves() != moves.parse::<u64>()? {
-        return Ok(false);
-    }
-    if t.level() != level.parse::<u64>()? {
-        return Ok(false);
-    }
-    if t.restarts() != restarts.parse::<u32>()? {
-        return Ok(false);
-    }
-    Ok(t.changes() == changes.parse::<u64>()?)
+    is_count(moves, t.moves())
+        && is_count(level, t.level())
+        && is_count(restarts, u64::from(t.restarts()))
+        && is_count(changes, t.changes())
 }
 
 /// Whether the box of the trail is one of those that are told, parted by `or`.
@@ -87,61 +130,39 @@ fn has_bounds(p: &Problem, t: &Trail, words: &str) -> Result<bool, Fail>
 {
     t.recall_trail();
     for ranges in words.split('|') {
-        if has_ranges(p, t, ranges)? {
+        if has_ranges(p, t.state(), ranges)? {
             return Ok(true);
         }
     }
     Ok(false)
 }
 
-fn has_ranges(p: &Problem, t: &Trail, ranges: &str) -> Result<bool, Fail>
-    requires { t.now.problem ≡ p.now }
-{
-    let mut x: u32 = 0;
-    for word in ranges.split_whitespace() {
-        if x >= p.vars() {
-            return Ok(false);
-        }
-        if bounds_of(p, t, x) != range(word)? {
-            return Ok(false);
-        }
-        x += 1;
-    }
-    Ok(x == p.vars())
-}
-
-/// The values of a variable.
-fn bounds_of(p: &Problem, t: &Trail, x: u32) -> (i64, i64)
-    requires problem { t.now.problem ≡ p.now }
-    requires known { x < var_count p.now }
-{
-    t.recall_trail();
-    let b = t.state();
-    (b.lo(Var(x)), b.hi(Var(x)))
-}
-
 fn has_start(t: &Trail, words: &str) -> Result<bool, Fail> {
     let (level, start) = parted(words);
-    let level: u64 = level.parse()?;
+    let level = count(level)?;
     if level > t.level() {
         return Ok(false);
     }
-    Ok(t.level_start(level) == start.parse::<u64>()?)
+    Ok(is_count(start, t.level_start(level)))
 }
 
 fn has_change(t: &Trail, words: &str) -> Result<bool, Fail> {
     let (n, rest) = parted(words);
-    let n: u64 = n.parse()?;
+    let n = count(n)?;
     if n >= t.changes() {
         return Ok(false);
     }
-    let wanted = change(rest)?;
+    Ok(is_change(t.change(n), change(rest)?))
+}
+
+/// Whether this is the change, and keeps its earlier bound.
+fn is_change(found: &Change, wanted: Change) -> bool {
     let was = Atom {
         var: wanted.atom.var,
         at_least: wanted.atom.at_least,
         k: wanted.was,
     };
-    Ok(*t.change(n) == wanted && t.change(n).earlier() == was)
+    *found == wanted && found.earlier() == was
 }
 
 fn change(words: &str) -> Result<Change, Fail> {
@@ -149,7 +170,7 @@ fn change(words: &str) -> Result<Change, Fail> {
     let (was, by) = parted(rest);
     Ok(Change {
         atom: atom(a)?,
-        was: was.parse()?,
+        was: number(was)?,
         reason: reason(by)?,
     })
 }

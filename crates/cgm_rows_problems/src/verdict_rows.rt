@@ -1,8 +1,8 @@
 // What lists of entries tell of problems. The statements are those of `verdicts`.
-use crate::verdicts::is_told;
+use crate::drivers::{Driver, hold};
 use std::test::Fail;
 
-/// Two rows make variables 0 and 1 equal, and the second is the objective.
+/// Entries over the problem of `FRONT`.
 const ONE: &[&str] = &[
     // one_certificate
     "best 1 1; lemma 1 0<=0 : b1.0 r0; best 0 0; lemma 2 : b2.0; verdict least 0 0",
@@ -56,21 +56,15 @@ const OTHERS: &[&str] = &[
     "vars 0..1; clause 0>=1; best 0; verdict refused 1 clause 0",
 ];
 
+/// Two rows make variables 0 and 1 equal, and the second is the objective.
+const FRONT: &str = "vars 0..1 0..1; row 1*1 -1*0 >= 0; row -1*1 1*0 >= 0; objectives 1; ";
+
 #[test]
 fn one_certificate(rt: HostRuntime) -> Result<(), Fail> {
-    for case in ONE {
-        let whole = format!(in rt.alloc();
-            "vars 0..1 0..1; row 1*1 -1*0 >= 0; row -1*1 1*0 >= 0; objectives 1; {case}"
-        )?;
-        assert!(rt; is_told(&rt, rt.alloc(), whole.as_str())?, "at {case}");
-    }
-    Ok(())
+    hold(&rt, rt.alloc(), Driver::Verdicts, FRONT, ONE)
 }
 
 #[test]
 fn verdicts(rt: HostRuntime) -> Result<(), Fail> {
-    for case in OTHERS {
-        assert!(rt; is_told(&rt, rt.alloc(), case)?, "at {case}");
-    }
-    Ok(())
+    hold(&rt, rt.alloc(), Driver::Verdicts, "", OTHERS)
 }

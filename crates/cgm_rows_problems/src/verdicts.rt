@@ -1,19 +1,26 @@
 // What lists of entries tell of a problem. `best` has values, `lemma` a bound, atoms and hints. The
 // verdict is `least`, `open` and values, `open`, `none`, or `refused`, an entry and its fault.
-use crate::problems::problem_of;
-use crate::words::{after, atoms, hints, numbers, parted};
-use cgm_atom::{BadStep, Clause, Entry, Seq};
+use crate::words::{after, are_numbers, atoms, count, hints, is_count, numbers, parted};
+use cgm_atom::{BadStep, Clause, Entry, Problem, Seq};
 use cgm_check::{Verdict, check};
 use std::alloc::Global;
-use std::process::Abort;
 use std::test::Fail;
 
 /// Whether the verdict on a text's entries is what the text says.
-pub(crate) fn is_told(rt: &impl Abort, alloc: Global, text: &str) -> Result<bool, Fail> {
-    let p = problem_of(rt, alloc, text)?;
+pub(crate) fn is_told(alloc: Global, p: &Problem, text: &str) -> Result<bool, Fail> {
     let entries = entries_of(alloc, text)?;
-    let verdict = check(alloc, &p, entries.as_slice())?;
-    is_verdict(alloc, &verdict, after(text, "verdict"))
+    is_told_by(alloc, p, entries.as_slice(), after(text, "verdict"))
+}
+
+/// Whether the verdict on entries is the wanted one.
+pub(crate) fn is_told_by(
+    alloc: Global,
+    p: &Problem,
+    entries: &[Entry],
+    wanted: &str,
+) -> Result<bool, Fail> {
+    let verdict = check(alloc, p, entries)?;
+    is_verdict(alloc, &verdict, wanted)
 }
 
 fn entries_of(alloc: Global, text: &str) -> Result<Vec<Entry>, Fail> {
@@ -43,6 +50,7 @@ fn best(values: Vec<i64>) -> Entry {
 
 fn lemma(alloc: Global, words: &str) -> Result<Entry, Fail> {
     let (bound, rest) = parted(words);
+    let bound = count(bound)?;
     match rest.split_once(':') {
         None => Err(Fail::new("no lemma")),
         Some((wanted, named)) => Ok(Entry::Lemma {
@@ -51,57 +59,73 @@ fn lemma(alloc: Global, words: &str) -> Result<Entry, Fail> {
                 atoms: Seq::of(atoms(alloc, wanted)?),
             },
             hints: Seq::of(hints(alloc, named)?),
-            bound: bound.parse()?,
+            bound,
         }),
     }
 }
 
 fn is_verdict(alloc: Global, verdict: &Verdict, wanted: &str) -> Result<bool, Fail> {
-    let (head, rest) = parted(wanted);
     match verdict {
-        Verdict::NoSolution => Ok(head == "none"),
-        Verdict::Open { best: None } => Ok(head == "open" && rest.is_empty()),
-        Verdict::Open { best: Some(values) } => {
-            Ok(head == "open" && values.as_slice() == numbers(alloc, rest)?.as_slice())
-        }
-        Verdict::Least { values } => {
-            Ok(head == "least" && values.as_slice() == numbers(alloc, rest)?.as_slice())
-        }
-        Verdict::Refused { step, why } => Ok(head == "refused" && is_fault(*step, *why, rest)?),
+        Verdict::NoSolution => Ok(wanted == "none"),
+        Verdict::Open { best } => is_open(alloc, best, wanted),
+        Verdict::Least { values } => has_values(alloc, "least", values.as_slice(), wanted),
+        Verdict::Refused { step, why } => is_refusal(*step, *why, wanted),
     }
 }
 
-/// Whether the words are this entry and this fault.
-fn is_fault(step: u64, why: BadStep, words: &str) -> Result<bool, Fail> {
-    let (place, rest) = parted(words);
-    let (fault, number) = parted(rest);
-    Ok(step == place.parse::<u64>()? && why == bad_step(fault, number)?)
+fn is_open(alloc: Global, best: &Option<Seq<i64>>, wanted: &str) -> Result<bool, Fail> {
+    match best {
+        None => Ok(wanted == "open"),
+        Some(values) => has_values(alloc, "open", values.as_slice(), wanted),
+    }
 }
 
-fn bad_step(fault: &str, number: &str) -> Result<BadStep, Fail> {
-    match fault {
-        "after-end" => Ok(BadStep::AfterEnd),
-        "not-less" => Ok(BadStep::NotLess),
-        "no-conflict" => Ok(BadStep::NoConflict),
-        named => numbered_step(named, number.parse()?),
+/// Whether the words are this one and these values.
+fn has_values(alloc: Global, word: &str, values: &[i64], wanted: &str) -> Result<bool, Fail> {
+    let (head, rest) = parted(wanted);
+    if head != word {
+        return Ok(false);
+    }
+    are_numbers(alloc, rest, values)
+}
+
+/// Whether the words are a refusal, this entry and this fault.
+fn is_refusal(step: u64, why: BadStep, wanted: &str) -> Result<bool, Fail> {
+    let (head, rest) = parted(wanted);
+    let (place, fault) = parted(rest);
+    if head != "refused" {
+        return Ok(false);
+    }
+    if !is_count(place, step) {
+        return Ok(false);
+    }
+    Ok(why == bad_step(fault)?)
+}
+
+fn bad_step(words: &str) -> Result<BadStep, Fail> {
+    match parted(words) {
+        ("after-end", _) => Ok(BadStep::AfterEnd),
+        ("not-less", _) => Ok(BadStep::NotLess),
+        ("no-conflict", _) => Ok(BadStep::NoConflict),
+        (fault, number) => numbered_step(fault, count(number)?),
     }
 }
 
 fn numbered_step(fault: &str, number: u64) -> Result<BadStep, Fail> {
     match fault {
         "values" => Ok(BadStep::Values { given: number }),
-        "bounds" => Ok(BadStep::Bounds {
-            var: u32::try_from(number)?,
-        }),
-        "clause" => Ok(BadStep::Clause {
-            number: u32::try_from(number)?,
-        }),
-        "row" => Ok(BadStep::Row {
-            number: u32::try_from(number)?,
-        }),
         "atom" => Ok(BadStep::Atom { place: number }),
         "hint" => Ok(BadStep::Hint { place: number }),
         "bound" => Ok(BadStep::Bound { found: number }),
+        part => placed_step(part, u32::try_from(number)?),
+    }
+}
+
+fn placed_step(part: &str, number: u32) -> Result<BadStep, Fail> {
+    match part {
+        "bounds" => Ok(BadStep::Bounds { var: number }),
+        "clause" => Ok(BadStep::Clause { number }),
+        "row" => Ok(BadStep::Row { number }),
         _ => Err(Fail::new("no fault")),
     }
 }

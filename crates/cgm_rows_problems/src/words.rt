@@ -1,4 +1,4 @@
-// Words of cases: ranges, atoms, hints and lists of them.
+// Words of cases: numbers, ranges, atoms, hints and lists of them.
 use cgm_atom::{Atom, Hint, Var};
 use std::alloc::Global;
 use std::test::Fail;
@@ -23,10 +23,33 @@ pub(crate) fn after<'t>(text: &'t str, wanted: &str) -> &'t str {
     ""
 }
 
+/// A signed number of 64 bits.
+pub(crate) fn number(word: &str) -> Result<i64, Fail> {
+    Ok(word.parse()?)
+}
+
+/// A number of 64 bits from 0 on.
+pub(crate) fn count(word: &str) -> Result<u64, Fail> {
+    Ok(word.parse()?)
+}
+
+/// A number of 32 bits from 0 on.
+pub(crate) fn place(word: &str) -> Result<u32, Fail> {
+    Ok(word.parse()?)
+}
+
+/// Whether a word is this number.
+pub(crate) fn is_count(word: &str, wanted: u64) -> bool {
+    match word.parse::<u64>() {
+        Ok(found) => found == wanted,
+        Err(_) => false,
+    }
+}
+
 /// Two numbers, as in `-5..9`.
 pub(crate) fn range(word: &str) -> Result<(i64, i64), Fail> {
     match word.split_once("..") {
-        Some((lo, hi)) => Ok((lo.parse()?, hi.parse()?)),
+        Some((lo, hi)) => Ok((number(lo)?, number(hi)?)),
         None => Err(Fail::new("no range")),
     }
 }
@@ -44,9 +67,9 @@ pub(crate) fn atom(word: &str) -> Result<Atom, Fail> {
 
 fn bounded(x: &str, at_least: bool, k: &str) -> Result<Atom, Fail> {
     Ok(Atom {
-        var: Var(x.parse()?),
+        var: Var(place(x)?),
         at_least,
-        k: k.parse()?,
+        k: number(k)?,
     })
 }
 
@@ -62,26 +85,33 @@ pub(crate) fn hint(word: &str) -> Result<Hint, Fail> {
 fn hint_to_cut(word: &str) -> Result<Hint, Fail> {
     match word.split_once('.') {
         Some((best, part)) => Ok(Hint::Cut {
-            best: best.parse()?,
-            part: part.parse()?,
+            best: count(best)?,
+            part: place(part)?,
         }),
         None => Err(Fail::new("no cut")),
     }
 }
 
 fn hint_to_one(word: &str) -> Result<Hint, Fail> {
-    if let Some(n) = word.strip_prefix('c') {
-        return Ok(Hint::Clause(n.parse()?));
+    match (word.get(0..1), word.get(1..)) {
+        (Some(kind), Some(number)) => hint_of(kind, number),
+        _ => Err(Fail::new("no hint")),
     }
-    if let Some(n) = word.strip_prefix('r') {
-        return Ok(Hint::Row(n.parse()?));
+}
+
+fn hint_of(kind: &str, number: &str) -> Result<Hint, Fail> {
+    match kind {
+        "e" => Ok(Hint::Entry(count(number)?)),
+        other => hint_to_place(other, place(number)?),
     }
-    if let Some(n) = word.strip_prefix('e') {
-        return Ok(Hint::Entry(n.parse()?));
-    }
-    match word.strip_prefix('o') {
-        Some(n) => Ok(Hint::Own(n.parse()?)),
-        None => Err(Fail::new("no hint")),
+}
+
+fn hint_to_place(kind: &str, n: u32) -> Result<Hint, Fail> {
+    match kind {
+        "c" => Ok(Hint::Clause(n)),
+        "r" => Ok(Hint::Row(n)),
+        "o" => Ok(Hint::Own(n)),
+        _ => Err(Fail::new("no hint")),
     }
 }
 
@@ -104,7 +134,22 @@ pub(crate) fn hints(alloc: Global, words: &str) -> Result<Vec<Hint>, Fail> {
 pub(crate) fn numbers(alloc: Global, words: &str) -> Result<Vec<i64>, Fail> {
     let mut all = Vec::new(alloc);
     for word in words.split_whitespace() {
-        all.push(word.parse::<i64>()?)?;
+        all.push(number(word)?)?;
     }
     Ok(all)
+}
+
+/// Whether the words are these atoms.
+pub(crate) fn are_atoms(alloc: Global, words: &str, found: &[Atom]) -> Result<bool, Fail> {
+    Ok(atoms(alloc, words)?.as_slice() == found)
+}
+
+/// Whether the words are these hints.
+pub(crate) fn are_hints(alloc: Global, words: &str, found: &[Hint]) -> Result<bool, Fail> {
+    Ok(hints(alloc, words)?.as_slice() == found)
+}
+
+/// Whether the words are these numbers.
+pub(crate) fn are_numbers(alloc: Global, words: &str, found: &[i64]) -> Result<bool, Fail> {
+    Ok(numbers(alloc, words)?.as_slice() == found)
 }

@@ -1,13 +1,13 @@
-//! Whole reads and writes over the shelves and sinks of this crate.
+//! Shelves and sinks: what came before a fault is kept, and faults are counted.
 use crate::{
     FileShelf, MemShelf, MemSink, NullSink, OutSink, ReadStop, Shelf, Sink, read_whole, write_file,
     write_whole,
 };
 use std::alloc::{AllocError, Global};
-use std::process::Abort;
+use std::rt::Files;
 use std::test::Fail;
 
-/// A shelf of pieces of four bytes with one file of ten.
+/// A shelf of pieces of four bytes with one file of ten, of whose calls these fail.
 fn shelf_of_ten(
     alloc: Global,
     fail_reads: Vec<u64>,
@@ -18,57 +18,152 @@ fn shelf_of_ten(
     Ok(shelf)
 }
 
-#[test]
-fn memory_keeps_what_came_before_a_fault(rt: HostRuntime) -> Result<(), Fail> {
-    reads_whole_files(&rt, rt.alloc())?;
-    writes_whole_files(&rt, rt.alloc())?;
-    writes_whole_texts(&rt, rt.alloc())
+/// Whether the whole file is read, and has these bytes.
+fn is_read<F: Shelf>(
+    alloc: Global,
+    shelf: &mut F,
+    name: &str,
+    limit: Option<u64>,
+    bytes: &[u8],
+) -> bool {
+    match read_whole(alloc, shelf, name, limit) {
+        Ok(whole) => whole.as_slice() == bytes,
+        Err(_) => false,
+    }
 }
 
-fn reads_whole_files(rt: &impl Abort, alloc: Global) -> Result<(), Fail> {
-    let none = Vec::new(alloc);
-    let mut shelf = shelf_of_ten(alloc, vec![in alloc; 9]?, none)?;
-    let whole = read_whole(alloc, &mut shelf, "ten", Some(10))?;
-    assert_eq!(rt; whole.as_slice(), b"0123456789".as_slice());
-    let short = read_whole(alloc, &mut shelf, "ten", Some(9));
-    assert_eq!(rt; short.err(), Some(ReadStop::TooLong));
-    let missing = read_whole(alloc, &mut shelf, "nowhere", None);
-    assert_eq!(rt; missing.err(), Some(ReadStop::Fault));
-    assert_eq!(rt; shelf.read_faults(), 0);
-    let failed = read_whole(alloc, &mut shelf, "ten", None);
-    assert_eq!(rt; failed.err(), Some(ReadStop::Fault));
-    assert_eq!(rt; shelf.read_faults(), 1);
+/// Whether the file isn't read, for this cause.
+fn is_stopped<F: Shelf>(
+    alloc: Global,
+    shelf: &mut F,
+    name: &str,
+    limit: Option<u64>,
+    cause: ReadStop,
+) -> bool {
+    match read_whole(alloc, shelf, name, limit) {
+        Ok(_) => false,
+        Err(stop) => stop == cause,
+    }
+}
+
+/// Whether the shelf has this file with these bytes.
+fn has_file(shelf: &MemShelf, name: &str, bytes: &[u8]) -> bool {
+    match shelf.bytes(name) {
+        Some(held) => held == bytes,
+        None => false,
+    }
+}
+
+/// Whether a shelf whose ninth read fails reads its file until then.
+fn reads_files(alloc: Global, shelf: &mut MemShelf) -> bool {
+    is_read(alloc, shelf, "ten", Some(10), b"0123456789")
+        && is_stopped(alloc, shelf, "ten", Some(9), ReadStop::TooLong)
+        && is_stopped(alloc, shelf, "nowhere", None, ReadStop::Fault)
+        && shelf.read_faults() == 0
+        && is_stopped(alloc, shelf, "ten", None, ReadStop::Fault)
+        && shelf.read_faults() == 1
+}
+
+/// Whether a shelf whose third start or append fails keeps what it has of a file, and writes it then.
+fn writes_files(shelf: &mut MemShelf) -> bool {
+    write_file(shelf, "new", b"abcdefghij").is_err()
+        && has_file(shelf, "new", b"abcd")
+        && shelf.write_faults() == 1
+        && write_file(shelf, "new", b"abcdefghij").is_ok()
+        && has_file(shelf, "new", b"abcdefghij")
+        && has_file(shelf, "ten", b"0123456789")
+}
+
+/// Whether a shelf takes no bytes for a file that isn't there, and counts no fault for it.
+fn wants_files(shelf: &mut MemShelf) -> bool {
+    shelf.bytes("nowhere").is_none()
+        && shelf.append("nowhere", b"a").is_err()
+        && shelf.write_faults() == 1
+        && shelf.refused() == 0
+}
+
+/// Whether a sink whose second write fails keeps what came before, and goes on.
+fn writes_texts(sink: &mut MemSink) -> bool {
+    write_whole(sink, b"abcdefghijklmnopqrst").is_err()
+        && sink.written() == b"abcdefgh".as_slice()
+        && sink.faults() == 1
+        && write_whole(sink, b"ijklmnopqrst").is_ok()
+        && sink.written() == b"abcdefghijklmnopqrst".as_slice()
+        && sink.refused() == 0
+}
+
+#[test]
+fn reads_of_files(rt: HostRuntime) -> Result<(), Fail> {
+    let alloc = rt.alloc();
+    let mut shelf = shelf_of_ten(alloc, vec![in alloc; 9]?, Vec::new(alloc))?;
+    assert!(rt; reads_files(alloc, &mut shelf));
+    Ok(())
+}
+
+#[test]
+fn writes_of_files(rt: HostRuntime) -> Result<(), Fail> {
+    let alloc = rt.alloc();
+    let mut shelf = shelf_of_ten(alloc, Vec::new(alloc), vec![in alloc; 3]?)?;
+    assert!(rt; writes_files(&mut shelf) && wants_files(&mut shelf));
+    Ok(())
+}
+
+#[test]
+fn writes_of_texts(rt: HostRuntime) -> Result<(), Fail> {
+    let alloc = rt.alloc();
+    let mut sink = MemSink::new(alloc, 8, vec![in alloc; 2]?);
+    assert!(rt; writes_texts(&mut sink));
     Ok(())
 }
 
 /// A read of a whole file of so many bytes, of whose reads one fails: does it end with all of them?
 fn ends_whole(alloc: Global, size: usize, failing: u64) -> Result<bool, AllocError> {
+    let bytes = vec![in alloc; b'a'; size]?;
     let mut shelf = MemShelf::new(alloc, 1_000_000, vec![in alloc; failing]?, Vec::new(alloc));
-    shelf.put("file", vec![in alloc; b'a'; size]?.as_slice())?;
-    match read_whole(alloc, &mut shelf, "file", None) {
-        Ok(bytes) => Ok(bytes.len() == size),
-        Err(_) => Ok(false),
-    }
+    shelf.put("file", bytes.as_slice())?;
+    Ok(is_read(alloc, &mut shelf, "file", None, bytes.as_slice()))
 }
+
+/// Sizes of a file, the number of the read that fails, and whether the file is read.
+const READS: &[(usize, u64, bool)] = &[
+    (0, 1, false),
+    (0, 2, true),
+    (1, 2, false),
+    (4_096, 3, true),
+    (65_536, 2, false),
+    (65_536, 3, true),
+    (65_537, 3, false),
+    (65_537, 4, true),
+];
 
 // The last read of a file finds its end, and each one before it asks for at least 4,096 bytes.
 #[test]
 fn reads_ask_for_large_pieces(rt: HostRuntime) -> Result<(), Fail> {
-    let cases = [
-        (0, 1, false),
-        (0, 2, true),
-        (1, 2, false),
-        (4_096, 3, true),
-        (65_536, 2, false),
-        (65_536, 3, true),
-        (65_537, 3, false),
-        (65_537, 4, true),
-    ];
-    for (size, failing, whole) in cases {
-        let ended = ends_whole(rt.alloc(), size, failing)?;
-        assert_eq!(rt; ended, whole, "at {size} bytes and read {failing}");
+    for (size, failing, whole) in READS {
+        assert!(rt;
+            ends_whole(rt.alloc(), *size, *failing)? == *whole,
+            "at {size} bytes and read {failing}"
+        );
     }
     Ok(())
+}
+
+/// Pieces, how much of each is taken, and how many writes have failed then.
+const WRITES: &[(&str, Option<usize>, u64)] = &[
+    ("abcdef", Some(4), 0),
+    ("ef", None, 1),
+    ("ef", Some(2), 1),
+    ("", None, 2),
+    ("", Some(0), 2),
+];
+
+/// Whether so much of a piece is taken, and so many writes have failed then. A sink that takes all
+/// takes the whole piece.
+fn is_taken(sink: &mut MemSink, piece: &str, taken: Option<usize>, faults: u64) -> bool {
+    sink.write(piece.as_bytes()).ok() == taken
+        && sink.faults() == faults
+        && sink.refused() == 0
+        && NullSink.write(piece.as_bytes()) == Ok(piece.len())
 }
 
 // Each write is answered by its length, or fails by the plan; none is refused.
@@ -76,64 +171,25 @@ fn reads_ask_for_large_pieces(rt: HostRuntime) -> Result<(), Fail> {
 fn writes_and_their_counts(rt: HostRuntime) -> Result<(), Fail> {
     let alloc = rt.alloc();
     let mut sink = MemSink::new(alloc, 4, vec![in alloc; 2, 4]?);
-    let cases = [
-        ("abcdef", Some(4), 0),
-        ("ef", None, 1),
-        ("ef", Some(2), 1),
-        ("", None, 2),
-        ("", Some(0), 2),
-    ];
-    for (piece, taken, faults) in cases {
-        assert_eq!(rt; sink.write(piece.as_bytes()).ok(), taken, "at {piece}");
-        assert_eq!(rt; (sink.faults(), sink.refused()), (faults, 0), "at {piece}");
-        assert_eq!(rt;
-            NullSink.write(piece.as_bytes()),
-            Ok(piece.len()),
-            "at {piece}"
-        );
+    for (piece, taken, faults) in WRITES {
+        assert!(rt; is_taken(&mut sink, piece, *taken, *faults), "at {piece}");
     }
     Ok(())
 }
 
-fn writes_whole_files(rt: &impl Abort, alloc: Global) -> Result<(), Fail> {
-    let none = Vec::new(alloc);
-    let mut shelf = shelf_of_ten(alloc, none, vec![in alloc; 3]?)?;
-    assert!(rt; write_file(&mut shelf, "new", b"abcdefghij").is_err());
-    assert_eq!(rt; shelf.bytes("new"), Some(b"abcd".as_slice()));
-    assert_eq!(rt; shelf.write_faults(), 1);
-    write_file(&mut shelf, "new", b"abcdefghij")?;
-    assert_eq!(rt; shelf.bytes("new"), Some(b"abcdefghij".as_slice()));
-    assert_eq!(rt; shelf.bytes("ten"), Some(b"0123456789".as_slice()));
-    assert_eq!(rt; shelf.bytes("nowhere"), None);
-    assert!(rt; shelf.append("nowhere", b"a").is_err());
-    assert_eq!(rt; shelf.write_faults(), 1);
-    assert_eq!(rt; shelf.refused(), 0);
-    Ok(())
-}
-
-fn writes_whole_texts(rt: &impl Abort, alloc: Global) -> Result<(), Fail> {
-    let mut sink = MemSink::new(alloc, 8, vec![in alloc; 2]?);
-    assert!(rt; write_whole(&mut sink, b"abcdefghijklmnopqrst").is_err());
-    assert_eq!(rt; sink.written(), b"abcdefgh".as_slice());
-    assert_eq!(rt; sink.faults(), 1);
-    write_whole(&mut sink, b"ijklmnopqrst")?;
-    assert_eq!(rt; sink.written(), b"abcdefghijklmnopqrst".as_slice());
-    assert_eq!(rt; sink.refused(), 0);
-    Ok(())
+/// Whether the host's files are there only once they are written, and keep what is written last.
+fn keeps_files<R: Files>(alloc: Global, shelf: &mut FileShelf<'_, R>) -> bool {
+    shelf.append("file.txt", b"a").is_err()
+        && write_file(shelf, "file.txt", b"first").is_ok()
+        && write_file(shelf, "file.txt", b"second").is_ok()
+        && is_read(alloc, shelf, "file.txt", None, b"second")
+        && is_stopped(alloc, shelf, "nowhere.txt", None, ReadStop::Fault)
 }
 
 #[test]
-fn host_files_are_read_back(rt: HostRuntime) -> Result<(), Fail> {
-    let alloc = rt.alloc();
+fn host_files_are_read_back(rt: HostRuntime) {
     let mut shelf = FileShelf::new(&rt);
-    assert!(rt; shelf.append("file.txt", b"a").is_err());
-    write_file(&mut shelf, "file.txt", b"first")?;
-    write_file(&mut shelf, "file.txt", b"second")?;
-    let whole = read_whole(alloc, &mut shelf, "file.txt", None)?;
-    assert_eq!(rt; whole.as_slice(), b"second".as_slice());
-    let missing = read_whole(alloc, &mut shelf, "nowhere.txt", None);
-    assert_eq!(rt; missing.err(), Some(ReadStop::Fault));
-    Ok(())
+    assert!(rt; keeps_files(rt.alloc(), &mut shelf));
 }
 
 #[test]

@@ -3,7 +3,7 @@ use Rattle.cgm_atom.specs.Instance.{var_count}
 use Rattle.cgm_rows_problems.proofs.choices.follow.Given as goal
 
 abbrev pub invariant-loop-made : goal.invariant-loop-made
-invariant-loop-made g l = record {
+invariant-loop-made l = record {
   problem : l.t.problem ≡ l.p;
   order : length l.order.variables ≡ var_count l.p;
 }

@@ -2,5 +2,5 @@ use Rattle.cgm_rows_problems.proofs.Reasons.{driven_by_decision}
 use Rattle.cgm_rows_problems.proofs.lessons.decide.Goals as goal
 
 pub returns : goal.returns
-returns g c =
+returns c =
     driven_by_decision c.args.p.now c.args.log.now c.args.t.now c.open_level.new.self c.args.a c.requires c.in_ok-open_level.ensures.ok

@@ -3,7 +3,7 @@ use Rattle.cgm_clauses.specs.StoreState.{CanNamesLand, IsStoreOf}
 use Rattle.cgm_rows_problems.proofs.stores.add_all.Given as goal
 
 abbrev pub invariant-loop-statement : goal.invariant-loop-statement
-invariant-loop-statement g l = record {
+invariant-loop-statement l = record {
   store : IsStoreOf l.p l.s;
   names : CanNamesLand l.first l.s.added;
 }

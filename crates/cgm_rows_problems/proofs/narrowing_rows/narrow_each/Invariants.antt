@@ -1,5 +1,0 @@
-use Rattle.cgm_atom.specs.Bounds.{IsBoxOf}
-use Rattle.cgm_rows_problems.proofs.narrowing_rows.narrow_each.Given as goal
-
-abbrev pub invariant-loop-statement : goal.invariant-loop-statement
-invariant-loop-statement g l = IsBoxOf l.p.bounds l.b

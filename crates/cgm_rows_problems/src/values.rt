@@ -1,0 +1,122 @@
+// Which values are solutions of a problem: `holds` and values, or `breaks`, what they violate first,
+// and values. `sizes` has the numbers of variables, clauses and rows, and `atoms` a clause and the
+// atoms that it has. What a problem can't have is told by its variable, a row over it, and `stop`.
+ghost use Rattle.std.specs.Prelude.{◌<◌, ◌≤ℤ◌, IfSome};
+ghost use Rattle.cgm_atom.specs.Limits.{AreTermsOf};
+
+use crate::problems::{bounds, discard, row_of};
+use crate::words::{after, are_atoms, is_count, numbers, parted, place};
+use cgm_atom::{BuildStop, Problem, ProblemBuilder, Row, Violated, first_violated, satisfied};
+use std::alloc::Global;
+use std::test::Fail;
+
+/// The first statement of a case that isn't so of a copy of its problem.
+pub(crate) fn failing<'t>(
+    alloc: Global,
+    p: &Problem,
+    case: &'t str,
+) -> Result<Option<&'t str>, Fail> {
+    let copy = p.copy(alloc)?;
+    let failing = failing_of(alloc, &copy, case);
+    discard(copy);
+    failing
+}
+
+fn failing_of<'t>(alloc: Global, p: &Problem, case: &'t str) -> Result<Option<&'t str>, Fail> {
+    for statement in case.split(';') {
+        if !is_met(alloc, p, statement)? {
+            return Ok(Some(statement));
+        }
+    }
+    Ok(None)
+}
+
+/// Whether a statement about values is met.
+fn is_met(alloc: Global, p: &Problem, statement: &str) -> Result<bool, Fail> {
+    let (head, rest) = parted(statement);
+    match head {
+        "holds" => is_solved(alloc, p, rest),
+        "breaks" => is_broken(alloc, p, rest),
+        "sizes" => Ok(has_sizes(p, rest)),
+        "atoms" => has_atoms(alloc, p, rest),
+        _ => Ok(true),
+    }
+}
+
+fn is_solved(alloc: Global, p: &Problem, values: &str) -> Result<bool, Fail> {
+    Ok(satisfied(p, numbers(alloc, values)?.as_slice()))
+}
+
+fn is_broken(alloc: Global, p: &Problem, rest: &str) -> Result<bool, Fail> {
+    match rest.split_once(" : ") {
+        None => Err(Fail::new("no values")),
+        Some((part, values)) => breaks(alloc, p, violated(part)?, values),
+    }
+}
+
+/// Whether the values violate this first.
+fn breaks(alloc: Global, p: &Problem, first: Violated, values: &str) -> Result<bool, Fail> {
+    let values = numbers(alloc, values)?;
+    if satisfied(p, values.as_slice()) {
+        return Ok(false);
+    }
+    Ok(first_violated(p, values.as_slice()) == Some(first))
+}
+
+fn violated(words: &str) -> Result<Violated, Fail> {
+    match parted(words) {
+        ("bound", x) => Ok(Violated::Bound(place(x)?)),
+        ("clause", n) => Ok(Violated::Clause(place(n)?)),
+        ("row", n) => Ok(Violated::Row(place(n)?)),
+        ("count", _) => Ok(Violated::Count),
+        _ => Err(Fail::new("no part")),
+    }
+}
+
+fn has_sizes(p: &Problem, words: &str) -> bool {
+    let (variables, rest) = parted(words);
+    let (clauses, rows) = parted(rest);
+    is_count(variables, u64::from(p.vars()))
+        && is_count(clauses, u64::from(p.clauses()))
+        && is_count(rows, u64::from(p.rows()))
+}
+
+fn has_atoms(alloc: Global, p: &Problem, words: &str) -> Result<bool, Fail> {
+    let (n, wanted) = parted(words);
+    let n = place(n)?;
+    if n >= p.clauses() {
+        return Ok(false);
+    }
+    are_atoms(alloc, wanted, p.clause(n).atoms.as_slice())
+}
+
+/// Whether the builder refuses a case's variable or row as it says.
+pub(crate) fn is_stopped(alloc: Global, case: &str) -> Result<bool, Fail> {
+    let (lo, hi) = bounds(after(case, "vars"))?;
+    let row = row_of(alloc, 1, after(case, "row"))?;
+    Ok(stop_at(alloc, lo, hi, row) == stop(after(case, "stop")))
+}
+
+fn stop(word: &str) -> Option<BuildStop> {
+    match word {
+        "bound" => Some(BuildStop::Bound),
+        "row" => Some(BuildStop::Row),
+        _ => None,
+    }
+}
+
+/// Why the builder refuses a variable with these bounds or a row over it.
+fn stop_at(alloc: Global, lo: i64, hi: i64, row: Row) -> Option<BuildStop>
+    requires ordered { lo ≤ℤ hi }
+    requires guard { IfSome row.guard (λ g. g.var.0 < 1) }
+    requires terms { AreTermsOf 1 row.terms }
+{
+    let mut builder = ProblemBuilder::new(alloc);
+    match builder.var(lo, hi) {
+        Err(stop) => Some(stop),
+        Ok(_) => match builder.row(row) {
+            Err(stop) => Some(stop),
+            Ok(_) => None,
+        },
+    }
+}

@@ -2,7 +2,7 @@
 use crate::runs::{Ended, FIRST, has_answered, run_printing, run_words, shelf_of};
 use cgm_base::Status;
 use cgm_shelf::{MemShelf, MemSink};
-use cgm_trail::Work;
+use cgm_trail::{Trail, Work};
 use std::alloc::{AllocError, Global};
 use std::test::Fail;
 
@@ -10,7 +10,7 @@ use std::test::Fail;
 type Failing = (u64, u64, u64);
 
 /// The words of a run, what fails in it, its status, and how many faults the shelf and the sink count.
-type FaultRow<'s> = (&'s [&'s str], Failing, Status, (u64, u64, u64));
+type FaultRow = (&'static str, Failing, Status, (u64, u64, u64));
 
 /// The numbers of the calls that fail.
 fn failing(alloc: Global, number: u64) -> Result<Vec<u64>, AllocError> {
@@ -21,93 +21,134 @@ fn failing(alloc: Global, number: u64) -> Result<Vec<u64>, AllocError> {
     Ok(numbers)
 }
 
-/// Runs the words over a model, where these calls fail: the status and the faults that are counted.
-fn counted(
-    alloc: Global,
-    words: &[&str],
-    (read, write, print): Failing,
-) -> Result<(Status, (u64, u64, u64)), AllocError> {
-    let mut shelf = MemShelf::new(alloc, 8, failing(alloc, read)?, failing(alloc, write)?);
+/// A shelf with a model, of whose calls these fail.
+fn failing_shelf(alloc: Global, read: u64, write: u64) -> Result<MemShelf, AllocError> {
+    let reads = failing(alloc, read)?;
+    let mut shelf = MemShelf::new(alloc, 8, reads, failing(alloc, write)?);
     shelf.put("first.cgm", FIRST.as_bytes())?;
-    let sink = MemSink::new(alloc, 8, failing(alloc, print)?);
-    let ended = run_printing(alloc, words, &mut shelf, sink)?;
-    let faults = (
-        shelf.read_faults(),
-        shelf.write_faults(),
-        ended.sink.faults(),
-    );
-    Ok((ended.status, faults))
+    Ok(shelf)
 }
+
+/// Whether a run, where these calls fail, ends with this status, and these faults are counted.
+fn is_counted(
+    alloc: Global,
+    line: &str,
+    (read, write, print): Failing,
+    status: Status,
+    faults: (u64, u64, u64),
+) -> Result<bool, AllocError> {
+    let mut shelf = failing_shelf(alloc, read, write)?;
+    let sink = MemSink::new(alloc, 8, failing(alloc, print)?);
+    is_counted_by(alloc, line, &mut shelf, sink, status, faults)
+}
+
+fn is_counted_by(
+    alloc: Global,
+    line: &str,
+    shelf: &mut MemShelf,
+    sink: MemSink,
+    status: Status,
+    faults: (u64, u64, u64),
+) -> Result<bool, AllocError> {
+    let ended = run_printing(alloc, line, shelf, sink)?;
+    Ok(has_counts(&ended, shelf, status, faults))
+}
+
+fn has_counts(
+    ended: &Ended,
+    shelf: &MemShelf,
+    status: Status,
+    (read, write, print): (u64, u64, u64),
+) -> bool {
+    ended.status == status
+        && shelf.read_faults() == read
+        && shelf.write_faults() == write
+        && ended.sink.faults() == print
+}
+
+const FAULTS: &[FaultRow] = &[
+    ("solve first.cgm", (0, 0, 0), Status::Done, (0, 0, 0)),
+    ("solve nowhere.cgm", (0, 0, 0), Status::Read, (0, 0, 0)),
+    ("show nowhere.cgm", (0, 0, 0), Status::Read, (0, 0, 0)),
+    (
+        "check first.cgm nowhere.txt",
+        (0, 0, 0),
+        Status::Read,
+        (0, 0, 0),
+    ),
+    ("solve first.cgm", (2, 0, 0), Status::Read, (1, 0, 0)),
+    (
+        "solve first.cgm --cert=c.txt",
+        (0, 1, 0),
+        Status::Write,
+        (0, 1, 0),
+    ),
+    (
+        "solve first.cgm --cert=c.txt",
+        (0, 2, 0),
+        Status::Write,
+        (0, 1, 0),
+    ),
+    ("solve first.cgm", (0, 0, 2), Status::Write, (0, 0, 1)),
+];
 
 // A name that isn't there is no fault of the shelf.
 #[test]
 fn faults_that_are_counted(rt: HostRuntime) -> Result<(), Fail> {
-    let rows: [FaultRow<'_>; 8] = [
-        (&["solve", "first.cgm"], (0, 0, 0), Status::Done, (0, 0, 0)),
-        (
-            &["solve", "nowhere.cgm"],
-            (0, 0, 0),
-            Status::Read,
-            (0, 0, 0),
-        ),
-        (&["show", "nowhere.cgm"], (0, 0, 0), Status::Read, (0, 0, 0)),
-        (
-            &["check", "first.cgm", "nowhere.txt"],
-            (0, 0, 0),
-            Status::Read,
-            (0, 0, 0),
-        ),
-        (&["solve", "first.cgm"], (2, 0, 0), Status::Read, (1, 0, 0)),
-        (
-            &["solve", "first.cgm", "--cert=c.txt"],
-            (0, 1, 0),
-            Status::Write,
-            (0, 1, 0),
-        ),
-        (
-            &["solve", "first.cgm", "--cert=c.txt"],
-            (0, 2, 0),
-            Status::Write,
-            (0, 1, 0),
-        ),
-        (&["solve", "first.cgm"], (0, 0, 2), Status::Write, (0, 0, 1)),
-    ];
-    for (words, failing, status, faults) in rows {
-        let answer = counted(rt.alloc(), words, failing)?;
-        assert_eq!(rt; answer, (status, faults), "at {words:?}");
+    for (line, failing, status, faults) in FAULTS {
+        assert!(rt;
+            is_counted(rt.alloc(), line, *failing, *status, *faults)?,
+            "at {line} and {failing:?}"
+        );
     }
     Ok(())
 }
 
-/// The moves and restarts of the trails that are left, where there is at most one.
-fn left(work: &Work) -> Option<(u64, u32)> {
+/// The words of a run, and the moves and restarts of the trail that it leaves, if it leaves one.
+const LEFT: &[(&str, Option<(u64, u32)>)] = &[
+    ("solve model.cgm", None),
+    ("show model.cgm", None),
+    ("encode model.cgm", None),
+    ("check model.cgm c.txt", None),
+    ("solve model.cgm --workers=3 --budget=0", Some((0, 0))),
+    ("solve model.cgm --budget=2", Some((2, 0))),
+];
+
+/// Whether just this trail is left, or none.
+fn leaves(work: &Work, wanted: Option<(u64, u32)>) -> bool {
     match work.trails() {
-        [trail] => Some((trail.moves(), trail.restarts())),
-        _ => None,
+        [] => wanted.is_none(),
+        [trail] => wanted == Some(counts(trail)),
+        _ => false,
     }
+}
+
+/// The moves and restarts of a trail.
+fn counts(trail: &Trail) -> (u64, u32) {
+    (trail.moves(), trail.restarts())
+}
+
+/// Whether a run over a model leaves just this trail, or none.
+fn is_left(alloc: Global, line: &str, wanted: Option<(u64, u32)>) -> Result<bool, AllocError> {
+    let mut shelf = shelf_of(alloc, FIRST.as_bytes(), "c.txt", b"cgm-cert 1\n")?;
+    is_left_over(alloc, line, &mut shelf, wanted)
+}
+
+fn is_left_over(
+    alloc: Global,
+    line: &str,
+    shelf: &mut MemShelf,
+    wanted: Option<(u64, u32)>,
+) -> Result<bool, AllocError> {
+    let ended = run_words(alloc, line, shelf)?;
+    Ok(leaves(&ended.work, wanted))
 }
 
 // One worker works, and only a spent budget leaves its trail.
 #[test]
 fn trails_that_are_left(rt: HostRuntime) -> Result<(), Fail> {
-    let alloc = rt.alloc();
-    let rows: [(&[&str], usize, Option<(u64, u32)>); 6] = [
-        (&["solve", "model.cgm"], 0, None),
-        (&["show", "model.cgm"], 0, None),
-        (&["encode", "model.cgm"], 0, None),
-        (&["check", "model.cgm", "c.txt"], 0, None),
-        (
-            &["solve", "model.cgm", "--workers=3", "--budget=0"],
-            1,
-            Some((0, 0)),
-        ),
-        (&["solve", "model.cgm", "--budget=2"], 1, Some((2, 0))),
-    ];
-    for (words, count, trail) in rows {
-        let mut shelf = shelf_of(alloc, FIRST.as_bytes(), "c.txt", b"cgm-cert 1\n")?;
-        let ended = run_words(alloc, words, &mut shelf)?;
-        assert_eq!(rt; ended.work.trails().len(), count, "at {words:?}");
-        assert_eq!(rt; left(&ended.work), trail, "at {words:?}");
+    for (line, wanted) in LEFT {
+        assert!(rt; is_left(rt.alloc(), line, *wanted)?, "at {line}");
     }
     Ok(())
 }
@@ -118,16 +159,50 @@ const CHEAP: &str =
 const CHEAP_REPORT: &str =
     "realized\nobjective min cost 5\ngoal G true\ntask A false\ntask B true\nrefine R1 false\nrefine R2 true\nsum cost 5\n";
 
-/// Solves a model with this option and writes a certificate, and checks it.
-fn solve_and_check(alloc: Global, model: &str, option: &str) -> Result<(Ended, Ended), AllocError> {
-    let mut shelf = shelf_of(alloc, model.as_bytes(), "old.txt", b"earlier 1\n")?;
-    let words = ["solve", "model.cgm", "--cert=c.txt", option];
-    let solved = run_words(alloc, &words, &mut shelf)?;
-    let checked = run_words(alloc, &["check", "model.cgm", "c.txt"], &mut shelf)?;
-    Ok((solved, checked))
+/// Whether a search of this budget and a check of its certificate end alike.
+fn is_alike(alloc: Global, budget: u64) -> Result<bool, AllocError> {
+    let line = format!(in alloc; "solve model.cgm --cert=c.txt --budget={budget}")?;
+    let mut shelf = shelf_of(alloc, CHEAP.as_bytes(), "old.txt", b"earlier 1\n")?;
+    is_alike_over(alloc, budget, line.as_str(), &mut shelf)
 }
 
-/// Whether both runs left it open and tell the same best, or none, after a search of this budget.
+fn is_alike_over(
+    alloc: Global,
+    budget: u64,
+    line: &str,
+    shelf: &mut MemShelf,
+) -> Result<bool, AllocError> {
+    let solved = run_words(alloc, line, shelf)?;
+    is_checked_alike(alloc, budget, &solved, shelf)
+}
+
+fn is_checked_alike(
+    alloc: Global,
+    budget: u64,
+    solved: &Ended,
+    shelf: &mut MemShelf,
+) -> Result<bool, AllocError> {
+    let checked = run_words(alloc, "check model.cgm c.txt", shelf)?;
+    are_alike(alloc, budget, solved, &checked)
+}
+
+/// Whether both runs left it open and tell the same best, or none, after a search of this budget, or
+/// both have the same report.
+fn are_alike(
+    alloc: Global,
+    budget: u64,
+    solved: &Ended,
+    checked: &Ended,
+) -> Result<bool, AllocError> {
+    if solved.status == Status::Open {
+        return are_open_alike(alloc, budget, solved, checked);
+    }
+    Ok(
+        has_answered(solved, Status::Done, CHEAP_REPORT.as_bytes())
+            && has_answered(checked, Status::Done, CHEAP_REPORT.as_bytes()),
+    )
+}
+
 fn are_open_alike(
     alloc: Global,
     budget: u64,
@@ -135,29 +210,23 @@ fn are_open_alike(
     checked: &Ended,
 ) -> Result<bool, AllocError> {
     let front = format!(in alloc; "exhausted\nspent 0 {budget}\n")?;
-    match (
-        solved.sink.written().strip_prefix(front.as_bytes()),
-        checked.sink.written().strip_prefix(b"open\n"),
-    ) {
-        (Some(one), Some(other)) => Ok(checked.status == Status::Open && one == other),
-        _ => Ok(false),
+    let best = solved.sink.written().strip_prefix(front.as_bytes());
+    Ok(checked.status == Status::Open && has_open_best(checked.sink.written(), best))
+}
+
+/// Whether a report says that it is open, and then tells this best.
+fn has_open_best(report: &[u8], best: Option<&[u8]>) -> bool {
+    match (report.strip_prefix(b"open\n"), best) {
+        (Some(other), Some(best)) => other == best,
+        _ => false,
     }
 }
 
 // With a budget that is spent, `check` tells the best that `solve` tells; otherwise the same report.
 #[test]
 fn each_budget(rt: HostRuntime) -> Result<(), Fail> {
-    let alloc = rt.alloc();
     for budget in 1..40_u64 {
-        let option = format!(in alloc; "--budget={budget}")?;
-        let (solved, checked) = solve_and_check(alloc, CHEAP, option.as_str())?;
-        let alike = if solved.status == Status::Open {
-            are_open_alike(alloc, budget, &solved, &checked)?
-        } else {
-            has_answered(&solved, Status::Done, CHEAP_REPORT.as_bytes())
-                && has_answered(&checked, Status::Done, CHEAP_REPORT.as_bytes())
-        };
-        assert!(rt; alike, "at {budget}");
+        assert!(rt; is_alike(rt.alloc(), budget)?, "at {budget}");
     }
     Ok(())
 }

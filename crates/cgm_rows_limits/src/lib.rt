@@ -1,4 +1,5 @@
-//! Limits that only long texts meet, and counts that no text tells, by the whole program, as tests.
+//! Limits that only long texts meet, and counts that no text tells, by the whole program, and the
+//! shelves and sinks by themselves, as tests.
 #![tactic(auto)]
 
 #[cfg(test)]
@@ -7,5 +8,7 @@ mod count_rows;
 mod limit_rows;
 #[cfg(test)]
 mod runs;
+#[cfg(test)]
+mod shelf_rows;
 #[cfg(test)]
 mod texts;

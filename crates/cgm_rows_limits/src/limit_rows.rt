@@ -1,30 +1,37 @@
 // Each limit that only a long text meets, at its number and one past it.
 use crate::runs::prints;
-use crate::texts::{padded, push_all_numbered, push_numbered, repeated};
+use crate::texts::{padded, push_all_numbered, repeated};
 use cgm_base::Status;
 use std::alloc::{AllocError, Global};
-use std::process::Abort;
 use std::test::Fail;
 
-/// Asserts that `show` of the model ends with the status and prints these bytes.
-fn shows(
-    rt: &impl Abort,
-    alloc: Global,
-    model: &[u8],
-    printed: (Status, &[u8]),
-) -> Result<(), Fail> {
+/// Whether `show` of the model ends with the status and prints these bytes.
+fn shows(alloc: Global, model: &[u8], status: Status, printed: &[u8]) -> Result<bool, AllocError> {
     prints(
-        rt,
         alloc,
-        &["show", "model.cgm"],
+        "show model.cgm",
         model,
         ("old.txt", b""),
-        printed,
+        (status, printed),
     )
 }
 
+/// Whether a text is shown as it is, and with one line more a fault is told.
+fn is_limited(
+    alloc: Global,
+    text: &mut Vec<u8>,
+    line: &str,
+    fault: &str,
+) -> Result<bool, AllocError> {
+    if !shows(alloc, text.as_slice(), Status::Done, text.as_slice())? {
+        return Ok(false);
+    }
+    text.extend_from_slice(line.as_bytes())?;
+    shows(alloc, text.as_slice(), Status::Limit, fault.as_bytes())
+}
+
 /// A front, a line behind it, how often it stands there at most, and the fault of one more.
-const REPEATED: [(&str, &str, u32, &str); 2] = [
+const REPEATED: &[(&str, &str, u32, &str)] = &[
     (
         "cgm 1\ngoal G\ntask T\nrefine R G : T\n",
         "bind R R\n",
@@ -39,71 +46,92 @@ const REPEATED: [(&str, &str, u32, &str); 2] = [
     ),
 ];
 
-// As many lines as there may be are printed as they are; one more is told.
+/// Whether so many of a line are shown as they are, and one more is told.
+fn is_repeated(
+    alloc: Global,
+    front: &str,
+    line: &str,
+    most: u32,
+    fault: &str,
+) -> Result<bool, AllocError> {
+    let mut text = repeated(alloc, front, line, most)?;
+    is_limited(alloc, &mut text, line, fault)
+}
+
 #[test]
 fn statements_and_formula_nodes(rt: HostRuntime) -> Result<(), Fail> {
-    let alloc = rt.alloc();
     for (front, line, most, fault) in REPEATED {
-        let mut text = repeated(alloc, front, line, most)?;
-        shows(&rt, alloc, text.as_slice(), (Status::Done, text.as_slice()))?;
-        text.extend_from_slice(line.as_bytes())?;
-        shows(
-            &rt,
-            alloc,
-            text.as_slice(),
-            (Status::Limit, fault.as_bytes()),
-        )?;
+        assert!(rt;
+            is_repeated(rt.alloc(), front, line, *most, fault)?,
+            "at {fault}"
+        );
     }
     Ok(())
 }
 
-/// A front, what stands around the number of each line, and the fault of line number 20,001.
-const NUMBERED: [(&str, (&str, &str), &str); 2] = [
+/// A front, what stands around the number of each of 20,000 lines, one line more, and its fault.
+const NUMBERED: &[(&str, (&str, &str), &str, &str)] = &[
     (
         "cgm 1\n",
         ("task TaskOfManyTasks", "\n"),
+        "task TaskOfManyTasks20000\n",
         "fault limit elements 20000 20002\n",
     ),
     (
         "cgm 1\ngoal G\ntask T\n",
         ("refine R", " G : T\n"),
+        "refine R20000 G : T\n",
         "fault limit refinements 20000 20004\n",
     ),
 ];
 
+/// Whether 20,000 numbered lines are shown as they are, and one more is told.
+fn is_numbered(
+    alloc: Global,
+    front: &str,
+    around: (&str, &str),
+    line: &str,
+    fault: &str,
+) -> Result<bool, AllocError> {
+    let mut text = Vec::from_slice(alloc, front.as_bytes())?;
+    push_all_numbered(alloc, &mut text, around, 20_000)?;
+    is_limited(alloc, &mut text, line, fault)
+}
+
 #[test]
 fn elements_and_refinements(rt: HostRuntime) -> Result<(), Fail> {
-    let alloc = rt.alloc();
-    for (front, around, fault) in NUMBERED {
-        let mut text = Vec::from_slice(alloc, front.as_bytes())?;
-        push_all_numbered(alloc, &mut text, around, 20_000)?;
-        shows(&rt, alloc, text.as_slice(), (Status::Done, text.as_slice()))?;
-        push_numbered(alloc, &mut text, around, 20_000)?;
-        shows(
-            &rt,
-            alloc,
-            text.as_slice(),
-            (Status::Limit, fault.as_bytes()),
-        )?;
+    for (front, around, line, fault) in NUMBERED {
+        assert!(rt;
+            is_numbered(rt.alloc(), front, *around, line, fault)?,
+            "at {fault}"
+        );
     }
     Ok(())
 }
 
 /// The words of a run, the file that is long, its front, the byte that follows and how often, the
 /// status, and what is printed.
-type LongRow<'s> = (&'s [&'s str], &'s str, &'s str, u8, usize, Status, &'s str);
+type LongRow = (
+    &'static str,
+    &'static str,
+    &'static str,
+    u8,
+    usize,
+    Status,
+    &'static str,
+);
 
-const SHOW: &[&str] = &["show", "model.cgm"];
+const SHOW: &str = "show model.cgm";
 
-const SOLVE: &[&str] = &["solve", "model.cgm", "--earlier=old.txt"];
+const SOLVE: &str = "solve model.cgm --earlier=old.txt";
 
-const CHECK: &[&str] = &["check", "model.cgm", "c.txt"];
+const CHECK: &str = "check model.cgm c.txt";
 
 const TOO_LONG: &str = "fault limit text-bytes 16777216 0\n";
 
 /// A model and an earlier text at the limit on bytes and one past it, and files that are no
 /// certificate, for which that is no limit.
-const LONG: [LongRow<'static>; 9] = [
+const LONG: &[LongRow] = &[
     (
         SHOW,
         "model.cgm",
@@ -187,80 +215,92 @@ const LONG: [LongRow<'static>; 9] = [
     ),
 ];
 
+/// Whether a run over a long file ends with the status and prints this.
+fn is_long(alloc: Global, row: &LongRow) -> Result<bool, AllocError> {
+    let (line, name, front, byte, count, status, printed) = *row;
+    let bytes = padded(alloc, front, byte, count)?;
+    prints(
+        alloc,
+        line,
+        b"cgm 1\n",
+        (name, bytes.as_slice()),
+        (status, printed.as_bytes()),
+    )
+}
+
 #[test]
 fn long_files(rt: HostRuntime) -> Result<(), Fail> {
-    let alloc = rt.alloc();
-    for (words, name, front, byte, count, status, printed) in LONG {
-        let bytes = padded(alloc, front, byte, count)?;
-        let printed = (status, printed.as_bytes());
-        prints(
-            &rt,
-            alloc,
-            words,
-            b"cgm 1\n",
-            (name, bytes.as_slice()),
-            printed,
-        )?;
+    for row in LONG {
+        assert!(rt; is_long(rt.alloc(), row)?, "at {row:?}");
     }
     Ok(())
 }
 
 /// The header, 4,000 variables on the lines 2 to 4001, and a rule whose measure is 4·10^18 and the
 /// size of `most`.
-fn big_model(alloc: Global, most: i64) -> Result<Vec<u8>, AllocError> {
-    let mut text = Vec::from_slice(alloc, b"cgm 1\n")?;
-    push_all_numbered(
-        alloc,
-        &mut text,
-        ("var x", " -1000000000 1000000000\n"),
-        4_000,
-    )?;
+fn push_big_model(alloc: Global, text: &mut Vec<u8>, most: i64) -> Result<(), AllocError> {
+    text.extend_from_slice(b"cgm 1\n")?;
+    push_all_numbered(alloc, text, ("var x", " -1000000000 1000000000\n"), 4_000)?;
     text.extend_from_slice(b"require (<= (+")?;
-    push_all_numbered(alloc, &mut text, (" (* 1000000 x", ")"), 4_000)?;
+    push_all_numbered(alloc, text, (" (* 1000000 x", ")"), 4_000)?;
     let end = format!(in alloc; ") {most})\n")?;
-    text.extend_from_slice(end.as_bytes())?;
-    Ok(text)
+    text.extend_from_slice(end.as_bytes())
 }
 
 /// The text of the problem of that model with the most value 0.
-fn big_problem(alloc: Global) -> Result<Vec<u8>, AllocError> {
-    let mut text = Vec::from_slice(alloc, b"cgm-problem 1\n")?;
-    push_all_numbered(
-        alloc,
-        &mut text,
-        ("var ", " -1000000000 1000000000\n"),
-        4_000,
-    )?;
+fn push_big_problem(alloc: Global, text: &mut Vec<u8>) -> Result<(), AllocError> {
+    text.extend_from_slice(b"cgm-problem 1\n")?;
+    push_all_numbered(alloc, text, ("var ", " -1000000000 1000000000\n"), 4_000)?;
     text.extend_from_slice(b"var 4000 0 1\nclause 0 4000>=1\nrow 0 4000>=1 0")?;
-    push_all_numbered(alloc, &mut text, (" -1000000*", ""), 4_000)?;
+    push_all_numbered(alloc, text, (" -1000000*", ""), 4_000)?;
     text.extend_from_slice(b"\nrow 1 4000<=0 1")?;
-    push_all_numbered(alloc, &mut text, (" 1000000*", ""), 4_000)?;
-    text.extend_from_slice(b"\n")?;
-    Ok(text)
+    push_all_numbered(alloc, text, (" 1000000*", ""), 4_000)?;
+    text.extend_from_slice(b"\n")
 }
+
+/// Whether a run over the model ends with the status and prints this.
+fn is_big(
+    alloc: Global,
+    line: &str,
+    most: i64,
+    status: Status,
+    printed: &[u8],
+) -> Result<bool, AllocError> {
+    let mut model = Vec::new(alloc);
+    push_big_model(alloc, &mut model, most)?;
+    prints(
+        alloc,
+        line,
+        model.as_slice(),
+        ("old.txt", b""),
+        (status, printed),
+    )
+}
+
+/// Whether `encode` prints the problem at the limit.
+fn is_encoded(alloc: Global) -> Result<bool, AllocError> {
+    let mut problem = Vec::new(alloc);
+    push_big_problem(alloc, &mut problem)?;
+    is_big(
+        alloc,
+        "encode model.cgm",
+        0,
+        Status::Done,
+        problem.as_slice(),
+    )
+}
+
+const ROW: &[u8] = b"fault limit row 4000000000000000000 4002\n";
 
 // `encode` and `solve` tell the fault of one more.
 #[test]
 fn row_limit(rt: HostRuntime) -> Result<(), Fail> {
-    let alloc = rt.alloc();
-    let problem = big_problem(alloc)?;
-    let fault = b"fault limit row 4000000000000000000 4002\n";
-    let rows: [(&str, i64, Status, &[u8]); 3] = [
-        ("encode", 0, Status::Done, problem.as_slice()),
-        ("encode", 1, Status::Limit, fault),
-        ("solve", 1, Status::Limit, fault),
-    ];
-    for (command, most, status, printed) in rows {
-        let model = big_model(alloc, most)?;
-        let words = [command, "model.cgm"];
-        prints(
-            &rt,
-            alloc,
-            &words,
-            model.as_slice(),
-            ("old.txt", b""),
-            (status, printed),
-        )?;
+    assert!(rt; is_encoded(rt.alloc())?);
+    for line in ["encode model.cgm", "solve model.cgm"] {
+        assert!(rt;
+            is_big(rt.alloc(), line, 1, Status::Limit, ROW)?,
+            "at {line}"
+        );
     }
     Ok(())
 }

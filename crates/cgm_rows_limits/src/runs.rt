@@ -4,8 +4,6 @@ use cgm_cli::run_quiet;
 use cgm_shelf::{MemShelf, MemSink};
 use cgm_trail::Work;
 use std::alloc::{AllocError, Global};
-use std::process::Abort;
-use std::test::Fail;
 
 pub(crate) const FIRST: &str = "cgm 1\ngoal G must\ntask T\nrefine R G : T\n";
 
@@ -17,35 +15,44 @@ pub(crate) struct Ended {
     pub(crate) work: Work,
 }
 
-fn owned_words(alloc: Global, words: &[&str]) -> Result<Vec<String>, AllocError> {
+/// The words of a line, which single spaces part.
+fn owned_words(alloc: Global, line: &str) -> Result<Vec<String>, AllocError> {
     let mut owned = Vec::new(alloc);
-    for word in words {
+    for word in line.split(' ') {
         owned.push(String::from_str(alloc, word)?)?;
     }
     Ok(owned)
 }
 
-/// Runs these words, printing to this sink.
+/// Runs the words of a line, printing to this sink.
 pub(crate) fn run_printing(
     alloc: Global,
-    words: &[&str],
+    line: &str,
     shelf: &mut MemShelf,
-    mut sink: MemSink,
+    sink: MemSink,
 ) -> Result<Ended, AllocError> {
-    let mut work = Work::new(alloc);
-    let owned = owned_words(alloc, words)?;
-    let status = run_quiet(alloc, owned.as_slice(), shelf, &mut sink, &mut work);
-    Ok(Ended { status, sink, work })
+    let words = owned_words(alloc, line)?;
+    Ok(run_to_end(alloc, words.as_slice(), shelf, sink))
 }
 
-/// Runs these words, printing to a sink that never fails.
+fn run_to_end(alloc: Global, words: &[String], shelf: &mut MemShelf, mut sink: MemSink) -> Ended {
+    let mut work = Work::new(alloc);
+    let status = run_quiet(alloc, words, shelf, &mut sink, &mut work);
+    Ended { status, sink, work }
+}
+
+/// Runs the words of a line, printing to a sink that never fails.
 pub(crate) fn run_words(
     alloc: Global,
-    words: &[&str],
+    line: &str,
     shelf: &mut MemShelf,
 ) -> Result<Ended, AllocError> {
-    let sink = MemSink::new(alloc, 65_536, Vec::new(alloc));
-    run_printing(alloc, words, shelf, sink)
+    run_printing(
+        alloc,
+        line,
+        shelf,
+        MemSink::new(alloc, 65_536, Vec::new(alloc)),
+    )
 }
 
 /// A shelf that never fails, with a model and another file.
@@ -66,18 +73,25 @@ pub(crate) fn has_answered(ended: &Ended, status: Status, printed: &[u8]) -> boo
     ended.status == status && ended.sink.written() == printed
 }
 
-/// Asserts that the words end with the status and print these bytes, with a model and another file.
+/// Whether the words of a line end with the status and print these bytes, with a model and another file.
 pub(crate) fn prints(
-    rt: &impl Abort,
     alloc: Global,
-    words: &[&str],
+    line: &str,
     model: &[u8],
     (name, bytes): (&str, &[u8]),
     (status, printed): (Status, &[u8]),
-) -> Result<(), Fail> {
+) -> Result<bool, AllocError> {
     let mut shelf = shelf_of(alloc, model, name, bytes)?;
-    let ended = run_words(alloc, words, &mut shelf)?;
-    assert_eq!(rt; ended.status, status);
-    assert!(rt; ended.sink.written() == printed);
-    Ok(())
+    prints_over(alloc, line, &mut shelf, status, printed)
+}
+
+fn prints_over(
+    alloc: Global,
+    line: &str,
+    shelf: &mut MemShelf,
+    status: Status,
+    printed: &[u8],
+) -> Result<bool, AllocError> {
+    let ended = run_words(alloc, line, shelf)?;
+    Ok(has_answered(&ended, status, printed))
 }

@@ -16,7 +16,7 @@ pub(crate) fn repeated(
 }
 
 /// Adds a number with what stands before and behind it.
-pub(crate) fn push_numbered(
+fn push_numbered(
     alloc: Global,
     text: &mut Vec<u8>,
     (head, tail): (&str, &str),

@@ -43,3 +43,13 @@ pub(crate) fn numbers(alloc: Global, word: &str) -> Result<Vec<i64>, Fail> {
     }
     Ok(all)
 }
+
+/// Whether the word's digits are these truths.
+pub(crate) fn are_truths(alloc: Global, word: &str, found: &[bool]) -> Result<bool, Fail> {
+    Ok(truths(alloc, word)?.as_slice() == found)
+}
+
+/// Whether the word has these numbers.
+pub(crate) fn are_numbers(alloc: Global, word: &str, found: &[i64]) -> Result<bool, Fail> {
+    Ok(numbers(alloc, word)?.as_slice() == found)
+}

@@ -3,9 +3,10 @@ use cgm_base::Status;
 use cgm_lex::tokens;
 use cgm_model::{Name, Parts};
 use cgm_obj::less;
+use std::alloc::{AllocError, Global};
 use std::test::Fail;
 
-const CODES: [(Status, u8); 11] = [
+const CODES: &[(Status, u8)] = &[
     (Status::Done, 0),
     (Status::Unrealizable, 1),
     (Status::Usage, 2),
@@ -22,33 +23,42 @@ const CODES: [(Status, u8); 11] = [
 #[test]
 fn codes(rt: HostRuntime) {
     for (status, code) in CODES {
-        assert!(rt; status.code() == code, "at {code}");
+        assert!(rt; status.code() == *code, "at {code}");
     }
+}
+
+/// Whether a list grows, and gives back what it has.
+fn grows(alloc: Global) -> Result<bool, AllocError> {
+    let mut parts = Parts::of(vec![in alloc; 3, 5]?);
+    parts.push(7)?;
+    let is_seen = parts.as_slice() == [3, 5, 7].as_slice();
+    Ok(is_seen && parts.into_inner().as_slice() == [3, 5, 7].as_slice())
+}
+
+/// Whether a name grows, and gives back what it has.
+fn grows_in_name(alloc: Global) -> Result<bool, AllocError> {
+    let mut name = Name::of(String::from_str(alloc, "R")?);
+    name.push('1')?;
+    let is_seen = name.as_slice() == b"R1".as_slice();
+    Ok(is_seen && name.into_inner().as_str() == "R1")
 }
 
 #[test]
 fn lists_and_names(rt: HostRuntime) -> Result<(), Fail> {
-    let mut parts = Parts::of(vec![in rt.alloc(); 3, 5]?);
-    parts.push(7)?;
-    assert!(rt; parts.as_slice() == [3, 5, 7].as_slice());
-    assert!(rt; parts.into_inner().as_slice() == [3, 5, 7].as_slice());
-    let mut name = Name::of(String::from_str(rt.alloc(), "R")?);
-    name.push('1')?;
-    assert!(rt; name.as_slice() == b"R1".as_slice());
-    assert!(rt; name.into_inner().as_str() == "R1");
+    assert!(rt; grows(rt.alloc())?);
+    assert!(rt; grows_in_name(rt.alloc())?);
     Ok(())
 }
 
 #[test]
 fn tokens_of_a_text(rt: HostRuntime) -> Result<(), Fail> {
     let lexed = tokens(rt.alloc(), b"goal G must # why\n\ntask T\n")?;
-    assert!(rt; lexed.tokens.len() == 5);
-    assert!(rt; lexed.fault.is_none());
+    assert!(rt; lexed.tokens.len() == 5 && lexed.fault.is_none());
     Ok(())
 }
 
 /// Vectors, and whether the first is less.
-const VECTORS: [([i64; 2], [i64; 2], bool); 5] = [
+const VECTORS: &[([i64; 2], [i64; 2], bool)] = &[
     ([1, 9], [2, 0], true),
     ([2, 0], [1, 9], false),
     ([1, -3], [1, -2], true),
@@ -60,7 +70,7 @@ const VECTORS: [([i64; 2], [i64; 2], bool); 5] = [
 fn order_of_vectors(rt: HostRuntime) {
     for (first, second, answer) in VECTORS {
         assert!(rt;
-            less(&first, &second) == answer,
+            less(first, second) == *answer,
             "at {first:?} and {second:?}"
         );
     }

@@ -11,8 +11,14 @@ mod earlier_rows;
 #[cfg(test)]
 mod encoding_rows;
 #[cfg(test)]
+mod encodings;
+#[cfg(test)]
 mod model_rows;
 #[cfg(test)]
 mod models;
+#[cfg(test)]
+mod questions;
+#[cfg(test)]
+mod shown;
 #[cfg(test)]
 mod verify_rows;

@@ -1,6 +1,6 @@
-// Models, and what is asked of them. The questions are those of `models`.
-use crate::models::are_answered;
-use std::alloc::Global;
+// Models, and what is asked of them. The questions are those of `questions`.
+use crate::models::{Asked, answers};
+use std::alloc::{AllocError, Global};
 use std::test::Fail;
 
 /// Model texts and their questions.
@@ -47,29 +47,40 @@ const CASES: &[(&str, &str)] = &[
 #[test]
 fn models(rt: HostRuntime) -> Result<(), Fail> {
     for (text, questions) in CASES {
-        are_answered(&rt, rt.alloc(), text, questions)?;
+        answers(&rt, rt.alloc(), text, &Asked::Questions(questions))?;
     }
     Ok(())
 }
 
 /// A requirement that so many variables of 1000000000, each times 1000000, are at most the greatest
 /// number of 64 bits.
-fn text_of_a_great_sum(alloc: Global, count: u32) -> Result<String, Fail> {
+fn text_of_a_great_sum(alloc: Global, count: u32) -> Result<String, AllocError> {
     let mut text = String::from_str(alloc, "cgm 1\n")?;
-    let mut terms = String::new(alloc);
-    for number in 1..=count {
-        let line = format!(in alloc; "var X{number} 0 1000000000\n")?;
-        text.push_str(line.as_str())?;
-        let term = format!(in alloc; " (* 1000000 X{number})")?;
-        terms.push_str(term.as_str())?;
-    }
-    let rule = format!(in alloc; "require (<= (+{terms}) 9223372036854775807)\n")?;
-    text.push_str(rule.as_str())?;
+    push_variables(alloc, &mut text, count)?;
+    text.push_str("require (<= (+")?;
+    push_terms(alloc, &mut text, count)?;
+    text.push_str(") 9223372036854775807)\n")?;
     Ok(text)
 }
 
+fn push_variables(alloc: Global, text: &mut String, count: u32) -> Result<(), AllocError> {
+    for number in 1..=count {
+        let line = format!(in alloc; "var X{number} 0 1000000000\n")?;
+        text.push_str(line.as_str())?;
+    }
+    Ok(())
+}
+
+fn push_terms(alloc: Global, text: &mut String, count: u32) -> Result<(), AllocError> {
+    for number in 1..=count {
+        let term = format!(in alloc; " (* 1000000 X{number})")?;
+        text.push_str(term.as_str())?;
+    }
+    Ok(())
+}
+
 /// The question which rule so many such numbers break.
-fn question_of_a_great_sum(alloc: Global, count: u32, wanted: &str) -> Result<String, Fail> {
+fn question_of_a_great_sum(alloc: Global, count: u32, wanted: &str) -> Result<String, AllocError> {
     let mut question = String::from_str(alloc, "by - - 1000000000")?;
     for _ in 1..count {
         question.push_str(",1000000000")?;
@@ -79,13 +90,17 @@ fn question_of_a_great_sum(alloc: Global, count: u32, wanted: &str) -> Result<St
     Ok(question)
 }
 
+/// Counts of such numbers, and the rule that they break.
+const GREAT: &[(u32, &str)] = &[(9223, "none"), (9224, "rule 0")];
+
 // Terms are added up exactly past 64 bits.
 #[test]
 fn great_sums(rt: HostRuntime) -> Result<(), Fail> {
-    for (count, wanted) in [(9223, "none"), (9224, "rule 0")] {
-        let text = text_of_a_great_sum(rt.alloc(), count)?;
-        let question = question_of_a_great_sum(rt.alloc(), count, wanted)?;
-        are_answered(&rt, rt.alloc(), text.as_str(), question.as_str())?;
+    for (count, wanted) in GREAT {
+        let text = text_of_a_great_sum(rt.alloc(), *count)?;
+        let question = question_of_a_great_sum(rt.alloc(), *count, wanted)?;
+        let asked = Asked::Questions(question.as_str());
+        answers(&rt, rt.alloc(), text.as_str(), &asked)?;
     }
     Ok(())
 }

@@ -1,82 +1,72 @@
-// Models of texts, and what is asked of them. `by` has an assignment and the first rule that it breaks,
-// or `none`, and `fits` an assignment and whether it fits; the answer stands behind `=`.
-use crate::assignments::{assignment, parted};
-use cgm_model::{Broken, Model, fits, is_realization, sums};
+// Models of texts, and what is asked of them.
+use crate::shown::{Shown, are_lines, is_shown};
+use crate::{encodings, questions};
+use cgm_evolve::Earlier;
+use cgm_model::Model;
 use cgm_text::read;
 use std::alloc::Global;
 use std::process::Abort;
 use std::test::Fail;
 
-pub(crate) fn model_of(alloc: Global, text: &str) -> Result<Model, Fail> {
+/// What is asked of a model.
+#[derive(Clone, Copy)]
+pub(crate) enum Asked<'t> {
+    /// Questions of `questions`.
+    Questions(&'t str),
+    /// Questions of `encodings`.
+    Encoded(&'t str),
+    /// A certificate, and what its entries show.
+    Entries(&'t str, Shown<'t>),
+    /// An assignment, its vector, and the lines that show them.
+    Lines(&'t str, &'t str, &'t str),
+}
+
+/// Asserts that a model is answered so.
+pub(crate) fn answers(
+    rt: &impl Abort,
+    alloc: Global,
+    text: &str,
+    asked: &Asked<'_>,
+) -> Result<(), Fail> {
+    assert!(rt; is_answered(alloc, text, asked)?, "at {text}");
+    Ok(())
+}
+
+fn is_answered(alloc: Global, text: &str, asked: &Asked<'_>) -> Result<bool, Fail> {
+    let m = model_of(alloc, text)?;
+    let answered = is_answered_by(alloc, &m, asked);
+    discard(m);
+    answered
+}
+
+fn model_of(alloc: Global, text: &str) -> Result<Model, Fail> {
     if text.len() > 16_777_216 {
         return Err(Fail::new("the text is too long"));
     }
     Ok(read(alloc, text.as_bytes())?.model)
 }
 
-/// Asks a model, and asserts each answer.
-pub(crate) fn are_answered(
-    rt: &impl Abort,
-    alloc: Global,
-    text: &str,
-    questions: &str,
-) -> Result<(), Fail> {
-    let m = model_of(alloc, text)?;
-    ask_all(rt, alloc, &m, questions)
+/// Gives the memory of a model back.
+fn discard(m: Model) {
+    let _gone = m;
 }
 
-fn ask_all(rt: &impl Abort, alloc: Global, m: &Model, questions: &str) -> Result<(), Fail> {
-    for question in questions.split(';') {
-        assert!(rt; is_answered(rt, alloc, m, question)?, "at {question}");
-    }
-    Ok(())
+/// Whether a model is answered so, where no earlier realization is known.
+fn is_answered_by(alloc: Global, m: &Model, asked: &Asked<'_>) -> Result<bool, Fail> {
+    let earlier = Earlier::unknown(alloc);
+    is_answered_after(alloc, m, &earlier, asked)
 }
 
-fn is_answered(rt: &impl Abort, alloc: Global, m: &Model, question: &str) -> Result<bool, Fail> {
-    match question.split_once(" = ") {
-        None => Err(Fail::new("no question")),
-        Some((asked, wanted)) => {
-            let (head, words) = parted(asked);
-            match head {
-                "by" => breaks(rt, alloc, m, words, wanted),
-                "fits" => Ok(fits(m, &assignment(alloc, words)?) == (wanted == "yes")),
-                _ => Err(Fail::new("no question")),
-            }
-        }
-    }
-}
-
-/// Whether the first rule that a fitting assignment breaks is the wanted one.
-fn breaks(
-    rt: &impl Abort,
+fn is_answered_after(
     alloc: Global,
     m: &Model,
-    words: &str,
-    wanted: &str,
+    earlier: &Earlier,
+    asked: &Asked<'_>,
 ) -> Result<bool, Fail> {
-    let a = assignment(alloc, words)?;
-    assert!(rt; fits(m, &a));
-    let totals = sums(alloc, m, &a)?;
-    Ok(is_realization(m, &a, totals.as_slice()) == rule(wanted)?)
-}
-
-fn rule(words: &str) -> Result<Option<Broken>, Fail> {
-    match parted(words) {
-        ("none", _) => Ok(None),
-        (head, number) => Ok(Some(broken(head, number.parse()?)?)),
-    }
-}
-
-fn broken(head: &str, n: u32) -> Result<Broken, Fail> {
-    match head {
-        "refinement" => Ok(Broken::Refinement(n)),
-        "element" => Ok(Broken::Element(n)),
-        "contrib" => Ok(Broken::Contrib(n)),
-        "conflict" => Ok(Broken::Conflict(n)),
-        "bind" => Ok(Broken::Bind(n)),
-        "must" => Ok(Broken::Must(n)),
-        "assert" => Ok(Broken::Assert(n)),
-        "rule" => Ok(Broken::Rule(n)),
-        _ => Err(Fail::new("no rule")),
+    match asked {
+        Asked::Questions(questions) => questions::are_answered(alloc, m, questions),
+        Asked::Encoded(questions) => encodings::are_answered(alloc, m, earlier, questions),
+        Asked::Entries(certificate, shown) => is_shown(alloc, m, earlier, certificate, shown),
+        Asked::Lines(words, vector, lines) => are_lines(alloc, m, words, vector, lines),
     }
 }

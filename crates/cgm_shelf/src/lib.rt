@@ -6,8 +6,6 @@ mod host;
 mod mem_shelf;
 mod mem_sink;
 mod outside;
-#[cfg(test)]
-mod tests;
 mod whole;
 
 pub use host::{FileShelf, OutSink};

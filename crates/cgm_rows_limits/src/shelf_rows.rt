@@ -1,5 +1,5 @@
-//! Shelves and sinks: what came before a fault is kept, and faults are counted.
-use crate::{
+//! Shelves and sinks by themselves: what came before a fault is kept, and faults are counted.
+use cgm_shelf::{
     FileShelf, MemShelf, MemSink, NullSink, OutSink, ReadStop, Shelf, Sink, read_whole, write_file,
     write_whole,
 };

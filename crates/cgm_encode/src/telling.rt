@@ -1,5 +1,5 @@
 //! The values of naming variables.
-ghost use Rattle.std.specs.Prelude.{◌≡◌, ◌&&◌, ◌||◌, not, ◌++◌, ◌∷◌, [], map, pos, int_le, slice_index_or, false, All, IfOk, OnOk};
+ghost use Rattle.std.specs.Prelude.{◌≡◌, ◌&&◌, ◌||◌, not, ◌++◌, ◌∷◌, [], map, int_le, All, IfOk, OnOk};
 ghost use Rattle.std.specs.List.{list_all, list_any};
 ghost use Rattle.cgm_formula.specs.Reading.{name_in, number_in};
 ghost use Rattle.cgm_formula.specs.Sizes.{AreSmallIn, IsSmall};
@@ -9,7 +9,7 @@ ghost use Rattle.cgm_encode.specs.Assignments.{bit as bit_of};
 ghost use Rattle.cgm_encode.specs.Telling.{all_truths, rule_truths, told};
 
 use cgm_atom::OutOfMemory;
-use cgm_formula::{Assignment, Formula, Linear, Truth, value};
+use cgm_formula::{Assignment, Formula, Linear, Truth, truth_at, value};
 use cgm_model::Rule;
 use std::alloc::Global;
 
@@ -217,14 +217,5 @@ pub(crate) fn is_true(a: &Assignment, name: Truth) -> bool
     match name {
         Truth::Element(k) => truth_at(a.elements.as_slice(), k),
         Truth::Refinement(k) => truth_at(a.refinements.as_slice(), k),
-    }
-}
-
-fn truth_at(truths: &[bool], k: u32) -> bool
-    ensures { result ≡ slice_index_or truths.now k false }
-{
-    match truths.get(k as usize) {
-        None => false,
-        Some(truth) => *truth,
     }
 }

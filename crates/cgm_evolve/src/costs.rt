@@ -10,6 +10,7 @@ ghost use Rattle.cgm_evolve.specs.Costs as costs;
 ghost use Rattle.cgm_model.specs.Leaves.{leaf_tasks};
 
 use crate::earlier::Earlier;
+use cgm_formula::truth_at;
 use cgm_model::{Assignment, Model};
 
 /// The number of elements.
@@ -33,10 +34,7 @@ fn element_name(m: &Model, element: u32) -> &[u8]
 fn is_true(a: &Assignment, element: u32) -> bool
     ensures { result ≡ costs.is_true a.now element }
 {
-    match a.elements.as_slice().get(element as usize) {
-        None => false,
-        Some(truth) => *truth,
-    }
+    truth_at(a.elements.as_slice(), element)
 }
 
 fn earlier_truth(m: &Model, e: &Earlier, element: u32) -> Option<bool>

@@ -7,7 +7,7 @@ mod meaning;
 mod name;
 mod parts;
 
-pub use assignment::Assignment;
+pub use assignment::{Assignment, number_at, truth_at};
 pub use formula::{Formula, Linear, Number, Truth};
 pub use meaning::{holds, value};
 pub use name::Name;

@@ -1,11 +1,11 @@
 //! Truth of a formula, and value of a linear expression.
-ghost use Rattle.std.specs.Prelude.{◌≡◌, ◌+◌, ◌*◌, ◌^◌, ◌<◌, ◌&&◌, pos, false, ◌+ℤ◌, ◌*ℤ◌, int_le, unsigned_abs, slice_index_or, All};
+ghost use Rattle.std.specs.Prelude.{◌≡◌, ◌+◌, ◌*◌, ◌^◌, ◌<◌, ◌&&◌, ◌+ℤ◌, ◌*ℤ◌, int_le, unsigned_abs, All};
 ghost use Rattle.std.specs.List.{list_all, list_any};
 ghost use Rattle.cgm_formula.specs.Reading.{name_in, number_in};
 ghost use Rattle.cgm_formula.specs.Truth.{linear_value, total, truth};
 ghost use Rattle.cgm_formula.specs.Sizes.{IsSmall, AreSmallIn, size};
 
-use crate::assignment::Assignment;
+use crate::assignment::{Assignment, number_at, truth_at};
 use crate::formula::{Formula, Linear, Number, Truth};
 
 /// Says whether the formula holds under the assignment and the values of the sums. A name or
@@ -141,16 +141,4 @@ fn number(a: &Assignment, sums: &[i64], of: Number) -> i64
         Number::Var(number) => number_at(a.vars.as_slice(), number),
         Number::Sum(number) => number_at(sums, number),
     }
-}
-
-fn truth_at(values: &[bool], number: u32) -> bool
-    ensures { result ≡ slice_index_or values.now number false }
-{
-    values.get(number as usize).copied().unwrap_or(false)
-}
-
-fn number_at(values: &[i64], number: u32) -> i64
-    ensures { result ≡ slice_index_or values.now number (pos 0) }
-{
-    values.get(number as usize).copied().unwrap_or(0)
 }

@@ -15,7 +15,7 @@ ghost use Rattle.cgm_model.specs.Realization.{IsRealization, IsFirstBroken, Keep
 use crate::facts::by_target;
 use crate::lists::{Assertion, Edge, Element, Refinement, Rule};
 use crate::model::Model;
-use cgm_formula::{Assignment, Truth, holds};
+use cgm_formula::{Assignment, Truth, holds, truth_at};
 use sqlite_items::at;
 
 /// A rule that an assignment breaks, by the number of what it is about.
@@ -297,12 +297,6 @@ fn refinement_is_true(a: &Assignment, number: u32) -> bool
     ensures { result ≡ slice_index_or a.now.refinements number false }
 {
     truth_at(a.refinements.as_slice(), number)
-}
-
-fn truth_at(values: &[bool], number: u32) -> bool
-    ensures { result ≡ slice_index_or values.now number false }
-{
-    values.get(number as usize).copied().unwrap_or(false)
 }
 
 fn elements(m: &Model) -> &[Element]

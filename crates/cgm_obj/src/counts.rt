@@ -1,5 +1,5 @@
 //! Counts of preferences, requirements and tasks.
-ghost use Rattle.std.specs.Prelude.{◌≡◌, ◌&&◌, ◌≤◌, not, false, pos, count_by, length, slice_get, slice_index_or};
+ghost use Rattle.std.specs.Prelude.{◌≡◌, ◌&&◌, ◌≤◌, not, pos, count_by, length, slice_get};
 ghost use Rattle.cgm_base.specs.declared.limit.Which.TheVariants as limits;
 ghost use Rattle.cgm_base.specs.Words.{limit_number};
 ghost use Rattle.cgm_formula.specs.Reading.{name_in};
@@ -7,25 +7,14 @@ ghost use Rattle.cgm_model.specs.Model.{lists_of};
 ghost use Rattle.cgm_evolve.specs.Costs as costs;
 ghost use Rattle.cgm_obj.specs.Counts as counts;
 
+use cgm_formula::truth_at;
 use cgm_model::{Assignment, ElementKind, Model, Preference, Truth};
 
 /// Says whether the element is true; what isn't there is false, here and below.
 pub(crate) fn is_true(a: &Assignment, element: u32) -> bool
     ensures { result ≡ costs.is_true a.now element }
 {
-    match a.elements.as_slice().get(element as usize) {
-        None => false,
-        Some(truth) => *truth,
-    }
-}
-
-fn refinement_is_true(a: &Assignment, refinement: u32) -> bool
-    ensures { result ≡ slice_index_or a.now.refinements refinement false }
-{
-    match a.refinements.as_slice().get(refinement as usize) {
-        None => false,
-        Some(truth) => *truth,
-    }
+    truth_at(a.elements.as_slice(), element)
 }
 
 fn name_is_true(a: &Assignment, name: Truth) -> bool
@@ -33,7 +22,7 @@ fn name_is_true(a: &Assignment, name: Truth) -> bool
 {
     match name {
         Truth::Element(element) => is_true(a, element),
-        Truth::Refinement(refinement) => refinement_is_true(a, refinement),
+        Truth::Refinement(refinement) => truth_at(a.refinements.as_slice(), refinement),
     }
 }
 

@@ -1,5 +1,5 @@
 //! The value of a quantity.
-ghost use Rattle.std.specs.Prelude.{◌≡◌, pos, slice_index_or};
+ghost use Rattle.std.specs.Prelude.{◌≡◌};
 ghost use Rattle.cgm_model.specs.Assignment.{Fits};
 ghost use Rattle.cgm_model.specs.Model.{lists_of};
 ghost use Rattle.cgm_model.specs.Sums.{sums_of};
@@ -8,17 +8,8 @@ ghost use Rattle.cgm_obj.specs.Vector as vectors;
 use crate::counts::{sat_tasks, unsat_prefs, unsat_reqs};
 use crate::weights::weight;
 use cgm_evolve::{Earlier, effort, familiarity};
+use cgm_formula::number_at;
 use cgm_model::{Assignment, Model, Quantity};
-
-/// The number at this place, or 0 past the end.
-fn number_at(numbers: &[i64], place: u32) -> i64
-    ensures { result ≡ slice_index_or numbers.now place (pos 0) }
-{
-    match numbers.get(place as usize) {
-        None => 0,
-        Some(number) => *number,
-    }
-}
 
 /// The value of a quantity.
 pub(crate) fn quantity(m: &Model, e: &Earlier, a: &Assignment, sums: &[i64], q: Quantity) -> i64

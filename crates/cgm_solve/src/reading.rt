@@ -6,6 +6,7 @@ ghost use Rattle.cgm_solve.specs.Readings.{Reads};
 
 use cgm_atom::{OutOfMemory, Seq, Var};
 use cgm_encode::{Encoded, Found, decode};
+use cgm_formula::number_at;
 use std::alloc::Global;
 
 /// The realization that a solution of the encoding stands for, with its vector.
@@ -39,8 +40,5 @@ fn objective_values(
 fn value_at(values: &[i64], v: Var) -> i64
     ensures { result ≡ value_of values.now v.0 }
 {
-    match values.get(v.0 as usize) {
-        None => 0,
-        Some(value) => *value,
-    }
+    number_at(values, v.0)
 }

@@ -19,6 +19,7 @@ use Rattle.cgm_formula.proofs.Induction.{by_cases}
 use Rattle.cgm_model.specs.declared.lists.Lists.{Lists}
 use Rattle.cgm_model.specs.declared.lists.Rule.{Rule}
 use Rattle.cgm_model.specs.Formulas.{IsKnownTruth, formula_of, has_distinct_terms}
+use Rattle.cgm_model.specs.TruthVariables.{truth_variables, variable_of}
 use Rattle.cgm_model.specs.WellFormed.{IsRule, IsWellFormed}
 use Rattle.cgm_enc_formula.specs.declared.literals.Literal.{Literal}
 use Rattle.cgm_enc_formula.specs.Definitions.{AreDefinitionsFrom, Definition, IsDefinitionOf, all_of, any_of, at_least, at_most, same_as}
@@ -29,7 +30,6 @@ use Rattle.cgm_enc_formula.specs.Terms.{model_variables, nonzero, row_terms, var
 use Rattle.cgm_enc_formula.proofs.Splits.{name_of_name, names_of_conjunction, names_of_disjunction, names_of_equivalence, names_of_implication, names_of_negation}
 use Rattle.cgm_enc_formula.proofs.TermOrders.{row_terms_known, terms_known, terms_wider}
 use Rattle.cgm_enc_formula.proofs.WellFormedRules.{each_rule}
-use Rattle.cgm_enc_graph.specs.Literals.{truth_variables, variable_of}
 
 pub known_both : (n : ℕ) (xs ys : List Definition) → AreDefinitionsFrom n xs → AreDefinitionsFrom (n + length xs) ys → AreDefinitionsFrom n (xs ++ ys)
 known_both n [] ys h k =

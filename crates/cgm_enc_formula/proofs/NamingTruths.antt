@@ -15,6 +15,7 @@ use Rattle.cgm_formula.proofs.Folds.{fold-AtLeast, fold-AtMost, fold-And, fold-E
 use Rattle.cgm_formula.proofs.Induction.{by_cases}
 use Rattle.cgm_formula.proofs.Truths.{list_any-map, truth-And, truth-Or}
 use Rattle.cgm_model.specs.declared.lists.Lists.{Lists}
+use Rattle.cgm_model.specs.TruthVariables.{variable_of}
 use Rattle.cgm_enc_formula.specs.declared.literals.Literal.{Literal}
 use Rattle.cgm_enc_formula.specs.Definitions.{AreDefined, Definition, all_of, any_of, at_least, at_most, definition_true, same_as}
 use Rattle.cgm_enc_formula.specs.Literals.{literal_true, opposite}
@@ -23,7 +24,6 @@ use Rattle.cgm_enc_formula.specs.Terms.{number_variable, row_terms}
 use Rattle.cgm_enc_formula.proofs.LiteralTruths.{opposite-true, or_false}
 use Rattle.cgm_enc_formula.proofs.TermSums.{row-sum}
 use Rattle.cgm_enc_graph.specs.Assignments.{truth_at}
-use Rattle.cgm_enc_graph.specs.Literals.{variable_of}
 
 -- ---- definitions in two parts
 

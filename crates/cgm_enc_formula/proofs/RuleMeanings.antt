@@ -21,6 +21,7 @@ use Rattle.cgm_model.specs.declared.lists.Rule.TheVariants as rules
 use Rattle.cgm_model.specs.Formulas.{IsKnownNumber, IsKnownTruth, IsProperRule, formula_of}
 use Rattle.cgm_model.specs.Place.{Each, EachFrom}
 use Rattle.cgm_model.specs.Realization.{KeepsRule}
+use Rattle.cgm_model.specs.TruthVariables.{StandFor, variable_of}
 use Rattle.cgm_model.specs.WellFormed.{IsWellFormed}
 use Rattle.cgm_enc_formula.specs.declared.literals.Literal.{Literal}
 use Rattle.cgm_enc_formula.specs.Building.{rules_part}
@@ -35,8 +36,7 @@ use Rattle.cgm_enc_formula.proofs.DefinitionTruths.{definitions_mean, met, met-a
 use Rattle.cgm_enc_formula.proofs.LiteralTruths.{or_false}
 use Rattle.cgm_enc_formula.proofs.NamingTruths.{both_defined, defined_both, literal_is_truth, names_at, numbers_at}
 use Rattle.cgm_enc_formula.proofs.WellFormedRules.{each_rule}
-use Rattle.cgm_enc_graph.specs.Assignments.{StandFor}
-use Rattle.cgm_enc_graph.specs.Literals.{variable_of}
+use Rattle.cgm_enc_graph.specs.Assignments.{truth_at}
 use Rattle.cgm_enc_graph.proofs.ClauseTruths.{negated-true}
 use Rattle.cgm_enc_graph.proofs.RuleTruths.{Decides-implies}
 
@@ -117,7 +117,7 @@ module _ (m : Lists) (values : List ℤ) where
 
 -- ---- the assignment that the values stand for
 
-module _ (m : Lists) (values : List ℤ) (a : Assignment) (sums : List ℤ) (stand : StandFor m values a) (numbers : StandForNumbers m values a sums) where
+module _ (m : Lists) (values : List ℤ) (a : Assignment) (sums : List ℤ) (stand : StandFor m (truth_at values) a) (numbers : StandForNumbers m values a sums) where
   same_name : (t : Truth) → IsKnownTruth m t → names_at m values t ≡ name_in a t
   same_name (names.Element k) known = sym (stand.elements k known)
   same_name (names.Refinement k) known = sym (stand.refinements k known)
@@ -158,7 +158,7 @@ module _ (m : Lists) (values : List ℤ) (a : Assignment) (sums : List ℤ) (sta
 proper_rules : (m : Lists) → ∥ IsWellFormed m ∥₁ → All (IsProperRule m) m.rules
 proper_rules m well k d l = (each_rule m well k d l).proper
 
-pub rules_part_means : (m : Lists) (values : List ℤ) (a : Assignment) (sums : List ℤ) (n : ℕ) → ∥ IsWellFormed m ∥₁ → StandFor m values a → StandForNumbers m values a sums → MeetPart values (rules_part m n m.rules) ↔ (AreDefined values n (rule_definitions m n m.rules) × Each (KeepsRule a sums) m.rules)
+pub rules_part_means : (m : Lists) (values : List ℤ) (a : Assignment) (sums : List ℤ) (n : ℕ) → ∥ IsWellFormed m ∥₁ → StandFor m (truth_at values) a → StandForNumbers m values a sums → MeetPart values (rules_part m n m.rules) ↔ (AreDefined values n (rule_definitions m n m.rules) × Each (KeepsRule a sums) m.rules)
 unfolding rules_part
 rules_part_means m values a sums n well stand numbers =
     let proper = proper_rules m well in

@@ -10,12 +10,13 @@ use Rattle.cgm_formula.specs.declared.formula.Number.TheVariants as number
 use Rattle.cgm_model.specs.declared.lists.Lists.{Lists}
 use Rattle.cgm_model.specs.Place.{Each}
 use Rattle.cgm_model.specs.Realization.{KeepsRule}
+use Rattle.cgm_model.specs.TruthVariables.{StandFor}
 use Rattle.cgm_model.specs.WellFormed.{IsWellFormed}
 use Rattle.cgm_enc_formula.specs.Building.{Part, rules_part}
 use Rattle.cgm_enc_formula.specs.Definitions.{AreDefined, AreDefinitionsFrom, Definition, definition_true}
 use Rattle.cgm_enc_formula.specs.Rules.{rule_definitions}
 use Rattle.cgm_enc_formula.specs.Terms.{model_variables, number_variable}
-use Rattle.cgm_enc_graph.specs.Assignments.{StandFor}
+use Rattle.cgm_enc_graph.specs.Assignments.{truth_at}
 
 -- each variable and each sum has the value of its problem variable
 pub record StandForNumbers (m : Lists) (values : List ℤ) (a : Assignment) (sums : List ℤ) : Type 0 where
@@ -32,7 +33,7 @@ abbrev pub RulesPartMeansRules : Type 0
 RulesPartMeansRules =
     (m : Lists) (values : List ℤ) (a : Assignment) (sums : List ℤ) (n : ℕ)
     → ∥ IsWellFormed m ∥₁
-    → StandFor m values a
+    → StandFor m (truth_at values) a
     → StandForNumbers m values a sums
     → MeetPart values (rules_part m n m.rules) ↔ (AreDefined values n (rule_definitions m n m.rules) × Each (KeepsRule a sums) m.rules)
 

@@ -5,11 +5,11 @@ use Rattle.cgm_formula.specs.declared.formula.Linear.{Linear}
 use Rattle.cgm_formula.specs.declared.formula.Formula.TheOpen.{Formula-F}
 use Rattle.cgm_formula.specs.declared.formula.Formula.TheFolds.{fold-Formula}
 use Rattle.cgm_model.specs.declared.lists.Lists.{Lists}
+use Rattle.cgm_model.specs.TruthVariables.{variable_of}
 use Rattle.cgm_enc_formula.specs.declared.literals.Literal.{Literal}
 use Rattle.cgm_enc_formula.specs.Definitions.{Definition, all_of, any_of, at_least, at_most, same_as}
 use Rattle.cgm_enc_formula.specs.Literals.{opposite, positive}
 use Rattle.cgm_enc_formula.specs.Terms.{row_terms}
-use Rattle.cgm_enc_graph.specs.Literals.{variable_of}
 
 pub record Named : Type 0 where
   pub definitions : List Definition

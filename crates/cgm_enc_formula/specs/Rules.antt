@@ -7,13 +7,14 @@ use Rattle.cgm_model.specs.declared.lists.Lists.{Lists}
 use Rattle.cgm_model.specs.declared.lists.Rule.{Rule}
 use Rattle.cgm_model.specs.declared.lists.Rule.TheVariants as rules
 use Rattle.cgm_model.specs.Formulas.{IsKnownTruth, condition_names, formula_of}
+use Rattle.cgm_model.specs.TruthVariables.{variable_of}
 use Rattle.cgm_enc_formula.specs.declared.literals.Literal.{Literal}
 use Rattle.cgm_enc_formula.specs.Definitions.{Definition, definition_clauses, definition_rows}
 use Rattle.cgm_enc_formula.specs.Literals.{atom_of}
 use Rattle.cgm_enc_formula.specs.Naming.{naming}
 use Rattle.cgm_enc_formula.specs.Terms.{IsEncodableFormula}
 use Rattle.cgm_enc_graph.specs.GraphClauses.{clause}
-use Rattle.cgm_enc_graph.specs.Literals.{literal, negated, variable_of}
+use Rattle.cgm_enc_graph.specs.Literals.{literal, negated}
 
 -- the clauses and the rows of definitions of which the first has variable n
 abbrev pub clauses_from : ℕ → List Definition → List Clause

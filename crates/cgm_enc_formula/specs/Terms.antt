@@ -13,7 +13,7 @@ use Rattle.cgm_formula.specs.declared.formula.Number.{Number}
 use Rattle.cgm_formula.specs.declared.formula.Number.TheVariants as number
 use Rattle.cgm_model.specs.declared.lists.Lists.{Lists}
 use Rattle.cgm_model.specs.Formulas.{IsKnownTruth}
-use Rattle.cgm_enc_graph.specs.Literals.{truth_variables}
+use Rattle.cgm_model.specs.TruthVariables.{truth_variables}
 
 -- behind elements and refinements come the variables of the model, then the sums
 abbrev pub number_variable : Lists → Number → ℕ

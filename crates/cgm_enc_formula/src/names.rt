@@ -3,12 +3,12 @@ ghost use Rattle.std.specs.Prelude.{◌≡◌, ◌+◌, ◌≤◌, map, All, IfO
 ghost use Rattle.cgm_atom.specs.Instance.{var_count};
 ghost use Rattle.cgm_model.specs.Formulas.{IsKnownTruth};
 ghost use Rattle.cgm_model.specs.Model.{lists_of};
+ghost use Rattle.cgm_model.specs.TruthVariables.{variable_of};
 ghost use Rattle.cgm_enc_formula.specs.Building.{HasRoomFor, definition_part, definitions_part, with_part};
 ghost use Rattle.cgm_enc_formula.specs.Definitions.{at_least, at_most};
 ghost use Rattle.cgm_enc_formula.specs.Literals.{positive as positive_of};
 ghost use Rattle.cgm_enc_formula.specs.Naming.{equal_definitions, naming, parts_named};
 ghost use Rattle.cgm_enc_formula.specs.Terms.{IsEncodable, IsEncodableFormula, model_variables, row_terms as row_terms_of};
-ghost use Rattle.cgm_enc_graph.specs.Literals.{variable_of};
 
 use crate::definitions::{define_all, define_any, define_at_least, define_at_most, define_same};
 use crate::literals::{Literal, opposite, positive};

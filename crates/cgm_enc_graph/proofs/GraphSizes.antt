@@ -18,11 +18,12 @@ use Rattle.cgm_model.specs.declared.lists.Lists.{Lists}
 use Rattle.cgm_model.specs.declared.lists.Refinement.{Refinement}
 use Rattle.cgm_model.specs.Graph.{IsKnown}
 use Rattle.cgm_model.specs.Statement.{IsEdgeOf}
+use Rattle.cgm_model.specs.TruthVariables.{truth_variables}
 use Rattle.cgm_model.specs.WellFormed.{IsAssertion, IsWellFormed}
 use Rattle.cgm_enc_graph.specs.Adding.{CanTake}
 use Rattle.cgm_enc_graph.specs.GraphClauses.{assertion_clause, bind_clauses, clause, conflict_clause, contrib_clause, edge_group, element_clauses, fact_group, graph_clauses, implication, must_clauses, numbered_elements, numbered_refinements, refinement_clauses, refinement_group, target_of, variables_for, written_clauses}
 use Rattle.cgm_enc_graph.specs.Laws.{max_graph_clauses}
-use Rattle.cgm_enc_graph.specs.Literals.{literal, negated, truth_variables}
+use Rattle.cgm_enc_graph.specs.Literals.{literal, negated}
 use Rattle.cgm_enc_graph.proofs.Additions.{all_at, all_of, flattened, flattened-steps, numbered, numbered-all, numbered-steps}
 use Rattle.cgm_enc_graph.proofs.Groups.{each_from, whole_all, whole_few}
 use Rattle.cgm_enc_graph.proofs.KnownNames.{HasKnownNames, known_names}

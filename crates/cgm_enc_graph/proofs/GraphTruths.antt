@@ -13,8 +13,9 @@ use Rattle.cgm_model.specs.Graph.{IsKnown}
 use Rattle.cgm_model.specs.Place.{Each}
 use Rattle.cgm_model.specs.Realization.{IsRealization, KeepsAssertion, KeepsBind, KeepsConflict, KeepsContrib, KeepsElement, KeepsMust, KeepsRefinement, KeepsRule}
 use Rattle.cgm_model.specs.Statement.{IsEdgeOf}
+use Rattle.cgm_model.specs.TruthVariables.{StandFor}
 use Rattle.cgm_model.specs.WellFormed.{IsAssertion, IsWellFormed}
-use Rattle.cgm_enc_graph.specs.Assignments.{KeepsGraph, StandFor}
+use Rattle.cgm_enc_graph.specs.Assignments.{KeepsGraph, truth_at}
 use Rattle.cgm_enc_graph.specs.GraphClauses.{assertion_clause, bind_clauses, conflict_clause, contrib_clause, element_clauses, graph_clauses, must_clauses, numbered_elements, numbered_refinements, refinement_clauses, variables_for, written_clauses}
 use Rattle.cgm_enc_graph.proofs.Additions.{all_at, all_of, flattened, flattened-steps, mapped, mapped-steps, numbered, numbered-all, numbered-steps, one_of}
 use Rattle.cgm_enc_graph.proofs.ClauseTruths.{all_repeats-true}
@@ -27,7 +28,7 @@ anything xs k d within = tt
 
 -- ---- what each group means
 
-module _ (m : Lists) (values : List ℤ) (a : Assignment) (known : HasKnownNames m) (stand : StandFor m values a) where
+module _ (m : Lists) (values : List ℤ) (a : Assignment) (known : HasKnownNames m) (stand : StandFor m (truth_at values) a) where
   mapped_means : {X : Type 0} (f : X → Clause) (A : X → Type 0) (Q : ℕ → X → Type 0) (xs : List X) → All A xs → ((k : ℕ) (x : X) → A x → Mean values (f x ∷ []) (Q k x)) → Mean values (map f xs) (Each Q xs)
   mapped_means f A Q xs all h =
       whole_means (mapped f) (one_of f) values Q 0 xs (mapped-steps f) (λ _. refl)
@@ -92,7 +93,7 @@ module _ (m : Lists) (values : List ℤ) (a : Assignment) (known : HasKnownNames
       (Mean-append values (rs ++ es) ((cs ++ (fs ++ bs)) ++ (ms ++ xs)) (R × E) ((C × (F × B)) × (M × A)) first from_second)
 
 -- each clause is true exactly where the graph is kept
-pub graph_means : (m : Lists) (values : List ℤ) (a : Assignment) → ∥ IsWellFormed m ∥₁ → StandFor m values a → All (λ c. IsTrue (clause_true values c)) (graph_clauses m) ↔ KeepsGraph m a
+pub graph_means : (m : Lists) (values : List ℤ) (a : Assignment) → ∥ IsWellFormed m ∥₁ → StandFor m (truth_at values) a → All (λ c. IsTrue (clause_true values c)) (graph_clauses m) ↔ KeepsGraph m a
 unfolding graph_clauses
 graph_means m values a well stand =
     let means = written_mean m values a (known_names m well) stand in

@@ -19,7 +19,8 @@ use Rattle.cgm_model.specs.Assignment.{ElementIsTrue, RefinementIsTrue}
 use Rattle.cgm_model.specs.Graph.{IsKnown}
 use Rattle.cgm_model.specs.Realization.{KeepsAssertion, KeepsBind, KeepsConflict, KeepsContrib, KeepsElement, KeepsMust, KeepsRefinement, Refines, TargetIsTrue}
 use Rattle.cgm_model.specs.Statement.{IsEdgeOf}
-use Rattle.cgm_enc_graph.specs.Assignments.{StandFor, truth_at}
+use Rattle.cgm_model.specs.TruthVariables.{StandFor}
+use Rattle.cgm_enc_graph.specs.Assignments.{truth_at}
 use Rattle.cgm_enc_graph.specs.GraphClauses.{assertion_clause, bind_clauses, clause, conflict_clause, contrib_clause, element_clauses, implication, must_clauses, numbered_refinements, refinement_clauses, target_of, variables_for}
 use Rattle.cgm_enc_graph.specs.Literals.{literal, negated}
 use Rattle.cgm_enc_graph.proofs.ClauseTruths.{implication-true, literals-any, negated-any, negated-true}
@@ -98,7 +99,7 @@ placed test first element (q ∷ refinements) (suc place) r at target h =
     placed_later test first q (filter (λ s. s.1.target == element) (enumerate_from (first + 1) refinements)) (q.target == element)
     (placed test (first + 1) element refinements place r at target (ap test next ∙ h))
 
-module _ (m : Lists) (values : List ℤ) (a : Assignment) (stand : StandFor m values a) where
+module _ (m : Lists) (values : List ℤ) (a : Assignment) (stand : StandFor m (truth_at values) a) where
   element_truth : (k : ℕ) → k < length m.elements → Decides (truth_at values k) (ElementIsTrue a k)
   element_truth k within = by_equal (slice_index_or a.elements k false) (truth_at values k) (stand.elements k within)
 

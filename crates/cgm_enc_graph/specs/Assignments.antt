@@ -1,21 +1,14 @@
 -- What values say of an assignment, and the rules of a goal graph.
-use Rattle.std.specs.Prelude.{◌≡◌, ℕ, ◌<◌, Bool, false, List, ℤ, pos, int_le, length, slice_index_or}
+use Rattle.std.specs.Prelude.{ℕ, Bool, List, ℤ, pos, int_le}
 use Rattle.cgm_atom.specs.Bounds.{value_of}
 use Rattle.cgm_formula.specs.declared.assignment.Assignment.{Assignment}
 use Rattle.cgm_model.specs.declared.lists.Lists.{Lists}
 use Rattle.cgm_model.specs.Place.{Each}
 use Rattle.cgm_model.specs.Realization.{KeepsAssertion, KeepsBind, KeepsConflict, KeepsContrib, KeepsElement, KeepsMust, KeepsRefinement}
-use Rattle.cgm_formula.specs.declared.formula.Truth.TheVariants.{Element, Refinement}
-use Rattle.cgm_enc_graph.specs.Literals.{variable_of}
 
 -- the truth that the value of a variable stands for: 1 or more is true, 0 or less is false
 abbrev pub truth_at : List ℤ → ℕ → Bool
 truth_at values x = int_le (pos 1) (value_of values x)
-
--- each element and each refinement has the truth that its variable's value stands for; values past them are free
-pub record StandFor (m : Lists) (values : List ℤ) (a : Assignment) : Type 0 where
-  pub elements : (k : ℕ) → k < length m.elements → slice_index_or a.elements k false ≡ truth_at values (variable_of m (Element k))
-  pub refinements : (k : ℕ) → k < length m.refinements → slice_index_or a.refinements k false ≡ truth_at values (variable_of m (Refinement k))
 
 -- each rule of a realization but those that the model states as formulas
 pub record KeepsGraph (m : Lists) (a : Assignment) : Type 0 where

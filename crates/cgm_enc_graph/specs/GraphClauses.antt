@@ -10,7 +10,8 @@ use Rattle.cgm_model.specs.declared.lists.Edge.{Edge}
 use Rattle.cgm_model.specs.declared.lists.Element.{Element}
 use Rattle.cgm_model.specs.declared.lists.Lists.{Lists}
 use Rattle.cgm_model.specs.declared.lists.Refinement.{Refinement}
-use Rattle.cgm_enc_graph.specs.Literals.{literal, negated, variable_of}
+use Rattle.cgm_model.specs.TruthVariables.{variable_of}
+use Rattle.cgm_enc_graph.specs.Literals.{literal, negated}
 
 abbrev pub clause : List Atom → Clause
 clause atoms = record { atoms = atoms }

@@ -9,17 +9,17 @@ use Rattle.cgm_formula.specs.declared.assignment.Assignment.{Assignment}
 use Rattle.cgm_model.specs.declared.lists.Lists.{Lists}
 use Rattle.cgm_model.specs.Realization.{IsRealization, KeepsRule}
 use Rattle.cgm_model.specs.Place.{Each}
+use Rattle.cgm_model.specs.TruthVariables.{StandFor, truth_variables}
 use Rattle.cgm_model.specs.WellFormed.{IsWellFormed}
-use Rattle.cgm_enc_graph.specs.Assignments.{KeepsGraph, StandFor}
+use Rattle.cgm_enc_graph.specs.Assignments.{KeepsGraph, truth_at}
 use Rattle.cgm_enc_graph.specs.GraphClauses.{graph_clauses}
-use Rattle.cgm_enc_graph.specs.Literals.{truth_variables}
 
 -- each clause is true of the values exactly where the assignment that they stand for keeps the rules of the graph
 abbrev pub GraphClausesMeanRules : Type 0
 GraphClausesMeanRules =
     (m : Lists) (values : List ℤ) (a : Assignment)
     → ∥ IsWellFormed m ∥₁
-    → StandFor m values a
+    → StandFor m (truth_at values) a
     → All (λ c. IsTrue (clause_true values c)) (graph_clauses m) ↔ KeepsGraph m a
 
 -- a realization keeps the rules of the graph and the model's own rules

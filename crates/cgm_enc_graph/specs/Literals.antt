@@ -1,18 +1,6 @@
--- The variables that stand for elements and refinements, and the atoms that say that one is true or that it is false.
-use Rattle.std.specs.Prelude.{ℕ, ◌+◌, true, false, pos, length}
+-- The atoms that say that a variable of 0 or 1 is 1, or that it is 0.
+use Rattle.std.specs.Prelude.{ℕ, true, false, pos}
 use Rattle.cgm_atom.specs.declared.constraints.Atom.{Atom}
-use Rattle.cgm_formula.specs.declared.formula.Truth.{Truth}
-use Rattle.cgm_formula.specs.declared.formula.Truth.TheVariants.{Element, Refinement}
-use Rattle.cgm_model.specs.declared.lists.Lists.{Lists}
-
--- the elements come first, by number, then the refinements
-abbrev pub variable_of : Lists → Truth → ℕ
-variable_of m (Element k) = k
-variable_of m (Refinement k) = length m.elements + k
-
--- how many variables stand for elements and refinements
-abbrev pub truth_variables : Lists → ℕ
-truth_variables m = length m.elements + length m.refinements
 
 -- `x >= 1`
 abbrev pub literal : ℕ → Atom

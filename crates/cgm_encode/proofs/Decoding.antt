@@ -22,6 +22,7 @@ use Rattle.cgm_model.specs.Assignment.{Fits, IsWithin as IsWithinVariable}
 use Rattle.cgm_model.specs.Formulas.{IsKnownTruth}
 use Rattle.cgm_model.specs.Place.{EachFrom}
 use Rattle.cgm_model.specs.Sums.{sums_of}
+use Rattle.cgm_model.specs.TruthVariables.{truth_variables, variable_of}
 use Rattle.cgm_model.specs.WellFormed.{IsWellFormed}
 use Rattle.cgm_evolve.specs.Pairs.{Pair}
 use Rattle.cgm_obj.specs.Vector.{objective_number, vector_of}
@@ -29,7 +30,6 @@ use Rattle.cgm_enc_formula.specs.Laws.{MeetPart, RulesPartMeansRules, StandForNu
 use Rattle.cgm_enc_formula.specs.Terms.{model_variables, number_variable}
 use Rattle.cgm_enc_graph.specs.Assignments.{truth_at}
 use Rattle.cgm_enc_graph.specs.GraphClauses.{graph_clauses}
-use Rattle.cgm_enc_graph.specs.Literals.{truth_variables, variable_of}
 use Rattle.cgm_enc_graph.proofs.Additions.{All-back, All-front}
 use Rattle.cgm_enc_graph.proofs.GraphTruths.{graph_means, realization_keeps}
 use Rattle.cgm_encode.specs.Assignments.{bit, decoded}

@@ -25,6 +25,7 @@ use Rattle.cgm_model.specs.Assignment.{Fits, IsWithin as IsWithinVariable}
 use Rattle.cgm_model.specs.Formulas.{IsKnownTruth}
 use Rattle.cgm_model.specs.Place.{EachFrom}
 use Rattle.cgm_model.specs.Sums.{sum_value, sums_of}
+use Rattle.cgm_model.specs.TruthVariables.{truth_variables, variable_of}
 use Rattle.cgm_model.specs.WellFormed.{IsWellFormed}
 use Rattle.cgm_model.proofs.Sizes.{sum_at}
 use Rattle.cgm_evolve.specs.Pairs.{Pair}
@@ -38,7 +39,6 @@ use Rattle.cgm_enc_formula.specs.Terms.{model_variables, number_variable}
 use Rattle.cgm_enc_formula.proofs.Extending.{definition_agrees, extended_keeps}
 use Rattle.cgm_enc_graph.specs.Assignments.{truth_at}
 use Rattle.cgm_enc_graph.specs.GraphClauses.{graph_clauses}
-use Rattle.cgm_enc_graph.specs.Literals.{truth_variables, variable_of}
 use Rattle.cgm_enc_graph.proofs.GraphTruths.{graph_means, realization_keeps}
 use Rattle.cgm_encode.specs.Assignments.{bit, choice_values, decoded, extension, number_values, rule_values}
 use Rattle.cgm_encode.specs.Laws.{ExtendsTo}

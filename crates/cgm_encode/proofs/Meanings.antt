@@ -19,13 +19,13 @@ use Rattle.cgm_model.specs.declared.lists.Preference.{Preference}
 use Rattle.cgm_model.specs.Formulas.{IsKnownTruth}
 use Rattle.cgm_model.specs.Place.{EachFrom}
 use Rattle.cgm_model.specs.Sums.{sums_of}
+use Rattle.cgm_model.specs.TruthVariables.{StandFor, truth_variables, variable_of}
 use Rattle.cgm_model.proofs.Sizes.{sum_at}
 use Rattle.cgm_evolve.specs.Pairs.{Pair}
 use Rattle.cgm_obj.specs.Counts.{is_met}
 use Rattle.cgm_obj.specs.Vector.{objective_number}
 use Rattle.cgm_enc_formula.specs.Terms.{number_variable}
-use Rattle.cgm_enc_graph.specs.Assignments.{StandFor, truth_at}
-use Rattle.cgm_enc_graph.specs.Literals.{truth_variables, variable_of}
+use Rattle.cgm_enc_graph.specs.Assignments.{truth_at}
 use Rattle.cgm_enc_graph.proofs.ClauseTruths.{all_repeats-true}
 use Rattle.cgm_encode.specs.Assignments.{bit}
 use Rattle.cgm_encode.specs.Problem.{objective_rows, preference_clauses, preferences_written, sum_rows}
@@ -73,7 +73,7 @@ abbrev pub IsObjectiveValue : Lists → List Pair → List ℤ → Assignment �
 IsObjectiveValue m pairs values a x o = value_of values x ≡ objective_number m pairs a o
 
 module _ (m : Lists) (values : List ℤ) (a : Assignment) (parts : HasKnownParts m) (names : (t : Truth) → IsKnownTruth m t → value_of values (variable_of m t) ≡ bit (name_in a t)) where
-  pub stand : StandFor m values a
+  pub stand : StandFor m (truth_at values) a
   stand = record {
     elements = λ k l. sym (truth_of_bit values k (slice_index_or a.elements k false) (names (Element k) l));
     refinements = λ k l. sym (truth_of_bit values (variable_of m (Refinement k)) (slice_index_or a.refinements k false) (names (Refinement k) l));

@@ -12,6 +12,7 @@ use Rattle.cgm_atom.specs.Limits.{AreTermsOf, IsClauseOf, max_measure, measure}
 use Rattle.cgm_model.specs.declared.lists.Lists.{Lists}
 use Rattle.cgm_model.specs.declared.lists.Objective.{Objective}
 use Rattle.cgm_model.specs.declared.lists.Preference.{Preference}
+use Rattle.cgm_model.specs.TruthVariables.{truth_variables}
 use Rattle.cgm_model.specs.WellFormed.{IsWellFormed}
 use Rattle.cgm_evolve.specs.Pairs.{Pair}
 use Rattle.cgm_enc_formula.proofs.RuleSizes.{rules_part_small}
@@ -19,7 +20,6 @@ use Rattle.cgm_enc_formula.proofs.TermOrders.{terms_wider}
 use Rattle.cgm_enc_graph.proofs.Additions.{All-back, All-front}
 use Rattle.cgm_enc_graph.specs.Adding.{CanTake}
 use Rattle.cgm_enc_graph.specs.GraphClauses.{graph_clauses}
-use Rattle.cgm_enc_graph.specs.Literals.{truth_variables}
 use Rattle.cgm_encode.specs.declared.expressions.Expression.{Expression}
 use Rattle.cgm_encode.specs.Building.{IsDefining, IsMeasured, defining_rows, expression_of, expression_range, with_ranges}
 use Rattle.cgm_encode.specs.Problem.{all_ranges, bits, box_of, choice_ranges, model_rules_part, number_ranges, objective_range, objective_rows, own_ranges, preference_clauses, preferences_written, problem_of, rule_ranges, sum_range, sum_rows}

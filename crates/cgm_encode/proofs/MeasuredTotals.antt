@@ -11,9 +11,9 @@ use Rattle.cgm_atom.specs.Bounds.{Bounds}
 use Rattle.cgm_atom.specs.Limits.{AreTermsOf, greatest_size, measure}
 use Rattle.cgm_model.specs.declared.lists.Lists.{Lists}
 use Rattle.cgm_model.specs.declared.lists.Objective.{Objective}
+use Rattle.cgm_model.specs.TruthVariables.{truth_variables}
 use Rattle.cgm_model.specs.WellFormed.{IsWellFormed}
 use Rattle.cgm_evolve.specs.Pairs.{Pair}
-use Rattle.cgm_enc_graph.specs.Literals.{truth_variables}
 use Rattle.cgm_encode.specs.Problem.{bits, box_of, choice_ranges, own_ranges}
 use Rattle.cgm_encode.specs.Quantities.{objective_total, sum_total}
 use Rattle.cgm_encode.specs.Totals.{Share, Total, combined_terms}

@@ -9,9 +9,10 @@ use Rattle.cgm_formula.specs.declared.assignment.Assignment.{Assignment}
 use Rattle.cgm_formula.specs.Reading.{name_in}
 use Rattle.cgm_model.specs.declared.lists.Lists.{Lists}
 use Rattle.cgm_model.specs.declared.lists.Preference.{Preference}
+use Rattle.cgm_model.specs.TruthVariables.{variable_of}
 use Rattle.cgm_obj.specs.Counts.{is_met}
 use Rattle.cgm_enc_graph.specs.Assignments.{truth_at}
-use Rattle.cgm_enc_graph.specs.Literals.{negated, variable_of}
+use Rattle.cgm_enc_graph.specs.Literals.{negated}
 use Rattle.cgm_enc_graph.proofs.ClauseTruths.{negated-true}
 use Rattle.cgm_encode.specs.Problem.{preference_clauses}
 

@@ -25,6 +25,7 @@ use Rattle.cgm_model.specs.declared.lists.SumValue.{SumValue}
 use Rattle.cgm_model.specs.declared.lists.Weighing.{Weighing}
 use Rattle.cgm_model.specs.Leaves.{element_numbers, is_leaf_task, leaf_tasks}
 use Rattle.cgm_model.specs.Statement.{IsKnownQuantity}
+use Rattle.cgm_model.specs.TruthVariables.{truth_variables, variable_of}
 use Rattle.cgm_model.specs.WellFormed.{IsWellFormed}
 use Rattle.cgm_evolve.specs.Costs.{elements_of_interest, interests_or}
 use Rattle.cgm_evolve.specs.Pairs.{Pair}
@@ -33,7 +34,6 @@ use Rattle.cgm_enc_formula.specs.Building.{rules_part}
 use Rattle.cgm_enc_formula.specs.Laws.{IsSmallPart, RulesPartIsSmall}
 use Rattle.cgm_enc_formula.specs.Terms.{model_variables, number_variable}
 use Rattle.cgm_enc_graph.specs.GraphClauses.{graph_clauses}
-use Rattle.cgm_enc_graph.specs.Literals.{truth_variables, variable_of}
 use Rattle.cgm_enc_graph.proofs.GraphSizes.{graph_clauses_few}
 use Rattle.cgm_encode.specs.Laws.{IsSmallProblem}
 use Rattle.cgm_encode.specs.Problem.{all_ranges, bits, box_of, choice_ranges, model_rules_part, number_ranges, objective_range, objective_rows, own_range, own_ranges, preference_clauses, preferences_written, problem_of, rule_ranges, sum_range, sum_rows}

@@ -24,12 +24,12 @@ use Rattle.cgm_model.specs.Leaves.{element_numbers, is_leaf_task, leaf_tasks}
 use Rattle.cgm_model.specs.Place.{EachFrom}
 use Rattle.cgm_model.specs.Statement.{IsKnownQuantity}
 use Rattle.cgm_model.specs.Sums.{sum_value, sums_of, total_by, value_for, weight_for}
+use Rattle.cgm_model.specs.TruthVariables.{variable_of}
 use Rattle.cgm_evolve.specs.Costs.{differs, earlier_truth, elements_of_interest, interests_or, is_changed, is_new_work, is_true, was_true}
 use Rattle.cgm_evolve.specs.Pairs.{Pair}
 use Rattle.cgm_obj.specs.Counts.{is_free_requirement, is_met}
 use Rattle.cgm_obj.specs.Vector.{objective_number, quantity}
 use Rattle.cgm_enc_formula.specs.Terms.{number_variable}
-use Rattle.cgm_enc_graph.specs.Literals.{variable_of}
 use Rattle.cgm_encode.specs.Assignments.{bit}
 use Rattle.cgm_encode.specs.Quantities.{objective_total, ones, quantity_total, sum_total, was_true_before}
 use Rattle.cgm_encode.specs.Totals.{Share, Total, opposite_total, total_value}

@@ -5,9 +5,9 @@ use Rattle.std.specs.List.{range_with_len}
 use Rattle.std.proofs.lemmas.List.{length-append, length-map, length-replicate}
 use Rattle.std.proofs.lemmas.List.FromFn.{length-map-range_with_len}
 use Rattle.cgm_model.specs.declared.lists.Lists.{Lists}
+use Rattle.cgm_model.specs.TruthVariables.{truth_variables}
 use Rattle.cgm_evolve.specs.Pairs.{Pair}
 use Rattle.cgm_enc_formula.specs.Terms.{model_variables}
-use Rattle.cgm_enc_graph.specs.Literals.{truth_variables}
 use Rattle.cgm_encode.specs.Problem.{all_ranges, bits, choice_ranges, number_ranges, objective_range, own_range, own_ranges, rule_ranges, sum_range}
 use Rattle.cgm_encode.specs.Variables.{first_objective, first_preference, naming_count, variable_total}
 

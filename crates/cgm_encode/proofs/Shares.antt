@@ -15,11 +15,11 @@ use Rattle.cgm_model.specs.declared.lists.Weighing.{Weighing}
 use Rattle.cgm_model.specs.Formulas.{IsKnownTruth}
 use Rattle.cgm_model.specs.Leaves.{element_numbers, leaf_tasks}
 use Rattle.cgm_model.specs.Statement.{IsKnownQuantity}
+use Rattle.cgm_model.specs.TruthVariables.{truth_variables, variable_of}
 use Rattle.cgm_evolve.specs.Costs.{elements_of_interest}
 use Rattle.cgm_evolve.specs.Pairs.{Pair}
 use Rattle.cgm_obj.specs.Counts.{is_free_requirement}
 use Rattle.cgm_enc_formula.specs.Terms.{number_variable}
-use Rattle.cgm_enc_graph.specs.Literals.{truth_variables, variable_of}
 use Rattle.cgm_encode.specs.Quantities.{free_requirements, objective_total, ones, possible_work, quantity_total, sum_total, was_true_before}
 use Rattle.cgm_encode.specs.Totals.{Share, Total, opposite_total}
 use Rattle.cgm_encode.specs.Variables.{first_objective, first_preference}

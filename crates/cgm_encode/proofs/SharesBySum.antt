@@ -7,7 +7,7 @@ use Rattle.std.proofs.lemmas.List.{append-nil, append_assoc, get_or-set_other, g
 use Rattle.std.proofs.lemmas.List.FromFn.{fill_by_all}
 use Rattle.cgm_model.specs.declared.lists.Lists.{Lists}
 use Rattle.cgm_model.specs.declared.lists.SumValue.{SumValue}
-use Rattle.cgm_enc_graph.specs.Literals.{variable_of}
+use Rattle.cgm_model.specs.TruthVariables.{variable_of}
 use Rattle.cgm_encode.specs.Quantities.{sum_total}
 use Rattle.cgm_encode.specs.Totals.{Share}
 

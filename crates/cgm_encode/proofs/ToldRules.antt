@@ -18,6 +18,7 @@ use Rattle.cgm_model.specs.declared.lists.Rule.{Rule}
 use Rattle.cgm_model.specs.Assignment.{Fits}
 use Rattle.cgm_model.specs.Formulas.{IsKnownNumber, IsKnownTruth, formula_of}
 use Rattle.cgm_model.specs.Sums.{sum_value, sums_of}
+use Rattle.cgm_model.specs.TruthVariables.{truth_variables, variable_of}
 use Rattle.cgm_model.specs.WellFormed.{IsWellFormed}
 use Rattle.cgm_obj.specs.Counts.{is_met}
 use Rattle.cgm_enc_formula.specs.Laws.{extended}
@@ -26,7 +27,6 @@ use Rattle.cgm_enc_formula.specs.Terms.{model_variables, number_variable}
 use Rattle.cgm_enc_formula.proofs.NamingKnown.{rule_formulas_known}
 use Rattle.cgm_enc_formula.proofs.WellFormedRules.{each_rule}
 use Rattle.cgm_enc_graph.specs.Assignments.{truth_at}
-use Rattle.cgm_enc_graph.specs.Literals.{truth_variables, variable_of}
 use Rattle.cgm_encode.specs.Assignments.{bit, choice_values, number_values, rule_values}
 use Rattle.cgm_encode.specs.Telling.{rule_truths}
 use Rattle.cgm_encode.proofs.ToldValues.{IsReadable, Reads, formulas_told, two}

@@ -22,6 +22,7 @@ use Rattle.cgm_formula.proofs.Induction.{by_cases}
 use Rattle.cgm_formula.proofs.Truths.{list_any-map, truth-And, truth-Or}
 use Rattle.cgm_model.specs.declared.lists.Lists.{Lists}
 use Rattle.cgm_model.specs.Formulas.{IsKnownNumber, IsKnownTruth}
+use Rattle.cgm_model.specs.TruthVariables.{variable_of}
 use Rattle.cgm_enc_formula.specs.Definitions.{AreDefined, AreDefinitionsFrom, Definition, all_of, any_of, at_least, at_most, definition_true, same_as}
 use Rattle.cgm_enc_formula.specs.Laws.{extended}
 use Rattle.cgm_enc_formula.specs.Literals.{literal_true, opposite, positive}
@@ -33,7 +34,6 @@ use Rattle.cgm_enc_formula.proofs.NamingKnown.{HasTerms, naming_known}
 use Rattle.cgm_enc_formula.proofs.NamingTruths.{literal_is_truth, names_at, numbers_at}
 use Rattle.cgm_enc_formula.proofs.Splits.{names_of_conjunction, names_of_disjunction, names_of_equivalence, names_of_implication, names_of_negation}
 use Rattle.cgm_enc_graph.specs.Assignments.{truth_at}
-use Rattle.cgm_enc_graph.specs.Literals.{variable_of}
 use Rattle.cgm_encode.specs.Assignments.{bit}
 use Rattle.cgm_encode.specs.Telling.{Told, all_truths, told, told_step, telling}
 

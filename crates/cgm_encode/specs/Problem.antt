@@ -11,11 +11,12 @@ use Rattle.cgm_model.specs.declared.lists.Lists.{Lists}
 use Rattle.cgm_model.specs.declared.lists.Objective.{Objective}
 use Rattle.cgm_model.specs.declared.lists.Preference.{Preference}
 use Rattle.cgm_model.specs.declared.lists.Variable.{Variable}
+use Rattle.cgm_model.specs.TruthVariables.{truth_variables, variable_of}
 use Rattle.cgm_evolve.specs.Pairs.{Pair}
 use Rattle.cgm_enc_formula.specs.Building.{Part, rules_part}
 use Rattle.cgm_enc_formula.specs.Terms.{model_variables, number_variable}
 use Rattle.cgm_enc_graph.specs.GraphClauses.{clause, graph_clauses}
-use Rattle.cgm_enc_graph.specs.Literals.{literal, negated, truth_variables, variable_of}
+use Rattle.cgm_enc_graph.specs.Literals.{literal, negated}
 use Rattle.cgm_encode.specs.Quantities.{objective_total, sum_total}
 use Rattle.cgm_encode.specs.Totals.{Range, total_range, total_rows}
 use Rattle.cgm_encode.specs.Variables.{first_objective, first_preference, naming_count}

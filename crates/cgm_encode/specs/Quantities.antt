@@ -7,11 +7,11 @@ use Rattle.cgm_model.specs.declared.lists.Objective.{Objective}
 use Rattle.cgm_model.specs.declared.lists.Quantity.{Quantity}
 use Rattle.cgm_model.specs.declared.lists.Quantity.TheVariants as quantities
 use Rattle.cgm_model.specs.Leaves.{element_numbers, is_leaf_task, leaf_tasks}
+use Rattle.cgm_model.specs.TruthVariables.{variable_of}
 use Rattle.cgm_evolve.specs.Costs.{earlier_truth, elements_of_interest, was_true}
 use Rattle.cgm_evolve.specs.Pairs.{Pair}
 use Rattle.cgm_obj.specs.Counts.{is_free_requirement}
 use Rattle.cgm_enc_formula.specs.Terms.{number_variable}
-use Rattle.cgm_enc_graph.specs.Literals.{variable_of}
 use Rattle.cgm_encode.specs.Totals.{Share, Total, opposite_total}
 use Rattle.cgm_encode.specs.Variables.{first_preference}
 

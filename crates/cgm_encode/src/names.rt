@@ -3,8 +3,8 @@ ghost use Rattle.std.specs.Prelude.{◌≡◌, ◌<◌, length};
 ghost use Rattle.cgm_formula.specs.declared.formula.Number.TheVariants as number;
 ghost use Rattle.cgm_model.specs.Formulas.{IsKnownTruth};
 ghost use Rattle.cgm_model.specs.Model.{lists_of};
+ghost use Rattle.cgm_model.specs.TruthVariables.{truth_variables, variable_of};
 ghost use Rattle.cgm_enc_formula.specs.Terms.{number_variable as variable_of_number};
-ghost use Rattle.cgm_enc_graph.specs.Literals.{truth_variables, variable_of};
 
 use cgm_model::{Model, Truth};
 

@@ -2,7 +2,7 @@
 ghost use Rattle.std.specs.Prelude.{◌≡◌, ◌<◌, ◌^◌, ℕ, [], length, map, All, IfOk, OnOk, slice_index_or};
 ghost use Rattle.std.specs.List.{range_with_len};
 ghost use Rattle.cgm_model.specs.Model.{lists_of};
-ghost use Rattle.cgm_enc_graph.specs.Literals.{truth_variables};
+ghost use Rattle.cgm_model.specs.TruthVariables.{truth_variables};
 ghost use Rattle.cgm_encode.specs.Building.{expression_of, share_size};
 ghost use Rattle.cgm_encode.specs.Quantities.{plain, sum_total};
 

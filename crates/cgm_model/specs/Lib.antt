@@ -20,4 +20,5 @@ pub mod Search
 pub mod Statement
 pub mod Sums
 pub mod TargetIndex
+pub mod TruthVariables
 pub mod WellFormed

@@ -9,6 +9,7 @@ use Rattle.cgm_model.specs.declared.lists.Rule.{Rule}
 use Rattle.cgm_model.specs.declared.lists.Rule.TheVariants as rules
 use Rattle.cgm_model.specs.Formulas.{IsKnownTruth}
 use Rattle.cgm_model.specs.Model.{lists_of}
+use Rattle.cgm_model.specs.TruthVariables.{variable_of}
 use Rattle.cgm_enc_formula.specs.declared.literals.Literal.{Literal}
 use Rattle.cgm_enc_formula.specs.Building.{HasRoomFor, rule_part, with_part}
 use Rattle.cgm_enc_formula.specs.Literals.{atom_of}
@@ -20,7 +21,7 @@ use Rattle.cgm_enc_formula.proofs.NamingSteps.{count_after, literal_within}
 use Rattle.cgm_enc_formula.proofs.RuleSteps.{clause_fits, rule_added}
 use Rattle.cgm_enc_graph.specs.Adding.{CanTake, with_written}
 use Rattle.cgm_enc_graph.specs.GraphClauses.{clause}
-use Rattle.cgm_enc_graph.specs.Literals.{literal, negated, variable_of}
+use Rattle.cgm_enc_graph.specs.Literals.{literal, negated}
 use Rattle.cgm_enc_formula.proofs.rules.add_rule.Goals as goal
 
 pub add_clause-requires : goal.add_clause-requires

@@ -3,7 +3,7 @@ use Rattle.std.specs.List.{All, range_with_len}
 use Rattle.std.proofs.lemmas.List.FromFn.{length-map-range_with_len}
 use Rattle.cgm_atom.specs.Instance.{Instance, var_count}
 use Rattle.cgm_model.specs.Model.{lists_of}
-use Rattle.cgm_enc_graph.specs.Literals.{truth_variables}
+use Rattle.cgm_model.specs.TruthVariables.{truth_variables}
 use Rattle.cgm_encode.specs.declared.expressions.Expression.{Expression}
 use Rattle.cgm_encode.specs.Building.{IsMeasured, expression_of}
 use Rattle.cgm_encode.specs.Quantities.{sum_total}

@@ -1,6 +1,6 @@
 use Rattle.std.proofs.Common.{◌≡◌, take, map}
 use Rattle.cgm_model.specs.Model.{lists_of}
-use Rattle.cgm_enc_graph.specs.Literals.{truth_variables}
+use Rattle.cgm_model.specs.TruthVariables.{truth_variables}
 use Rattle.cgm_encode.specs.Building.{expression_of}
 use Rattle.cgm_encode.specs.Quantities.{plain}
 use Rattle.cgm_encode.proofs.sums.expressions_of.Given as goal

@@ -2,7 +2,7 @@ use Rattle.std.proofs.Common.{◌≡◌, ◌<◌, ◌^◌, ◌∙◌, ℕ, List,
 use Rattle.std.specs.List.{All, range_with_len}
 use Rattle.std.proofs.lemmas.List.Elements.{All-map}
 use Rattle.cgm_model.specs.Model.{lists_of}
-use Rattle.cgm_enc_graph.specs.Literals.{truth_variables}
+use Rattle.cgm_model.specs.TruthVariables.{truth_variables}
 use Rattle.cgm_encode.specs.declared.expressions.Expression.{Expression}
 use Rattle.cgm_encode.specs.Building.{expression_of, share_size}
 use Rattle.cgm_encode.specs.Quantities.{plain, sum_total}

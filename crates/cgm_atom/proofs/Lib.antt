@@ -1,4 +1,6 @@
+pub mod Additions
 pub mod Assuming
+pub mod ClauseTruths
 pub mod Concluding
 pub mod CutParts
 pub mod Cutting

@@ -1,4 +1,5 @@
 pub mod Acceptance
+pub mod Adding
 pub mod Atoms
 pub mod Bounds
 pub mod Building
@@ -10,6 +11,7 @@ pub mod Fields
 pub mod Instance
 pub mod Laws
 pub mod Limits
+pub mod Literals
 pub mod LogState
 pub mod Narrowing
 pub mod Order

@@ -12,6 +12,7 @@ mod entries;
 pub mod laws;
 mod limits;
 mod lists;
+pub mod literals;
 mod outcome;
 mod placing;
 mod problems;

@@ -8,19 +8,18 @@ use Rattle.std.proofs.lemmas.List.Elements.{All-append, All-cons, All-map, All-n
 use Rattle.cgm_atom.specs.declared.constraints.Atom.{Atom}
 use Rattle.cgm_atom.specs.declared.constraints.Clause.{Clause}
 use Rattle.cgm_atom.specs.declared.constraints.Var.{Var}
+use Rattle.cgm_atom.specs.Adding.{CanTake, with_written}
 use Rattle.cgm_atom.specs.Building.{with_var, without_repeats}
 use Rattle.cgm_atom.specs.Instance.{Instance, var_count}
 use Rattle.cgm_atom.specs.Limits.{AreTermsOf, IsAbsent, IsAtomOf, IsClauseOf}
+use Rattle.cgm_atom.specs.Literals.{clause, literal, negated}
+use Rattle.cgm_atom.proofs.Additions.{AreLeft, first_left, left_all, left_last, left_more}
 use Rattle.cgm_enc_formula.specs.declared.literals.Literal.{Literal}
 use Rattle.cgm_enc_formula.specs.Building.{HasRoomFor, definition_part, with_part}
 use Rattle.cgm_enc_formula.specs.Definitions.{Definition, IsDefinitionOf, all_of, any_of, at_least, at_most, definition_clauses, negative, one_of, pairs, same_as}
 use Rattle.cgm_enc_formula.specs.Literals.{atom_of, opposite}
 use Rattle.cgm_enc_formula.proofs.Steps.{record_part, same_made}
 use Rattle.cgm_enc_formula.proofs.TermOrders.{terms_wider}
-use Rattle.cgm_enc_graph.specs.Adding.{CanTake, with_written}
-use Rattle.cgm_enc_graph.specs.GraphClauses.{clause}
-use Rattle.cgm_enc_graph.specs.Literals.{literal, negated}
-use Rattle.cgm_enc_graph.proofs.Additions.{AreLeft, first_left, left_all, left_last, left_more}
 
 abbrev pub named : Instance → Instance
 named p = with_var p (pos 0) (pos 1)

@@ -11,14 +11,13 @@ use Rattle.cgm_atom.specs.declared.constraints.Row.{Row}
 use Rattle.cgm_atom.specs.declared.constraints.Var.{Var}
 use Rattle.cgm_atom.specs.Atoms.{activity, clause_true, row_true}
 use Rattle.cgm_atom.specs.Bounds.{value_of}
+use Rattle.cgm_atom.specs.Literals.{literal, negated, truth_at}
+use Rattle.cgm_atom.proofs.ClauseTruths.{negated-true}
 use Rattle.cgm_enc_formula.specs.declared.literals.Literal.{Literal}
 use Rattle.cgm_enc_formula.specs.Definitions.{AreDefined, Definition, all_of, any_of, at_least, at_most, definition_clauses, definition_rows, definition_true, negative, one_of, pairs, row_where, same_as}
 use Rattle.cgm_enc_formula.specs.Literals.{literal_true, opposite}
 use Rattle.cgm_enc_formula.specs.Rules.{clauses_from, rows_from}
 use Rattle.cgm_enc_formula.proofs.LiteralTruths.{and_true, one_of-true, opposite-true, opposites-all, opposites-any, pairs-true}
-use Rattle.cgm_enc_graph.specs.Assignments.{truth_at}
-use Rattle.cgm_enc_graph.specs.Literals.{literal, negated}
-use Rattle.cgm_enc_graph.proofs.ClauseTruths.{negated-true}
 use Rattle.cgm_formula.specs.Truth.{same_truth}
 
 -- the clauses and rows are all met

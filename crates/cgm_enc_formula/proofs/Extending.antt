@@ -8,13 +8,12 @@ use Rattle.cgm_atom.specs.declared.constraints.Var.{Var}
 use Rattle.cgm_atom.specs.Atoms.{activity, atom_true}
 use Rattle.cgm_atom.specs.Bounds.{value_of}
 use Rattle.cgm_atom.specs.Limits.{AreTermsOf}
+use Rattle.cgm_atom.specs.Literals.{literal, negated, truth_at}
 use Rattle.cgm_formula.specs.Truth.{same_truth}
 use Rattle.cgm_enc_formula.specs.declared.literals.Literal.{Literal}
 use Rattle.cgm_enc_formula.specs.Definitions.{AreDefined, AreDefinitionsFrom, Definition, IsDefinitionOf, all_of, any_of, at_least, at_most, definition_true, same_as}
 use Rattle.cgm_enc_formula.specs.Laws.{extended}
 use Rattle.cgm_enc_formula.specs.Literals.{literal_true}
-use Rattle.cgm_enc_graph.specs.Assignments.{truth_at}
-use Rattle.cgm_enc_graph.specs.Literals.{literal, negated}
 
 -- the value of a naming variable
 abbrev bit : Bool → ℤ

@@ -4,12 +4,11 @@ use Rattle.std.specs.Prelude.{ℤ}
 use Rattle.std.specs.List.{list_all, list_any}
 use Rattle.cgm_atom.specs.declared.constraints.Atom.{Atom}
 use Rattle.cgm_atom.specs.Atoms.{atom_true, clause_true}
+use Rattle.cgm_atom.specs.Literals.{literal, negated, truth_at}
+use Rattle.cgm_atom.proofs.ClauseTruths.{negated-true}
 use Rattle.cgm_enc_formula.specs.declared.literals.Literal.{Literal}
 use Rattle.cgm_enc_formula.specs.Definitions.{one_of, pairs}
 use Rattle.cgm_enc_formula.specs.Literals.{atom_of, literal_true, opposite}
-use Rattle.cgm_enc_graph.specs.Assignments.{truth_at}
-use Rattle.cgm_enc_graph.specs.Literals.{literal, negated}
-use Rattle.cgm_enc_graph.proofs.ClauseTruths.{negated-true}
 
 pub or_false : (t : Bool) → (t || false) ≡ t
 or_false true = refl

@@ -4,6 +4,7 @@ use Rattle.std.specs.Prelude.{ℤ, int_le}
 use Rattle.std.specs.List.{AllByRecursion, list_all, list_any}
 use Rattle.std.proofs.lemmas.List.Folds.{list_all-map}
 use Rattle.cgm_atom.specs.Bounds.{value_of}
+use Rattle.cgm_atom.specs.Literals.{truth_at}
 use Rattle.cgm_formula.specs.declared.formula.Formula.{Formula}
 use Rattle.cgm_formula.specs.declared.formula.Formula.TheOpen.{Formula-F}
 use Rattle.cgm_formula.specs.declared.formula.Formula.TheVariants.{Name, Not, And, Or, Implies, Iff, AtMost, AtLeast, Equal}
@@ -23,7 +24,6 @@ use Rattle.cgm_enc_formula.specs.Naming.{Named, Naming, defined, naming, naming_
 use Rattle.cgm_enc_formula.specs.Terms.{number_variable, row_terms}
 use Rattle.cgm_enc_formula.proofs.LiteralTruths.{opposite-true, or_false}
 use Rattle.cgm_enc_formula.proofs.TermSums.{row-sum}
-use Rattle.cgm_enc_graph.specs.Assignments.{truth_at}
 
 -- ---- definitions in two parts
 

@@ -8,6 +8,8 @@ use Rattle.std.proofs.lemmas.List.Elements.{All-head, All-tail}
 use Rattle.std.proofs.lemmas.List.Sums.{AllPass-from_list_all, list_all-from_AllPass}
 use Rattle.cgm_atom.specs.declared.constraints.Row.{Row}
 use Rattle.cgm_atom.specs.Atoms.{clause_true, row_true}
+use Rattle.cgm_atom.specs.Literals.{truth_at}
+use Rattle.cgm_atom.proofs.ClauseTruths.{Decides-implies, negated-true}
 use Rattle.cgm_formula.specs.declared.assignment.Assignment.{Assignment}
 use Rattle.cgm_formula.specs.declared.formula.Number.{Number}
 use Rattle.cgm_formula.specs.declared.formula.Number.TheVariants as number
@@ -36,9 +38,6 @@ use Rattle.cgm_enc_formula.proofs.DefinitionTruths.{definitions_mean, met, met-a
 use Rattle.cgm_enc_formula.proofs.LiteralTruths.{or_false}
 use Rattle.cgm_enc_formula.proofs.NamingTruths.{both_defined, defined_both, literal_is_truth, names_at, numbers_at}
 use Rattle.cgm_enc_formula.proofs.WellFormedRules.{each_rule}
-use Rattle.cgm_enc_graph.specs.Assignments.{truth_at}
-use Rattle.cgm_enc_graph.proofs.ClauseTruths.{negated-true}
-use Rattle.cgm_enc_graph.proofs.RuleTruths.{Decides-implies}
 
 grouped : (a b c : Bool) → ((a && b) && c) ≡ (a && (b && c))
 grouped true b c = refl

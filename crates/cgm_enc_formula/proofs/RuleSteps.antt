@@ -5,6 +5,7 @@ use Rattle.std.proofs.lemmas.List.{append-nil, append_assoc, length-append}
 use Rattle.std.proofs.lemmas.List.Elements.{All-head, All-tail}
 use Rattle.cgm_atom.specs.declared.constraints.Clause.{Clause}
 use Rattle.cgm_atom.specs.declared.constraints.Row.{Row}
+use Rattle.cgm_atom.specs.Adding.{CanTake, with_written}
 use Rattle.cgm_atom.specs.Instance.{Instance, var_count}
 use Rattle.cgm_atom.specs.Limits.{IsClauseOf}
 use Rattle.cgm_model.specs.declared.lists.Lists.{Lists}
@@ -19,7 +20,6 @@ use Rattle.cgm_enc_formula.proofs.Defining.{one_clause, written_part}
 use Rattle.cgm_enc_formula.proofs.DefinitionLists.{rows_both}
 use Rattle.cgm_enc_formula.proofs.NamingSteps.{Adds}
 use Rattle.cgm_enc_formula.proofs.Steps.{IsLeft, left_first, left_more, left_none, no_part, rest_fits, same_part, with-count, with_both}
-use Rattle.cgm_enc_graph.specs.Adding.{CanTake, with_written}
 
 -- ---- one rule
 

@@ -7,11 +7,9 @@ use Rattle.cgm_atom.specs.declared.constraints.Row.{Row}
 use Rattle.cgm_atom.specs.declared.constraints.Var.{Var}
 use Rattle.cgm_atom.specs.Atoms.{activity}
 use Rattle.cgm_atom.specs.Limits.{AreTermsOf}
+use Rattle.cgm_atom.specs.Literals.{clause, literal, negated, truth_at}
 use Rattle.cgm_enc_formula.specs.declared.literals.Literal.{Literal}
 use Rattle.cgm_enc_formula.specs.Literals.{atom_of, literal_true, opposite}
-use Rattle.cgm_enc_graph.specs.Assignments.{truth_at}
-use Rattle.cgm_enc_graph.specs.GraphClauses.{clause}
-use Rattle.cgm_enc_graph.specs.Literals.{literal, negated}
 use Rattle.cgm_formula.specs.Truth.{same_truth}
 
 pub data Definition : Type 0 where

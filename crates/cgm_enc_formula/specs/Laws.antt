@@ -3,6 +3,7 @@ use Rattle.std.specs.Prelude.{◌≡◌, ◌↔◌, ℕ, ◌*◌, ◌<◌, ◌�
 use Rattle.std.specs.List.{All}
 use Rattle.cgm_atom.specs.Atoms.{clause_true, row_true}
 use Rattle.cgm_atom.specs.Bounds.{value_of}
+use Rattle.cgm_atom.specs.Literals.{truth_at}
 use Rattle.cgm_base.specs.declared.limit.Which.TheVariants as limits
 use Rattle.cgm_base.specs.Words.{limit_number}
 use Rattle.cgm_formula.specs.declared.assignment.Assignment.{Assignment}
@@ -16,7 +17,6 @@ use Rattle.cgm_enc_formula.specs.Building.{Part, rules_part}
 use Rattle.cgm_enc_formula.specs.Definitions.{AreDefined, AreDefinitionsFrom, Definition, definition_true}
 use Rattle.cgm_enc_formula.specs.Rules.{rule_definitions}
 use Rattle.cgm_enc_formula.specs.Terms.{model_variables, number_variable}
-use Rattle.cgm_enc_graph.specs.Assignments.{truth_at}
 
 -- each variable and each sum has the value of its problem variable
 pub record StandForNumbers (m : Lists) (values : List ℤ) (a : Assignment) (sums : List ℤ) : Type 0 where

@@ -2,8 +2,8 @@
 use Rattle.std.specs.Prelude.{ℕ, Bool, true, cond, not, List, ℤ}
 use Rattle.cgm_atom.specs.declared.constraints.Atom.{Atom}
 use Rattle.cgm_atom.specs.Atoms.{atom_true}
+use Rattle.cgm_atom.specs.Literals.{literal, negated}
 use Rattle.cgm_enc_formula.specs.declared.literals.Literal.{Literal}
-use Rattle.cgm_enc_graph.specs.Literals.{literal, negated}
 
 -- the literal of a variable
 abbrev pub positive : ℕ → Literal

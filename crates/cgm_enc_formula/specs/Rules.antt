@@ -3,6 +3,7 @@ use Rattle.std.specs.Prelude.{ℕ, ◌+◌, List, [], ◌∷◌, ◌++◌, lengt
 use Rattle.std.specs.List.{All, enumerate_from}
 use Rattle.cgm_atom.specs.declared.constraints.Clause.{Clause}
 use Rattle.cgm_atom.specs.declared.constraints.Row.{Row}
+use Rattle.cgm_atom.specs.Literals.{clause, literal, negated}
 use Rattle.cgm_model.specs.declared.lists.Lists.{Lists}
 use Rattle.cgm_model.specs.declared.lists.Rule.{Rule}
 use Rattle.cgm_model.specs.declared.lists.Rule.TheVariants as rules
@@ -13,8 +14,6 @@ use Rattle.cgm_enc_formula.specs.Definitions.{Definition, definition_clauses, de
 use Rattle.cgm_enc_formula.specs.Literals.{atom_of}
 use Rattle.cgm_enc_formula.specs.Naming.{naming}
 use Rattle.cgm_enc_formula.specs.Terms.{IsEncodableFormula}
-use Rattle.cgm_enc_graph.specs.GraphClauses.{clause}
-use Rattle.cgm_enc_graph.specs.Literals.{literal, negated}
 
 -- the clauses and the rows of definitions of which the first has variable n
 abbrev pub clauses_from : ℕ → List Definition → List Clause

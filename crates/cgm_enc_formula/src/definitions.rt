@@ -1,17 +1,17 @@
 //! Naming variables, each with the clauses or rows that define it.
 ghost use Rattle.std.specs.Prelude.{◌≡◌, ◌+◌, ◌-◌, ◌^◌, ◌<◌, ◌≤◌, ◌∷◌, [], length, map, pos, neg_ℤ, ◌+ℤ◌, unsigned_abs, All, IfOk, OnOk};
+ghost use Rattle.cgm_atom.specs.Adding.{CanTake, with_written};
 ghost use Rattle.cgm_atom.specs.Building.{with_row, with_var};
 ghost use Rattle.cgm_atom.specs.Instance.{var_count};
 ghost use Rattle.cgm_atom.specs.Limits.{AreTermsOf, max_least, max_measure};
 ghost use Rattle.cgm_enc_formula.specs.Building.{HasRoomFor, definition_part, with_part};
 ghost use Rattle.cgm_enc_formula.specs.Definitions.{all_of, any_of, at_least, at_most, one_of as one_of_clause, pairs, row_where, same_as};
 ghost use Rattle.cgm_enc_formula.specs.Literals.{opposite as opposite_of, positive as positive_of};
-ghost use Rattle.cgm_enc_graph.specs.Adding.{CanTake, with_written};
 
 use crate::literals::{Literal, atom, opposite, positive};
 use crate::terms::negative;
+use cgm_atom::literals::{add_clause, literal, negated};
 use cgm_atom::{Atom, BuildStop, OutOfMemory, ProblemBuilder, Row, Seq, Var};
-use cgm_enc_graph::{add_clause, literal, negated};
 use std::alloc::Global;
 
 /// A variable that is true exactly where all literals are.

@@ -6,9 +6,12 @@ use Rattle.std.proofs.lemmas.List.Elements.{All-append, All-cons, All-filter, Al
 use Rattle.std.proofs.lemmas.List.FromFn.{get_or-enumerate_from, length-enumerate_from}
 use Rattle.cgm_atom.specs.declared.constraints.Atom.{Atom}
 use Rattle.cgm_atom.specs.declared.constraints.Clause.{Clause}
+use Rattle.cgm_atom.specs.Adding.{CanTake}
 use Rattle.cgm_atom.specs.Building.{without_repeats}
 use Rattle.cgm_atom.specs.Instance.{Instance, var_count}
 use Rattle.cgm_atom.specs.Limits.{IsAtomOf, IsClauseOf}
+use Rattle.cgm_atom.specs.Literals.{clause, implication, literal, negated}
+use Rattle.cgm_atom.proofs.Additions.{all_at, all_of, flattened, flattened-steps, numbered, numbered-all, numbered-steps}
 use Rattle.cgm_atom.proofs.Fresh.{All-first_atoms}
 use Rattle.cgm_base.specs.declared.limit.Which.TheVariants as limits
 use Rattle.cgm_base.specs.Words.{limit_number}
@@ -20,11 +23,8 @@ use Rattle.cgm_model.specs.Graph.{IsKnown}
 use Rattle.cgm_model.specs.Statement.{IsEdgeOf}
 use Rattle.cgm_model.specs.TruthVariables.{truth_variables}
 use Rattle.cgm_model.specs.WellFormed.{IsAssertion, IsWellFormed}
-use Rattle.cgm_enc_graph.specs.Adding.{CanTake}
-use Rattle.cgm_enc_graph.specs.GraphClauses.{assertion_clause, bind_clauses, clause, conflict_clause, contrib_clause, edge_group, element_clauses, fact_group, graph_clauses, implication, must_clauses, numbered_elements, numbered_refinements, refinement_clauses, refinement_group, target_of, variables_for, written_clauses}
+use Rattle.cgm_enc_graph.specs.GraphClauses.{assertion_clause, bind_clauses, conflict_clause, contrib_clause, edge_group, element_clauses, fact_group, graph_clauses, must_clauses, numbered_elements, numbered_refinements, refinement_clauses, refinement_group, target_of, variables_for, written_clauses}
 use Rattle.cgm_enc_graph.specs.Laws.{max_graph_clauses}
-use Rattle.cgm_enc_graph.specs.Literals.{literal, negated}
-use Rattle.cgm_enc_graph.proofs.Additions.{all_at, all_of, flattened, flattened-steps, numbered, numbered-all, numbered-steps}
 use Rattle.cgm_enc_graph.proofs.Groups.{each_from, whole_all, whole_few}
 use Rattle.cgm_enc_graph.proofs.KnownNames.{HasKnownNames, known_names}
 

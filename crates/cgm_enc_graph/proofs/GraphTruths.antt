@@ -6,6 +6,9 @@ use Rattle.std.proofs.lemmas.Bool.Decides.{Decides-like}
 use Rattle.std.proofs.lemmas.List.Sums.{AllPass-from_list_all, list_all-from_AllPass}
 use Rattle.cgm_atom.specs.declared.constraints.Clause.{Clause}
 use Rattle.cgm_atom.specs.Atoms.{clause_true}
+use Rattle.cgm_atom.specs.Literals.{truth_at}
+use Rattle.cgm_atom.proofs.Additions.{all_at, all_of, flattened, flattened-steps, mapped, mapped-steps, numbered, numbered-all, numbered-steps, one_of}
+use Rattle.cgm_atom.proofs.ClauseTruths.{all_repeats-true}
 use Rattle.cgm_formula.specs.declared.assignment.Assignment.{Assignment}
 use Rattle.cgm_model.specs.declared.lists.Element.{Element}
 use Rattle.cgm_model.specs.declared.lists.Lists.{Lists}
@@ -15,10 +18,8 @@ use Rattle.cgm_model.specs.Realization.{IsRealization, KeepsAssertion, KeepsBind
 use Rattle.cgm_model.specs.Statement.{IsEdgeOf}
 use Rattle.cgm_model.specs.TruthVariables.{StandFor}
 use Rattle.cgm_model.specs.WellFormed.{IsAssertion, IsWellFormed}
-use Rattle.cgm_enc_graph.specs.Assignments.{KeepsGraph, truth_at}
 use Rattle.cgm_enc_graph.specs.GraphClauses.{assertion_clause, bind_clauses, conflict_clause, contrib_clause, element_clauses, graph_clauses, must_clauses, numbered_elements, numbered_refinements, refinement_clauses, variables_for, written_clauses}
-use Rattle.cgm_enc_graph.proofs.Additions.{all_at, all_of, flattened, flattened-steps, mapped, mapped-steps, numbered, numbered-all, numbered-steps, one_of}
-use Rattle.cgm_enc_graph.proofs.ClauseTruths.{all_repeats-true}
+use Rattle.cgm_enc_graph.specs.GraphRules.{KeepsGraph}
 use Rattle.cgm_enc_graph.proofs.Groups.{Mean, Mean-append, each_from, whole_means}
 use Rattle.cgm_enc_graph.proofs.KnownNames.{HasKnownNames, known_names}
 use Rattle.cgm_enc_graph.proofs.RuleTruths.{assertion_means, bind_means, conflict_means, contrib_means, element_means, must_means, refinement_means}

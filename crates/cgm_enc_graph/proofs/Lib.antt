@@ -1,5 +1,3 @@
-pub mod Additions
-pub mod ClauseTruths
 pub mod GraphSizes
 pub mod GraphTruths
 pub mod Groups

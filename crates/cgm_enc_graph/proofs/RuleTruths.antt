@@ -9,6 +9,8 @@ use Rattle.std.proofs.lemmas.List.Elements.{All-cons, All-head, All-nil, All-tai
 use Rattle.std.proofs.lemmas.Option.{none-some, same_Some, slice_get_cases, slice_get_within}
 use Rattle.cgm_atom.specs.declared.constraints.Clause.{Clause}
 use Rattle.cgm_atom.specs.Atoms.{atom_true, clause_true}
+use Rattle.cgm_atom.specs.Literals.{clause, implication, literal, negated, truth_at}
+use Rattle.cgm_atom.proofs.ClauseTruths.{Decides-implies, implication-true, literals-any, negated-any, negated-true}
 use Rattle.cgm_formula.specs.declared.assignment.Assignment.{Assignment}
 use Rattle.cgm_model.specs.declared.lists.Assertion.{Assertion}
 use Rattle.cgm_model.specs.declared.lists.Edge.{Edge}
@@ -20,20 +22,13 @@ use Rattle.cgm_model.specs.Graph.{IsKnown}
 use Rattle.cgm_model.specs.Realization.{KeepsAssertion, KeepsBind, KeepsConflict, KeepsContrib, KeepsElement, KeepsMust, KeepsRefinement, Refines, TargetIsTrue}
 use Rattle.cgm_model.specs.Statement.{IsEdgeOf}
 use Rattle.cgm_model.specs.TruthVariables.{StandFor}
-use Rattle.cgm_enc_graph.specs.Assignments.{truth_at}
-use Rattle.cgm_enc_graph.specs.GraphClauses.{assertion_clause, bind_clauses, clause, conflict_clause, contrib_clause, element_clauses, implication, must_clauses, numbered_refinements, refinement_clauses, target_of, variables_for}
-use Rattle.cgm_enc_graph.specs.Literals.{literal, negated}
-use Rattle.cgm_enc_graph.proofs.ClauseTruths.{implication-true, literals-any, negated-any, negated-true}
+use Rattle.cgm_enc_graph.specs.GraphClauses.{assertion_clause, bind_clauses, conflict_clause, contrib_clause, element_clauses, must_clauses, numbered_refinements, refinement_clauses, target_of, variables_for}
 use Rattle.cgm_enc_graph.proofs.Groups.{Mean, Mean-append}
 
 -- ---- truth values that decide facts
 
 by_equal : (s t : Bool) → s ≡ t → Decides t (IsTrue s)
 by_equal s t e = (λ h. e ∙ h, λ h. sym e ∙ h)
-
-pub Decides-implies : (s t : Bool) (P Q : Type 0) → Decides s P → Decides t Q → Decides (not s || t) (P → Q)
-Decides-implies true t P Q p q = (λ h _. q.0 h, λ f. q.1 (f (p.0 refl)))
-Decides-implies false t P Q p q = (λ _ x. absurd (false≢true (p.1 x)), λ _. refl)
 
 and_true : (t : Bool) → (t && true) ≡ t
 and_true true = refl

@@ -1,9 +1,9 @@
 -- The clauses of a goal graph, by group in their order. In comments a name stands for its literal, and `~` is negation.
 use Rattle.std.specs.Prelude.{ℕ, ◌==◌, cond, if◌then◌else◌, List, [], ◌∷◌, ◌++◌, length, map, filter, flat_map, slice_index}
 use Rattle.std.specs.List.{enumerate_from}
-use Rattle.cgm_atom.specs.declared.constraints.Atom.{Atom}
 use Rattle.cgm_atom.specs.declared.constraints.Clause.{Clause}
 use Rattle.cgm_atom.specs.Building.{without_repeats}
+use Rattle.cgm_atom.specs.Literals.{clause, implication, literal, negated}
 use Rattle.cgm_formula.specs.declared.formula.Truth.TheVariants.{Refinement as RefinementName}
 use Rattle.cgm_model.specs.declared.lists.Assertion.{Assertion}
 use Rattle.cgm_model.specs.declared.lists.Edge.{Edge}
@@ -11,14 +11,6 @@ use Rattle.cgm_model.specs.declared.lists.Element.{Element}
 use Rattle.cgm_model.specs.declared.lists.Lists.{Lists}
 use Rattle.cgm_model.specs.declared.lists.Refinement.{Refinement}
 use Rattle.cgm_model.specs.TruthVariables.{variable_of}
-use Rattle.cgm_enc_graph.specs.Literals.{literal, negated}
-
-abbrev pub clause : List Atom → Clause
-clause atoms = record { atoms = atoms }
-
--- `~A B`
-abbrev pub implication : ℕ → ℕ → Clause
-implication a b = clause (negated a ∷ literal b ∷ [])
 
 -- elements and refinements, each with its variable
 abbrev pub numbered_elements : Lists → List (ℕ × Element)

@@ -3,6 +3,7 @@ use Rattle.std.specs.Prelude.{◌↔◌, ℕ, ◌+◌, ◌*◌, ◌≤◌, IsTru
 use Rattle.std.specs.List.{All}
 use Rattle.cgm_atom.specs.Atoms.{clause_true}
 use Rattle.cgm_atom.specs.Limits.{IsClauseOf}
+use Rattle.cgm_atom.specs.Literals.{truth_at}
 use Rattle.cgm_base.specs.declared.limit.Which.TheVariants as limits
 use Rattle.cgm_base.specs.Words.{limit_number}
 use Rattle.cgm_formula.specs.declared.assignment.Assignment.{Assignment}
@@ -11,8 +12,8 @@ use Rattle.cgm_model.specs.Realization.{IsRealization, KeepsRule}
 use Rattle.cgm_model.specs.Place.{Each}
 use Rattle.cgm_model.specs.TruthVariables.{StandFor, truth_variables}
 use Rattle.cgm_model.specs.WellFormed.{IsWellFormed}
-use Rattle.cgm_enc_graph.specs.Assignments.{KeepsGraph, truth_at}
 use Rattle.cgm_enc_graph.specs.GraphClauses.{graph_clauses}
+use Rattle.cgm_enc_graph.specs.GraphRules.{KeepsGraph}
 
 -- each clause is true of the values exactly where the assignment that they stand for keeps the rules of the graph
 abbrev pub GraphClausesMeanRules : Type 0

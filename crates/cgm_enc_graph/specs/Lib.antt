@@ -1,5 +1,3 @@
-pub mod Adding
-pub mod Assignments
 pub mod GraphClauses
+pub mod GraphRules
 pub mod Laws
-pub mod Literals

@@ -1,13 +1,13 @@
 //! The clauses of contributions, conflicts and bindings.
 ghost use Rattle.std.specs.Prelude.{◌≡◌, ◌<◌, ◌∷◌, [], length, map, flat_map, All, OnOk};
+ghost use Rattle.cgm_atom.specs.Adding.{CanTake, with_written};
 ghost use Rattle.cgm_formula.specs.declared.formula.Truth.TheVariants as truth;
 ghost use Rattle.cgm_model.specs.Model.{lists_of};
 ghost use Rattle.cgm_model.specs.Statement.{IsEdgeOf};
 ghost use Rattle.cgm_model.specs.TruthVariables.{variable_of};
-ghost use Rattle.cgm_enc_graph.specs.Adding.{CanTake, with_written};
 ghost use Rattle.cgm_enc_graph.specs.GraphClauses.{bind_clauses, conflict_clause, contrib_clause, target_of as target_in};
 
-use crate::adding::{add_clause, add_implication, literal, negated};
+use cgm_atom::literals::{add_clause, add_implication, literal, negated};
 use cgm_atom::{OutOfMemory, ProblemBuilder};
 use cgm_model::{Edge, Model};
 use std::alloc::Global;

@@ -1,10 +1,10 @@
 //! The clauses of goals with `must` and of assertions.
 ghost use Rattle.std.specs.Prelude.{◌≡◌, ◌≤◌, ◌^◌, ◌∷◌, [], length, map, flat_map, OnOk};
 ghost use Rattle.std.specs.List.{enumerate_from};
-ghost use Rattle.cgm_enc_graph.specs.Adding.{CanTake, with_written};
+ghost use Rattle.cgm_atom.specs.Adding.{CanTake, with_written};
 ghost use Rattle.cgm_enc_graph.specs.GraphClauses.{assertion_clause, must_clauses};
 
-use crate::adding::{add_clause, literal, negated};
+use cgm_atom::literals::{add_clause, literal, negated};
 use cgm_atom::{OutOfMemory, ProblemBuilder};
 use cgm_model::{Assertion, Element};
 use std::alloc::Global;

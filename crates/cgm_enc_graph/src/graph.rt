@@ -1,9 +1,9 @@
 //! The clauses of a goal graph.
 ghost use Rattle.std.specs.Prelude.{◌≡◌, ◌≤◌, ◌^◌, length, OnOk};
+ghost use Rattle.cgm_atom.specs.Adding.{CanTake, with_clauses, with_written};
 ghost use Rattle.cgm_atom.specs.Instance.{var_count};
 ghost use Rattle.cgm_model.specs.Model.{lists_of};
 ghost use Rattle.cgm_model.specs.TruthVariables.{truth_variables};
-ghost use Rattle.cgm_enc_graph.specs.Adding.{CanTake, with_clauses, with_written};
 ghost use Rattle.cgm_enc_graph.specs.GraphClauses.{edge_group, fact_group, graph_clauses, refinement_group};
 
 use crate::edges::{add_binds, add_conflicts, add_contribs};

@@ -1,7 +1,6 @@
 //! The clauses of a goal graph: refinements, contributions, conflicts, bindings, goals with `must` and assertions.
 #![tactic(auto)]
 
-mod adding;
 mod edges;
 mod facts;
 mod graph;
@@ -9,6 +8,5 @@ pub mod laws;
 mod refinements;
 mod targets;
 
-pub use adding::{add_clause, literal, negated};
 pub use cgm_atom::OutOfMemory;
 pub use graph::add_graph;

@@ -1,11 +1,13 @@
 //! The clauses of refinements, and of the elements that they refine.
 ghost use Rattle.std.specs.Prelude.{◌≡◌, ◌+◌, ◌<◌, ◌≤◌, ◌^◌, ◌++◌, ◌∷◌, [], length, map, flat_map, OnOk};
 ghost use Rattle.std.specs.List.{enumerate_from};
-ghost use Rattle.cgm_enc_graph.specs.Adding.{CanTake, with_written};
-ghost use Rattle.cgm_enc_graph.specs.GraphClauses.{clause, element_clauses, implication, refinement_clauses};
-ghost use Rattle.cgm_enc_graph.specs.Literals.{literal as literal_of, negated as negated_of};
+ghost use Rattle.cgm_atom.specs.Adding.{CanTake, with_written};
+ghost use Rattle.cgm_atom.specs.Literals.{clause, implication, literal as literal_of, negated as negated_of};
+ghost use Rattle.cgm_enc_graph.specs.GraphClauses.{element_clauses, refinement_clauses};
 
-use crate::adding::{add_clause, add_implication, literal, negated, push_literals, push_negated};
+use cgm_atom::literals::{
+    add_clause, add_implication, literal, negated, push_literals, push_negated,
+};
 use cgm_atom::{OutOfMemory, ProblemBuilder};
 use cgm_formula::Parts;
 use cgm_model::Refinement;

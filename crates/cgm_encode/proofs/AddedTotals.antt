@@ -5,8 +5,8 @@ use Rattle.std.specs.List.{All}
 use Rattle.std.proofs.lemmas.Int.{ints}
 use Rattle.std.proofs.lemmas.List.Elements.{All-head, All-tail}
 use Rattle.std.proofs.lemmas.List.Sums.{sum_by-cons}
+use Rattle.cgm_atom.specs.Literals.{bit}
 use Rattle.cgm_model.specs.Sums.{total_by}
-use Rattle.cgm_encode.specs.Assignments.{bit}
 
 pub total_map : {X Y : Type 0} (f : X → Y) (g : Y → ℤ) (xs : List X) → total_by g (map f xs) ≡ total_by (λ x. g (f x)) xs
 total_map f g [] = refl

@@ -10,6 +10,8 @@ use Rattle.cgm_atom.specs.Atoms.{clause_true, row_true}
 use Rattle.cgm_atom.specs.Bounds.{value_of}
 use Rattle.cgm_atom.specs.Building.{without_repeats}
 use Rattle.cgm_atom.specs.Instance.{IsSolution, values_at, vector}
+use Rattle.cgm_atom.specs.Literals.{bit, truth_at}
+use Rattle.cgm_atom.proofs.Additions.{All-back, All-front}
 use Rattle.cgm_formula.specs.declared.assignment.Assignment.{Assignment}
 use Rattle.cgm_formula.specs.declared.formula.Number.TheVariants as number
 use Rattle.cgm_formula.specs.declared.formula.Truth.{Truth}
@@ -28,11 +30,9 @@ use Rattle.cgm_evolve.specs.Pairs.{Pair}
 use Rattle.cgm_obj.specs.Vector.{objective_number, vector_of}
 use Rattle.cgm_enc_formula.specs.Laws.{MeetPart, RulesPartMeansRules, StandForNumbers}
 use Rattle.cgm_enc_formula.specs.Terms.{model_variables, number_variable}
-use Rattle.cgm_enc_graph.specs.Assignments.{truth_at}
 use Rattle.cgm_enc_graph.specs.GraphClauses.{graph_clauses}
-use Rattle.cgm_enc_graph.proofs.Additions.{All-back, All-front}
 use Rattle.cgm_enc_graph.proofs.GraphTruths.{graph_means, realization_keeps}
-use Rattle.cgm_encode.specs.Assignments.{bit, decoded}
+use Rattle.cgm_encode.specs.Assignments.{decoded}
 use Rattle.cgm_encode.specs.Laws.{DecodesTo}
 use Rattle.cgm_encode.specs.Problem.{all_ranges, bits, choice_ranges, model_rules_part, number_ranges, objective_range, objective_rows, own_range, own_ranges, preferences_written, problem_of, rule_ranges, sum_range, sum_rows}
 use Rattle.cgm_encode.specs.Variables.{first_objective, first_preference, naming_count}

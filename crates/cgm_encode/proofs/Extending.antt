@@ -13,6 +13,7 @@ use Rattle.cgm_atom.specs.Atoms.{clause_true, row_true}
 use Rattle.cgm_atom.specs.Bounds.{value_of}
 use Rattle.cgm_atom.specs.Building.{without_repeats}
 use Rattle.cgm_atom.specs.Instance.{IsSolution}
+use Rattle.cgm_atom.specs.Literals.{bit, truth_at}
 use Rattle.cgm_formula.specs.declared.assignment.Assignment.{Assignment}
 use Rattle.cgm_formula.specs.declared.formula.Number.TheVariants as number
 use Rattle.cgm_formula.specs.declared.formula.Truth.{Truth}
@@ -37,10 +38,9 @@ use Rattle.cgm_enc_formula.specs.Laws.{ExtendedAreDefined, RuleDefinitionsAreKno
 use Rattle.cgm_enc_formula.specs.Rules.{rule_definitions}
 use Rattle.cgm_enc_formula.specs.Terms.{model_variables, number_variable}
 use Rattle.cgm_enc_formula.proofs.Extending.{definition_agrees, extended_keeps}
-use Rattle.cgm_enc_graph.specs.Assignments.{truth_at}
 use Rattle.cgm_enc_graph.specs.GraphClauses.{graph_clauses}
 use Rattle.cgm_enc_graph.proofs.GraphTruths.{graph_means, realization_keeps}
-use Rattle.cgm_encode.specs.Assignments.{bit, choice_values, decoded, extension, number_values, rule_values}
+use Rattle.cgm_encode.specs.Assignments.{choice_values, decoded, extension, number_values, rule_values}
 use Rattle.cgm_encode.specs.Laws.{ExtendsTo}
 use Rattle.cgm_encode.specs.Problem.{all_ranges, bits, choice_ranges, model_rules_part, number_ranges, objective_range, objective_rows, own_range, own_ranges, preferences_written, problem_of, rule_ranges, sum_range, sum_rows}
 use Rattle.cgm_encode.specs.Quantities.{objective_total, sum_total}

@@ -7,6 +7,7 @@ use Rattle.std.proofs.lemmas.List.FromFn.{length-range_with_len}
 use Rattle.cgm_atom.specs.declared.constraints.Clause.{Clause}
 use Rattle.cgm_atom.specs.declared.constraints.Row.{Row}
 use Rattle.cgm_atom.specs.declared.constraints.Var.{Var}
+use Rattle.cgm_atom.specs.Adding.{with_clauses, with_written}
 use Rattle.cgm_atom.specs.Bounds.{Bounds}
 use Rattle.cgm_atom.specs.Building.{empty_instance, without_repeats}
 use Rattle.cgm_atom.specs.Instance.{Instance, var_count}
@@ -18,7 +19,6 @@ use Rattle.cgm_model.specs.TruthVariables.{truth_variables}
 use Rattle.cgm_evolve.specs.Pairs.{Pair}
 use Rattle.cgm_enc_formula.specs.Building.{rules_part, with_part}
 use Rattle.cgm_enc_formula.specs.Terms.{model_variables, number_variable}
-use Rattle.cgm_enc_graph.specs.Adding.{with_clauses, with_written}
 use Rattle.cgm_enc_graph.specs.GraphClauses.{graph_clauses}
 use Rattle.cgm_encode.specs.declared.expressions.Expression.{Expression}
 use Rattle.cgm_encode.specs.Building.{defining_rows, expression_of, expression_range, with_ranges}

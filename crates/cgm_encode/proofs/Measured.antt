@@ -6,9 +6,11 @@ use Rattle.std.proofs.lemmas.List.{get_or-map, length-append, length-map}
 use Rattle.std.proofs.lemmas.List.Elements.{All-map, All-weaker}
 use Rattle.cgm_atom.specs.declared.constraints.Row.{Row}
 use Rattle.cgm_atom.specs.declared.constraints.Var.{Var}
+use Rattle.cgm_atom.specs.Adding.{CanTake}
 use Rattle.cgm_atom.specs.Building.{without_repeats}
 use Rattle.cgm_atom.specs.Instance.{Instance, var_count}
 use Rattle.cgm_atom.specs.Limits.{AreTermsOf, IsClauseOf, max_measure, measure}
+use Rattle.cgm_atom.proofs.Additions.{All-back, All-front}
 use Rattle.cgm_model.specs.declared.lists.Lists.{Lists}
 use Rattle.cgm_model.specs.declared.lists.Objective.{Objective}
 use Rattle.cgm_model.specs.declared.lists.Preference.{Preference}
@@ -17,8 +19,6 @@ use Rattle.cgm_model.specs.WellFormed.{IsWellFormed}
 use Rattle.cgm_evolve.specs.Pairs.{Pair}
 use Rattle.cgm_enc_formula.proofs.RuleSizes.{rules_part_small}
 use Rattle.cgm_enc_formula.proofs.TermOrders.{terms_wider}
-use Rattle.cgm_enc_graph.proofs.Additions.{All-back, All-front}
-use Rattle.cgm_enc_graph.specs.Adding.{CanTake}
 use Rattle.cgm_enc_graph.specs.GraphClauses.{graph_clauses}
 use Rattle.cgm_encode.specs.declared.expressions.Expression.{Expression}
 use Rattle.cgm_encode.specs.Building.{IsDefining, IsMeasured, defining_rows, expression_of, expression_range, with_ranges}

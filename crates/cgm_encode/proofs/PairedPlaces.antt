@@ -4,9 +4,9 @@ use Rattle.std.specs.Prelude.{flat_map}
 use Rattle.std.specs.List.{zip}
 use Rattle.std.proofs.lemmas.List.{drop_all, drop_more}
 use Rattle.cgm_atom.specs.declared.constraints.Clause.{Clause}
+use Rattle.cgm_atom.specs.Adding.{CanTake, with_written}
 use Rattle.cgm_atom.specs.Instance.{Instance}
-use Rattle.cgm_enc_graph.specs.Adding.{CanTake, with_written}
-use Rattle.cgm_enc_graph.proofs.Additions.{AreLeft, first_left, left_more, left_none}
+use Rattle.cgm_atom.proofs.Additions.{AreLeft, first_left, left_more, left_none}
 
 module _ {X Y : Type 0} (f : X × Y → List Clause) where
   abbrev pub clauses_behind : ℕ → List X → List Y → List Clause

@@ -5,15 +5,14 @@ use Rattle.std.specs.List.{All, list_all}
 use Rattle.std.proofs.lemmas.Bool.{false≢true}
 use Rattle.std.proofs.lemmas.List.Sums.{AllPass-from_list_all, list_all-from_AllPass}
 use Rattle.cgm_atom.specs.Atoms.{atom_true, clause_true}
+use Rattle.cgm_atom.specs.Literals.{negated, truth_at}
+use Rattle.cgm_atom.proofs.ClauseTruths.{negated-true}
 use Rattle.cgm_formula.specs.declared.assignment.Assignment.{Assignment}
 use Rattle.cgm_formula.specs.Reading.{name_in}
 use Rattle.cgm_model.specs.declared.lists.Lists.{Lists}
 use Rattle.cgm_model.specs.declared.lists.Preference.{Preference}
 use Rattle.cgm_model.specs.TruthVariables.{variable_of}
 use Rattle.cgm_obj.specs.Counts.{is_met}
-use Rattle.cgm_enc_graph.specs.Assignments.{truth_at}
-use Rattle.cgm_enc_graph.specs.Literals.{negated}
-use Rattle.cgm_enc_graph.proofs.ClauseTruths.{negated-true}
 use Rattle.cgm_encode.specs.Problem.{preference_clauses}
 
 -- what the three clauses say, where nu, na, nb are what is said of the negations

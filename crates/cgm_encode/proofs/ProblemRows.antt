@@ -8,6 +8,7 @@ use Rattle.std.proofs.lemmas.List.Elements.{All-cons, All-nil}
 use Rattle.cgm_atom.specs.declared.constraints.Var.{Var}
 use Rattle.cgm_atom.specs.Bounds.{Bounds}
 use Rattle.cgm_atom.specs.Limits.{AreTermsOf, IsAbsent, IsAtomOf, IsClauseOf, IsRowOf, greatest_size}
+use Rattle.cgm_atom.specs.Literals.{clause, literal, negated}
 use Rattle.cgm_formula.specs.declared.formula.Number.TheVariants as number
 use Rattle.cgm_model.specs.declared.lists.Lists.{Lists}
 use Rattle.cgm_model.specs.declared.lists.Objective.{Objective}
@@ -17,8 +18,6 @@ use Rattle.cgm_model.specs.WellFormed.{IsWellFormed}
 use Rattle.cgm_evolve.specs.Pairs.{Pair}
 use Rattle.cgm_enc_formula.specs.Definitions.{negative}
 use Rattle.cgm_enc_formula.specs.Terms.{number_variable}
-use Rattle.cgm_enc_graph.specs.GraphClauses.{clause}
-use Rattle.cgm_enc_graph.specs.Literals.{literal, negated}
 use Rattle.cgm_encode.specs.Problem.{all_ranges, box_of, number_ranges, objective_rows, preference_clauses, preferences_written, problem_of, sum_rows}
 use Rattle.cgm_encode.specs.Quantities.{objective_total, sum_total}
 use Rattle.cgm_encode.specs.Totals.{Range, Total, combined_terms, row_of, total_rows}

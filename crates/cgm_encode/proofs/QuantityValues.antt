@@ -7,6 +7,7 @@ use Rattle.std.proofs.lemmas.List.Elements.{All-filter}
 use Rattle.std.proofs.lemmas.List.FromFn.{get_or-range_with_len, length-range_with_len}
 use Rattle.std.proofs.lemmas.List.Sums.{length-filter}
 use Rattle.cgm_atom.specs.Bounds.{value_of}
+use Rattle.cgm_atom.specs.Literals.{bit}
 use Rattle.cgm_formula.specs.declared.assignment.Assignment.{Assignment}
 use Rattle.cgm_formula.specs.declared.formula.Number.TheVariants as number
 use Rattle.cgm_formula.specs.declared.formula.Truth.{Truth}
@@ -30,7 +31,6 @@ use Rattle.cgm_evolve.specs.Pairs.{Pair}
 use Rattle.cgm_obj.specs.Counts.{is_free_requirement, is_met}
 use Rattle.cgm_obj.specs.Vector.{objective_number, quantity}
 use Rattle.cgm_enc_formula.specs.Terms.{number_variable}
-use Rattle.cgm_encode.specs.Assignments.{bit}
 use Rattle.cgm_encode.specs.Quantities.{objective_total, ones, quantity_total, sum_total, was_true_before}
 use Rattle.cgm_encode.specs.Totals.{Share, Total, opposite_total, total_value}
 use Rattle.cgm_encode.specs.Variables.{first_preference}

@@ -4,6 +4,7 @@ use Rattle.std.specs.Prelude.{ℤ}
 use Rattle.std.specs.List.{list_all, list_any}
 use Rattle.std.proofs.lemmas.List.{append_assoc, drop_more, map-append}
 use Rattle.std.proofs.lemmas.List.Folds.{list_all-map}
+use Rattle.cgm_atom.specs.Literals.{bit}
 use Rattle.cgm_formula.specs.declared.formula.Formula.{Formula}
 use Rattle.cgm_formula.specs.declared.formula.Formula.TheVariants.{And, Or, Implies, Iff}
 use Rattle.cgm_formula.specs.declared.formula.Number.{Number}
@@ -13,7 +14,6 @@ use Rattle.cgm_formula.proofs.Folds.{fold-And, fold-Iff, fold-Implies, fold-Or}
 use Rattle.cgm_formula.proofs.Truths.{list_any-map}
 use Rattle.cgm_model.specs.declared.lists.Rule.{Rule}
 use Rattle.cgm_model.specs.Formulas.{formula_of}
-use Rattle.cgm_encode.specs.Assignments.{bit}
 use Rattle.cgm_encode.specs.Telling.{Told, all_truths, rule_truths, telling, told, told_step}
 
 pub on_ok : {X E : Type 0} {P Q : Type 0} (r : Result X E) → (P → Q) → OnOk r P → OnOk r Q

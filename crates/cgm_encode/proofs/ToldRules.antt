@@ -6,6 +6,7 @@ use Rattle.std.proofs.lemmas.List.{append-nil, get_or-append-add, get_or-map, ge
 use Rattle.std.proofs.lemmas.List.Elements.{recursion_from_All}
 use Rattle.std.proofs.lemmas.List.FromFn.{length-map-range_with_len}
 use Rattle.cgm_atom.specs.Bounds.{value_of}
+use Rattle.cgm_atom.specs.Literals.{bit, truth_at}
 use Rattle.cgm_formula.specs.declared.assignment.Assignment.{Assignment}
 use Rattle.cgm_formula.specs.declared.formula.Number.{Number}
 use Rattle.cgm_formula.specs.declared.formula.Number.TheVariants as number
@@ -26,8 +27,7 @@ use Rattle.cgm_enc_formula.specs.Rules.{rule_definitions}
 use Rattle.cgm_enc_formula.specs.Terms.{model_variables, number_variable}
 use Rattle.cgm_enc_formula.proofs.NamingKnown.{rule_formulas_known}
 use Rattle.cgm_enc_formula.proofs.WellFormedRules.{each_rule}
-use Rattle.cgm_enc_graph.specs.Assignments.{truth_at}
-use Rattle.cgm_encode.specs.Assignments.{bit, choice_values, number_values, rule_values}
+use Rattle.cgm_encode.specs.Assignments.{choice_values, number_values, rule_values}
 use Rattle.cgm_encode.specs.Telling.{rule_truths}
 use Rattle.cgm_encode.proofs.ToldValues.{IsReadable, Reads, formulas_told, two}
 

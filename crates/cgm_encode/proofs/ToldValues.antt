@@ -6,6 +6,7 @@ use Rattle.std.proofs.lemmas.List.{append-nil, append_assoc, get_or_push, length
 use Rattle.std.proofs.lemmas.List.Elements.{All-cons, All-nil, All-weaker, recursion_from_All}
 use Rattle.std.proofs.lemmas.List.Folds.{list_all-map}
 use Rattle.cgm_atom.specs.Bounds.{value_of}
+use Rattle.cgm_atom.specs.Literals.{bit, truth_at}
 use Rattle.cgm_formula.specs.declared.formula.Formula.{Formula}
 use Rattle.cgm_formula.specs.declared.formula.Formula.TheOpen.{Formula-F}
 use Rattle.cgm_formula.specs.declared.formula.Formula.TheVariants.{Name, Not, And, Or, Implies, Iff, AtMost, AtLeast, Equal}
@@ -33,8 +34,6 @@ use Rattle.cgm_enc_formula.proofs.Extending.{extended_defined, extended_keeps}
 use Rattle.cgm_enc_formula.proofs.NamingKnown.{HasTerms, naming_known}
 use Rattle.cgm_enc_formula.proofs.NamingTruths.{literal_is_truth, names_at, numbers_at}
 use Rattle.cgm_enc_formula.proofs.Splits.{names_of_conjunction, names_of_disjunction, names_of_equivalence, names_of_implication, names_of_negation}
-use Rattle.cgm_enc_graph.specs.Assignments.{truth_at}
-use Rattle.cgm_encode.specs.Assignments.{bit}
 use Rattle.cgm_encode.specs.Telling.{Told, all_truths, told, told_step, telling}
 
 -- ---- what a formula says is its truth

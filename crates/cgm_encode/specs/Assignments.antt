@@ -1,7 +1,8 @@
 -- The assignment that values stand for, and the values of an assignment.
-use Rattle.std.specs.Prelude.{ℕ, ◌+◌, Bool, cond, not, List, ◌++◌, length, map, ℤ, pos}
+use Rattle.std.specs.Prelude.{ℕ, ◌+◌, not, List, ◌++◌, length, map, ℤ}
 use Rattle.std.specs.List.{range_with_len}
 use Rattle.cgm_atom.specs.Bounds.{value_of}
+use Rattle.cgm_atom.specs.Literals.{bit, truth_at}
 use Rattle.cgm_formula.specs.declared.assignment.Assignment.{Assignment}
 use Rattle.cgm_model.specs.declared.lists.Lists.{Lists}
 use Rattle.cgm_model.specs.Sums.{sums_of}
@@ -11,7 +12,6 @@ use Rattle.cgm_obj.specs.Vector.{vector_of}
 use Rattle.cgm_enc_formula.specs.Laws.{extended}
 use Rattle.cgm_enc_formula.specs.Rules.{rule_definitions}
 use Rattle.cgm_enc_formula.specs.Terms.{model_variables}
-use Rattle.cgm_enc_graph.specs.Assignments.{truth_at}
 
 -- the first values as truths of so many elements, then of so many refinements, then as numbers of so many variables
 abbrev pub assignment_of : ℕ → ℕ → ℕ → List ℤ → Assignment
@@ -23,10 +23,6 @@ assignment_of elements refinements vars values = record {
 
 unfoldable pub decoded : Lists → List ℤ → Assignment
 decoded m values = assignment_of (length m.elements) (length m.refinements) (length m.vars) values
-
--- 1 for true, 0 for false
-abbrev pub bit : Bool → ℤ
-bit truth = cond truth (pos 1) (pos 0)
 
 -- the values of elements, refinements, variables and sums
 abbrev pub number_values : Lists → Assignment → List ℤ

@@ -6,6 +6,7 @@ use Rattle.cgm_atom.specs.declared.constraints.Row.{Row}
 use Rattle.cgm_atom.specs.Bounds.{Bounds}
 use Rattle.cgm_atom.specs.Building.{without_repeats}
 use Rattle.cgm_atom.specs.Instance.{Instance}
+use Rattle.cgm_atom.specs.Literals.{clause, literal, negated}
 use Rattle.cgm_formula.specs.declared.formula.Number.TheVariants as number
 use Rattle.cgm_model.specs.declared.lists.Lists.{Lists}
 use Rattle.cgm_model.specs.declared.lists.Objective.{Objective}
@@ -15,8 +16,7 @@ use Rattle.cgm_model.specs.TruthVariables.{truth_variables, variable_of}
 use Rattle.cgm_evolve.specs.Pairs.{Pair}
 use Rattle.cgm_enc_formula.specs.Building.{Part, rules_part}
 use Rattle.cgm_enc_formula.specs.Terms.{model_variables, number_variable}
-use Rattle.cgm_enc_graph.specs.GraphClauses.{clause, graph_clauses}
-use Rattle.cgm_enc_graph.specs.Literals.{literal, negated}
+use Rattle.cgm_enc_graph.specs.GraphClauses.{graph_clauses}
 use Rattle.cgm_encode.specs.Quantities.{objective_total, sum_total}
 use Rattle.cgm_encode.specs.Totals.{Range, total_range, total_rows}
 use Rattle.cgm_encode.specs.Variables.{first_objective, first_preference, naming_count}

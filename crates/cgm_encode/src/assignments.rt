@@ -3,7 +3,7 @@ ghost use Rattle.std.specs.Prelude.{◌≡◌, ◌+◌, ◌<◌, ◌^◌, ◌++�
 ghost use Rattle.std.specs.List.{range_with_len};
 ghost use Rattle.cgm_atom.specs.Bounds.{value_of as value_in};
 ghost use Rattle.cgm_atom.specs.Instance.{IsSolution};
-ghost use Rattle.cgm_enc_graph.specs.Assignments.{truth_at as truth_in};
+ghost use Rattle.cgm_atom.specs.Literals.{truth_at as truth_in};
 ghost use Rattle.cgm_encode.specs.Assignments.{assignment_of};
 ghost use Rattle.cgm_encode.specs.Decoding.{IsDecoded};
 

@@ -1,14 +1,14 @@
 //! The clauses of preferences.
 ghost use Rattle.std.specs.Prelude.{◌≡◌, ◌+◌, ◌<◌, ◌≤◌, length, flat_map, slice_index_or, All, OnOk};
 ghost use Rattle.std.specs.List.{zip};
+ghost use Rattle.cgm_atom.specs.Adding.{CanTake, with_written};
 ghost use Rattle.cgm_model.specs.Model.{lists_of};
 ghost use Rattle.cgm_model.specs.Statement.{IsPreference};
-ghost use Rattle.cgm_enc_graph.specs.Adding.{CanTake, with_written};
 ghost use Rattle.cgm_encode.specs.Problem.{preference_clauses};
 
 use crate::names::truth_variable;
+use cgm_atom::literals::{add_clause, literal, negated};
 use cgm_atom::{OutOfMemory, ProblemBuilder};
-use cgm_enc_graph::{add_clause, literal, negated};
 use cgm_model::{Model, Preference};
 use std::alloc::Global;
 

@@ -1,11 +1,11 @@
 //! The values of naming variables.
 ghost use Rattle.std.specs.Prelude.{◌≡◌, ◌&&◌, ◌||◌, not, ◌++◌, ◌∷◌, [], map, int_le, All, IfOk, OnOk};
 ghost use Rattle.std.specs.List.{list_all, list_any};
+ghost use Rattle.cgm_atom.specs.Literals.{bit as bit_of};
 ghost use Rattle.cgm_formula.specs.Reading.{name_in, number_in};
 ghost use Rattle.cgm_formula.specs.Sizes.{AreSmallIn, IsSmall};
 ghost use Rattle.cgm_formula.specs.Truth.{linear_value, same_truth};
 ghost use Rattle.cgm_model.specs.Formulas.{formula_of as formula_of_rule};
-ghost use Rattle.cgm_encode.specs.Assignments.{bit as bit_of};
 ghost use Rattle.cgm_encode.specs.Telling.{all_truths, rule_truths, told};
 
 use cgm_atom::OutOfMemory;

@@ -1,5 +1,6 @@
 //! The values of a realization.
 ghost use Rattle.std.specs.Prelude.{◌≡◌, ◌++◌, [], map, not, All, IfOk, OnOk};
+ghost use Rattle.cgm_atom.specs.Literals.{bit as bit_of};
 ghost use Rattle.cgm_formula.specs.Reading.{number_in};
 ghost use Rattle.cgm_formula.specs.Sizes.{AreSmallIn};
 ghost use Rattle.cgm_model.specs.Assignment.{Fits};
@@ -9,7 +10,7 @@ ghost use Rattle.cgm_model.specs.Sums.{sums_of};
 ghost use Rattle.cgm_obj.specs.Counts.{is_met as is_met_by};
 ghost use Rattle.cgm_obj.specs.Least.{Realizes};
 ghost use Rattle.cgm_obj.specs.Vector.{vector_of};
-ghost use Rattle.cgm_encode.specs.Assignments.{bit as bit_of, choice_values, extension as extension_of};
+ghost use Rattle.cgm_encode.specs.Assignments.{choice_values, extension as extension_of};
 ghost use Rattle.cgm_encode.specs.Decoding.{IsExtended};
 ghost use Rattle.cgm_encode.specs.Encoding.{IsEncodingOf};
 

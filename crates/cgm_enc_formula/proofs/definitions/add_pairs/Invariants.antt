@@ -1,6 +1,6 @@
 use Rattle.std.proofs.Common.{drop}
+use Rattle.cgm_atom.proofs.Additions.{AreLeft}
 use Rattle.cgm_enc_formula.specs.Definitions.{pairs}
-use Rattle.cgm_enc_graph.proofs.Additions.{AreLeft}
 use Rattle.cgm_enc_formula.proofs.definitions.add_pairs.Given as goal
 
 abbrev pub invariant-loop-l : goal.invariant-loop-l

@@ -1,13 +1,13 @@
 use Rattle.std.proofs.Common.{◌≡◌, ◌∷◌, ◌∙◌, [], List, ap, map, subst, sym}
 use Rattle.cgm_atom.specs.declared.constraints.Atom.{Atom}
+use Rattle.cgm_atom.specs.Adding.{CanTake, with_written}
 use Rattle.cgm_atom.specs.Instance.{var_count}
+use Rattle.cgm_atom.specs.Literals.{literal, negated}
+use Rattle.cgm_atom.proofs.Additions.{first_left, left_more}
 use Rattle.cgm_enc_formula.specs.declared.literals.Literal.{Literal}
 use Rattle.cgm_enc_formula.specs.Definitions.{all_of, definition_clauses, one_of, pairs}
 use Rattle.cgm_enc_formula.specs.Literals.{opposite}
 use Rattle.cgm_enc_formula.proofs.Defining.{all_left}
-use Rattle.cgm_enc_graph.specs.Adding.{CanTake, with_written}
-use Rattle.cgm_enc_graph.specs.Literals.{literal, negated}
-use Rattle.cgm_enc_graph.proofs.Additions.{first_left, left_more}
 use Rattle.cgm_enc_formula.proofs.definitions.define_all.Goals as goal
 
 pub add_pairs-requires : goal.add_pairs-requires

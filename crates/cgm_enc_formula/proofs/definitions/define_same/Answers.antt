@@ -1,11 +1,10 @@
 use Rattle.std.proofs.Common.{◌≡◌, ◌∷◌, ◌∙◌, [], ap, subst, sym}
 use Rattle.cgm_atom.specs.declared.constraints.Clause.{Clause}
+use Rattle.cgm_atom.specs.Adding.{CanTake, with_written}
 use Rattle.cgm_atom.specs.Instance.{var_count}
+use Rattle.cgm_atom.specs.Literals.{clause, literal, negated}
 use Rattle.cgm_enc_formula.specs.Literals.{atom_of, opposite}
 use Rattle.cgm_enc_formula.proofs.Defining.{fourth_fits, same_added, third_fits}
-use Rattle.cgm_enc_graph.specs.Adding.{CanTake, with_written}
-use Rattle.cgm_enc_graph.specs.GraphClauses.{clause}
-use Rattle.cgm_enc_graph.specs.Literals.{literal, negated}
 use Rattle.cgm_enc_formula.proofs.definitions.define_same.Goals as goal
 
 pub add_clause-requires-3 : goal.add_clause-requires-3

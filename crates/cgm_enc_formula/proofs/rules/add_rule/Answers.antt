@@ -4,7 +4,9 @@ use Rattle.std.proofs.lemmas.List.Elements.{All-head}
 use Rattle.std.proofs.lemmas.Result.{on_ok_weaker}
 use Rattle.cgm_atom.specs.declared.constraints.Atom.{Atom}
 use Rattle.cgm_atom.specs.declared.constraints.Clause.{Clause}
+use Rattle.cgm_atom.specs.Adding.{CanTake, with_written}
 use Rattle.cgm_atom.specs.Instance.{var_count}
+use Rattle.cgm_atom.specs.Literals.{clause, literal, negated}
 use Rattle.cgm_model.specs.declared.lists.Rule.{Rule}
 use Rattle.cgm_model.specs.declared.lists.Rule.TheVariants as rules
 use Rattle.cgm_model.specs.Formulas.{IsKnownTruth}
@@ -19,9 +21,6 @@ use Rattle.cgm_enc_formula.proofs.Defining.{atom_known, literal_known, negated_k
 use Rattle.cgm_enc_formula.proofs.NamingKnown.{name_within}
 use Rattle.cgm_enc_formula.proofs.NamingSteps.{count_after, literal_within}
 use Rattle.cgm_enc_formula.proofs.RuleSteps.{clause_fits, rule_added}
-use Rattle.cgm_enc_graph.specs.Adding.{CanTake, with_written}
-use Rattle.cgm_enc_graph.specs.GraphClauses.{clause}
-use Rattle.cgm_enc_graph.specs.Literals.{literal, negated}
 use Rattle.cgm_enc_formula.proofs.rules.add_rule.Goals as goal
 
 pub add_clause-requires : goal.add_clause-requires

@@ -1,12 +1,12 @@
 use Rattle.std.proofs.Common.{◌≡◌, ◌∷◌, [], ap, ◌∙◌, subst, sym}
 use Rattle.cgm_atom.specs.declared.constraints.Clause.{Clause}
+use Rattle.cgm_atom.specs.Adding.{CanTake, with_written}
+use Rattle.cgm_atom.specs.Literals.{clause, literal, negated}
+use Rattle.cgm_atom.proofs.Additions.{first_left, left_all, left_more}
 use Rattle.cgm_formula.specs.declared.formula.Truth.TheVariants as truth
 use Rattle.cgm_model.specs.Model.{lists_of}
 use Rattle.cgm_model.specs.TruthVariables.{variable_of}
-use Rattle.cgm_enc_graph.specs.Adding.{CanTake, with_written}
-use Rattle.cgm_enc_graph.specs.GraphClauses.{bind_clauses, clause, target_of}
-use Rattle.cgm_enc_graph.specs.Literals.{literal, negated}
-use Rattle.cgm_enc_graph.proofs.Additions.{first_left, left_all, left_more}
+use Rattle.cgm_enc_graph.specs.GraphClauses.{bind_clauses, target_of}
 use Rattle.cgm_enc_graph.proofs.edges.add_bind.Goals as goal
 
 pub add_clause-requires : goal.add_clause-requires

@@ -1,10 +1,10 @@
 use Rattle.std.proofs.Common.{get_or}
 use Rattle.std.specs.List.{flat_map}
 use Rattle.std.proofs.lemmas.List.{get_or_default}
+use Rattle.cgm_atom.proofs.Additions.{all_of, flattened, flattened-steps, loop_first, loop_more}
 use Rattle.cgm_model.specs.declared.lists.Edge.{Edge}
 use Rattle.cgm_model.specs.Model.{lists_of}
 use Rattle.cgm_enc_graph.specs.GraphClauses.{bind_clauses}
-use Rattle.cgm_enc_graph.proofs.Additions.{all_of, flattened, flattened-steps, loop_first, loop_more}
 use Rattle.cgm_enc_graph.proofs.edges.add_binds.Goals as goal
 
 pub add_bind-requires-clause-room : goal.add_bind-requires-clause-room

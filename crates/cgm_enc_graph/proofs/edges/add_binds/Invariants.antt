@@ -1,8 +1,8 @@
 use Rattle.std.proofs.Common.{drop}
 use Rattle.std.specs.List.{flat_map}
+use Rattle.cgm_atom.proofs.Additions.{AreLeft, flattened}
 use Rattle.cgm_model.specs.Model.{lists_of}
 use Rattle.cgm_enc_graph.specs.GraphClauses.{bind_clauses}
-use Rattle.cgm_enc_graph.proofs.Additions.{AreLeft, flattened}
 use Rattle.cgm_enc_graph.proofs.edges.add_binds.Given as goal
 
 abbrev pub invariant-loop-e : goal.invariant-loop-e

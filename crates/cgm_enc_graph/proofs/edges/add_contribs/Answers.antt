@@ -1,8 +1,8 @@
 use Rattle.std.proofs.Common.{get_or, map}
 use Rattle.std.proofs.lemmas.List.{get_or_default}
+use Rattle.cgm_atom.proofs.Additions.{loop_first, loop_more, mapped, mapped-steps, one_of}
 use Rattle.cgm_model.specs.declared.lists.Edge.{Edge}
 use Rattle.cgm_enc_graph.specs.GraphClauses.{contrib_clause}
-use Rattle.cgm_enc_graph.proofs.Additions.{loop_first, loop_more, mapped, mapped-steps, one_of}
 use Rattle.cgm_enc_graph.proofs.edges.add_contribs.Goals as goal
 
 pub add_implication-requires : goal.add_implication-requires

@@ -1,8 +1,8 @@
 use Rattle.std.proofs.Common.{get_or, map, false}
 use Rattle.std.proofs.lemmas.List.{get_or_default}
+use Rattle.cgm_atom.proofs.Additions.{loop_first, loop_more, mapped, mapped-steps, one_of}
 use Rattle.cgm_model.specs.declared.lists.Assertion.{Assertion}
 use Rattle.cgm_enc_graph.specs.GraphClauses.{assertion_clause}
-use Rattle.cgm_enc_graph.proofs.Additions.{loop_first, loop_more, mapped, mapped-steps, one_of}
 use Rattle.cgm_enc_graph.proofs.facts.add_asserts.Goals as goal
 
 pub add_assertion-requires : goal.add_assertion-requires

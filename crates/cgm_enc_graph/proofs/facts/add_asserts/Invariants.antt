@@ -1,6 +1,6 @@
 use Rattle.std.proofs.Common.{map, drop}
+use Rattle.cgm_atom.proofs.Additions.{AreLeft, mapped}
 use Rattle.cgm_enc_graph.specs.GraphClauses.{assertion_clause}
-use Rattle.cgm_enc_graph.proofs.Additions.{AreLeft, mapped}
 use Rattle.cgm_enc_graph.proofs.facts.add_asserts.Given as goal
 
 abbrev pub invariant-loop-a : goal.invariant-loop-a

@@ -1,8 +1,8 @@
 use Rattle.std.proofs.Common.{◌≡◌, ℕ, ◌+◌, ap, ◌∙◌, subst, sym, arith}
 use Rattle.std.specs.List.{enumerate_from, flat_map}
-use Rattle.cgm_enc_graph.specs.Adding.{CanTake, with_written}
+use Rattle.cgm_atom.specs.Adding.{CanTake, with_written}
+use Rattle.cgm_atom.proofs.Additions.{all_at, loop_first, loop_more, numbered, numbered-steps}
 use Rattle.cgm_enc_graph.specs.GraphClauses.{must_clauses}
-use Rattle.cgm_enc_graph.proofs.Additions.{all_at, loop_first, loop_more, numbered, numbered-steps}
 use Rattle.cgm_enc_graph.proofs.facts.add_musts.Goals as goal
 
 pub add_must-requires : goal.add_must-requires

@@ -1,7 +1,7 @@
 use Rattle.std.proofs.Common.{drop}
 use Rattle.std.specs.List.{enumerate_from, flat_map}
+use Rattle.cgm_atom.proofs.Additions.{AreLeft, numbered}
 use Rattle.cgm_enc_graph.specs.GraphClauses.{must_clauses}
-use Rattle.cgm_enc_graph.proofs.Additions.{AreLeft, numbered}
 use Rattle.cgm_enc_graph.proofs.facts.add_musts.Given as goal
 
 abbrev pub invariant-loop-number : goal.invariant-loop-number

@@ -1,11 +1,11 @@
 use Rattle.std.proofs.Common.{◌++◌, List, All, length, map, ap, ◌∙◌, subst, sym}
 use Rattle.std.specs.List.{flat_map}
+use Rattle.cgm_atom.specs.Adding.{CanTake, with_written}
+use Rattle.cgm_atom.proofs.Additions.{first_left, left_all, left_more}
 use Rattle.cgm_model.specs.declared.lists.Edge.{Edge}
 use Rattle.cgm_model.specs.Model.{lists_of}
 use Rattle.cgm_model.specs.Statement.{IsEdgeOf}
-use Rattle.cgm_enc_graph.specs.Adding.{CanTake, with_written}
 use Rattle.cgm_enc_graph.specs.GraphClauses.{bind_clauses, conflict_clause, contrib_clause, edge_group}
-use Rattle.cgm_enc_graph.proofs.Additions.{first_left, left_all, left_more}
 use Rattle.cgm_enc_graph.proofs.KnownNames.{known_names}
 use Rattle.cgm_enc_graph.proofs.graph.add_edge_group.Goals as goal
 

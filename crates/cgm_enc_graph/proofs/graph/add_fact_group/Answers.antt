@@ -1,11 +1,11 @@
 use Rattle.std.proofs.Common.{List, map, ap, ◌∙◌, subst, sym}
 use Rattle.std.specs.List.{enumerate_from, flat_map}
+use Rattle.cgm_atom.specs.Adding.{CanTake, with_written}
+use Rattle.cgm_atom.proofs.Additions.{left_all, left_more}
 use Rattle.cgm_model.specs.declared.lists.Assertion.{Assertion}
 use Rattle.cgm_model.specs.declared.lists.Element.{Element}
 use Rattle.cgm_model.specs.Model.{lists_of}
-use Rattle.cgm_enc_graph.specs.Adding.{CanTake, with_written}
 use Rattle.cgm_enc_graph.specs.GraphClauses.{assertion_clause, fact_group, must_clauses}
-use Rattle.cgm_enc_graph.proofs.Additions.{left_all, left_more}
 use Rattle.cgm_enc_graph.proofs.graph.add_fact_group.Goals as goal
 
 pub add_asserts-requires : goal.add_asserts-requires

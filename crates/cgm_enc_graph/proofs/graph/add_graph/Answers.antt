@@ -1,8 +1,8 @@
 use Rattle.std.proofs.Common.{◌++◌}
 use Rattle.std.proofs.lemmas.Result.{on_ok_weaker}
+use Rattle.cgm_atom.proofs.Additions.{first_left, left_all, left_last, left_more}
 use Rattle.cgm_model.specs.Model.{lists_of}
 use Rattle.cgm_enc_graph.specs.GraphClauses.{edge_group, fact_group, graph_clauses, refinement_group, written_clauses}
-use Rattle.cgm_enc_graph.proofs.Additions.{first_left, left_all, left_last, left_more}
 use Rattle.cgm_enc_graph.proofs.GraphSizes.{graph_can_be_added}
 use Rattle.cgm_enc_graph.proofs.graph.add_graph.Goals as goal
 

@@ -2,12 +2,12 @@ use Rattle.std.proofs.Common.{◌≡◌, ℕ, ◌<◌, List, length, get_or, ap,
 use Rattle.std.specs.List.{enumerate_from, flat_map}
 use Rattle.std.proofs.lemmas.Result.{on_ok_weaker}
 use Rattle.cgm_atom.specs.declared.constraints.Clause.{Clause}
+use Rattle.cgm_atom.specs.Adding.{CanTake, with_written}
+use Rattle.cgm_atom.proofs.Additions.{left_all, left_last, left_more}
 use Rattle.cgm_model.specs.declared.lists.Element.{Element}
 use Rattle.cgm_model.specs.declared.lists.Refinement.{Refinement}
 use Rattle.cgm_model.specs.Model.{lists_of}
-use Rattle.cgm_enc_graph.specs.Adding.{CanTake, with_written}
 use Rattle.cgm_enc_graph.specs.GraphClauses.{element_clauses, refinement_clauses, refinement_group, numbered_elements, numbered_refinements, variables_for}
-use Rattle.cgm_enc_graph.proofs.Additions.{left_all, left_last, left_more}
 use Rattle.cgm_enc_graph.proofs.KnownNames.{known_names}
 use Rattle.cgm_enc_graph.proofs.VariableLists.{listed_model}
 use Rattle.cgm_enc_graph.proofs.graph.add_refinement_group.Goals as goal

@@ -1,9 +1,9 @@
 use Rattle.std.proofs.Common.{◌≡◌, ℕ, ◌+◌, List, ap, ◌∙◌, sym, arith}
 use Rattle.std.specs.List.{enumerate_from, flat_map}
 use Rattle.cgm_atom.specs.declared.constraints.Clause.{Clause}
-use Rattle.cgm_enc_graph.specs.Adding.{with_written}
+use Rattle.cgm_atom.specs.Adding.{with_written}
+use Rattle.cgm_atom.proofs.Additions.{all_at, loop_more, numbered, numbered-steps}
 use Rattle.cgm_enc_graph.specs.GraphClauses.{element_clauses}
-use Rattle.cgm_enc_graph.proofs.Additions.{all_at, loop_more, numbered, numbered-steps}
 use Rattle.cgm_enc_graph.proofs.refinements.add_elements.Goals as goal
 
 pub loop-element-preserved : goal.loop-element-preserved

@@ -1,9 +1,9 @@
 use Rattle.std.proofs.Common.{ℕ, ◌++◌, ◌∷◌, [], List, map, ap, ◌∙◌, subst, sym}
 use Rattle.cgm_atom.specs.declared.constraints.Clause.{Clause}
-use Rattle.cgm_enc_graph.specs.Adding.{CanTake, with_written}
-use Rattle.cgm_enc_graph.specs.GraphClauses.{clause, implication, refinement_clauses}
-use Rattle.cgm_enc_graph.specs.Literals.{literal, negated}
-use Rattle.cgm_enc_graph.proofs.Additions.{first_left, left_all, left_more}
+use Rattle.cgm_atom.specs.Adding.{CanTake, with_written}
+use Rattle.cgm_atom.specs.Literals.{clause, implication, literal, negated}
+use Rattle.cgm_atom.proofs.Additions.{first_left, left_all, left_more}
+use Rattle.cgm_enc_graph.specs.GraphClauses.{refinement_clauses}
 use Rattle.cgm_enc_graph.proofs.refinements.add_refinement.Goals as goal
 
 pub add_converse-requires : goal.add_converse-requires

@@ -1,6 +1,6 @@
 use Rattle.std.specs.List.{enumerate_from, flat_map}
+use Rattle.cgm_atom.proofs.Additions.{all_at, loop_first, loop_more, numbered, numbered-steps}
 use Rattle.cgm_enc_graph.specs.GraphClauses.{refinement_clauses}
-use Rattle.cgm_enc_graph.proofs.Additions.{all_at, loop_first, loop_more, numbered, numbered-steps}
 use Rattle.cgm_enc_graph.proofs.refinements.add_refinements.Goals as goal
 
 pub add_refinement-requires : goal.add_refinement-requires

@@ -1,7 +1,7 @@
 use Rattle.std.proofs.Common.{drop}
 use Rattle.std.specs.List.{enumerate_from, flat_map}
+use Rattle.cgm_atom.proofs.Additions.{AreLeft, numbered}
 use Rattle.cgm_enc_graph.specs.GraphClauses.{refinement_clauses}
-use Rattle.cgm_enc_graph.proofs.Additions.{AreLeft, numbered}
 use Rattle.cgm_enc_graph.proofs.refinements.add_refinements.Given as goal
 
 abbrev pub invariant-loop-number : goal.invariant-loop-number

@@ -1,7 +1,7 @@
 use Rattle.std.proofs.Common.{get_or, map}
 use Rattle.std.proofs.lemmas.List.{get_or_default}
-use Rattle.cgm_enc_graph.specs.GraphClauses.{implication}
-use Rattle.cgm_enc_graph.proofs.Additions.{loop_first, loop_more, mapped, mapped-steps, one_of}
+use Rattle.cgm_atom.specs.Literals.{implication}
+use Rattle.cgm_atom.proofs.Additions.{loop_first, loop_more, mapped, mapped-steps, one_of}
 use Rattle.cgm_enc_graph.proofs.refinements.add_sources.Goals as goal
 
 pub add_implication-requires : goal.add_implication-requires

@@ -1,6 +1,6 @@
 use Rattle.std.proofs.Common.{map, drop}
-use Rattle.cgm_enc_graph.specs.GraphClauses.{implication}
-use Rattle.cgm_enc_graph.proofs.Additions.{AreLeft, mapped}
+use Rattle.cgm_atom.specs.Literals.{implication}
+use Rattle.cgm_atom.proofs.Additions.{AreLeft, mapped}
 use Rattle.cgm_enc_graph.proofs.refinements.add_sources.Given as goal
 
 abbrev pub invariant-loop-source : goal.invariant-loop-source

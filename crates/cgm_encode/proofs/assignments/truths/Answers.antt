@@ -1,6 +1,6 @@
 use Rattle.std.proofs.Common.{◌+◌, ◌++◌, ◌∷◌, [], ◌∙◌, Bool, List, ap, refl, sym}
 use Rattle.std.proofs.lemmas.List.FromFn.{map-range_with_len_more}
-use Rattle.cgm_enc_graph.specs.Assignments.{truth_at}
+use Rattle.cgm_atom.specs.Literals.{truth_at}
 use Rattle.cgm_encode.proofs.assignments.truths.Goals as goal
 
 pub loop-x-preserved : goal.loop-x-preserved

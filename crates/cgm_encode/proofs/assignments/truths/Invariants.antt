@@ -1,6 +1,6 @@
 use Rattle.std.proofs.Common.{◌≡◌, map}
 use Rattle.std.specs.List.{range_with_len}
-use Rattle.cgm_enc_graph.specs.Assignments.{truth_at}
+use Rattle.cgm_atom.specs.Literals.{truth_at}
 use Rattle.cgm_encode.proofs.assignments.truths.Given as goal
 
 abbrev pub invariant-loop-x : goal.invariant-loop-x

@@ -3,11 +3,11 @@ use Rattle.std.specs.Prelude.{flat_map}
 use Rattle.std.specs.List.{All, range_with_len, zip}
 use Rattle.std.proofs.lemmas.List.FromFn.{length-range_with_len}
 use Rattle.cgm_atom.specs.declared.constraints.Clause.{Clause}
+use Rattle.cgm_atom.specs.Adding.{CanTake, with_written}
 use Rattle.cgm_atom.specs.Instance.{Instance, var_count}
 use Rattle.cgm_model.specs.declared.lists.Preference.{Preference}
 use Rattle.cgm_model.specs.Model.{lists_of}
 use Rattle.cgm_model.specs.Statement.{IsPreference}
-use Rattle.cgm_enc_graph.specs.Adding.{CanTake, with_written}
 use Rattle.cgm_encode.specs.Building.{with_ranges}
 use Rattle.cgm_encode.specs.Problem.{bits, preference_clauses}
 use Rattle.cgm_encode.specs.Stages.{rules_instance}

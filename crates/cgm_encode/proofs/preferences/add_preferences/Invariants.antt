@@ -1,7 +1,7 @@
 use Rattle.std.specs.Prelude.{flat_map}
 use Rattle.std.specs.List.{zip}
+use Rattle.cgm_atom.proofs.Additions.{AreLeft}
 use Rattle.cgm_model.specs.Model.{lists_of}
-use Rattle.cgm_enc_graph.proofs.Additions.{AreLeft}
 use Rattle.cgm_encode.specs.Problem.{preference_clauses}
 use Rattle.cgm_encode.proofs.PairedPlaces.{clauses_behind}
 use Rattle.cgm_encode.proofs.preferences.add_preferences.Given as goal

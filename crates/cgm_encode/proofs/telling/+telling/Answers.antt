@@ -1,6 +1,7 @@
 -- What holds of the whole formula's comparisons holds of the parts', and what each node adds.
 use Rattle.std.proofs.Common.{rules, List, ℤ, ◌++◌, map, subst, sym}
 use Rattle.std.specs.List.{All}
+use Rattle.cgm_atom.specs.Literals.{bit}
 use Rattle.cgm_formula.specs.declared.assignment.Assignment.{Assignment}
 use Rattle.cgm_formula.specs.declared.formula.Linear.{Linear}
 use Rattle.cgm_formula.specs.declared.formula.Formula.{Formula}
@@ -8,7 +9,6 @@ use Rattle.cgm_formula.specs.declared.formula.Formula.TheViews.{the_lemmas}
 use Rattle.cgm_formula.specs.Reading.{name_in, number_in}
 use Rattle.cgm_formula.specs.Sizes.{IsSmall, AreSmallIn}
 use Rattle.cgm_formula.proofs.Comparisons.{of_negation, of_conjunction, of_disjunction, of_implication, of_equivalence, of_at_most, of_at_least, of_equality}
-use Rattle.cgm_encode.specs.Assignments.{bit}
 use Rattle.cgm_encode.specs.Telling.{all_truths, told}
 use Rattle.cgm_encode.proofs.TellingSteps.{all_say, all_told, any_says, any_told, equivalence_says, equivalence_told, if_ok, implication_says, implication_told, on_ok, part_said, part_told}
 use Rattle.cgm_encode.proofs.telling.+telling.Goals as goal

@@ -1,10 +1,10 @@
 use Rattle.std.proofs.Common.{◌++◌, ◌∙◌, ap, map, subst, sym}
+use Rattle.cgm_atom.specs.Literals.{bit}
 use Rattle.cgm_formula.specs.declared.formula.Formula.{Formula}
 use Rattle.cgm_formula.specs.Reading.{name_in, number_in}
 use Rattle.cgm_formula.specs.Sizes.{AreSmallIn}
 use Rattle.cgm_model.specs.declared.lists.Rule.{Rule}
 use Rattle.cgm_model.specs.Formulas.{formula_of}
-use Rattle.cgm_encode.specs.Assignments.{bit}
 use Rattle.cgm_encode.specs.Telling.{rule_truths, told}
 use Rattle.cgm_encode.proofs.TellingSteps.{rule_told}
 use Rattle.cgm_encode.proofs.telling.push_rules.Goals as goal

@@ -1,6 +1,6 @@
 use Rattle.std.proofs.Common.{◌≡◌, ◌++◌, drop, map}
+use Rattle.cgm_atom.specs.Literals.{bit}
 use Rattle.cgm_formula.specs.Reading.{name_in, number_in}
-use Rattle.cgm_encode.specs.Assignments.{bit}
 use Rattle.cgm_encode.specs.Telling.{rule_truths}
 use Rattle.cgm_encode.proofs.telling.push_rules.Given as goal
 

@@ -1,5 +1,5 @@
 use Rattle.std.proofs.Common.{◌≡◌, ◌++◌, drop, map}
-use Rattle.cgm_encode.specs.Assignments.{bit}
+use Rattle.cgm_atom.specs.Literals.{bit}
 use Rattle.cgm_encode.proofs.values.push_bits.Given as goal
 
 abbrev pub invariant-loop-truth : goal.invariant-loop-truth

@@ -1,6 +1,6 @@
 use Rattle.std.proofs.Common.{◌≡◌, ◌++◌, drop, map, not}
+use Rattle.cgm_atom.specs.Literals.{bit}
 use Rattle.cgm_obj.specs.Counts.{is_met}
-use Rattle.cgm_encode.specs.Assignments.{bit}
 use Rattle.cgm_encode.proofs.values.push_preferences.Given as goal
 
 abbrev pub invariant-loop-p : goal.invariant-loop-p

@@ -4,10 +4,10 @@ use Rattle.std.specs.List.{All, enumerate_from, flat_map}
 use Rattle.std.proofs.lemmas.List.{append-nil, append_assoc, drop_more, drop_all, length-append, length-map, map-append}
 use Rattle.std.proofs.lemmas.List.Elements.{All-cons, All-nil}
 use Rattle.cgm_atom.specs.declared.constraints.Clause.{Clause}
+use Rattle.cgm_atom.specs.Adding.{CanTake, with_written}
 use Rattle.cgm_atom.specs.Building.{without_repeats}
 use Rattle.cgm_atom.specs.Instance.{Instance, var_count}
 use Rattle.cgm_atom.specs.Limits.{IsClauseOf}
-use Rattle.cgm_enc_graph.specs.Adding.{CanTake, with_written}
 
 -- ---- lists of which each one is such
 

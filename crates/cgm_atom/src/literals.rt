@@ -1,11 +1,12 @@
 //! Atoms of variables of 0 or 1, and clauses of them.
 ghost use Rattle.std.specs.Prelude.{◌≡◌, ◌++◌, ◌∷◌, [], map, OnOk};
-ghost use Rattle.cgm_enc_graph.specs.Adding.{CanTake, with_written};
-ghost use Rattle.cgm_enc_graph.specs.GraphClauses.{clause, implication};
-ghost use Rattle.cgm_enc_graph.specs.Literals.{literal as literal_of, negated as negated_of};
+ghost use Rattle.cgm_atom.specs.Adding.{CanTake, with_written};
+ghost use Rattle.cgm_atom.specs.Literals.{clause, implication, literal as literal_of, negated as negated_of};
 
-use cgm_atom::{Atom, Clause, OutOfMemory, ProblemBuilder, Seq, Var};
-use std::alloc::Global;
+use crate::builders::ProblemBuilder;
+use crate::constraints::{Atom, Clause, Var};
+use crate::lists::Seq;
+use std::alloc::{AllocError as OutOfMemory, Global};
 
 /// That a variable of 0 or 1 is 1: `x >= 1`.
 pub fn literal(x: u32) -> Atom
@@ -43,8 +44,8 @@ pub fn add_clause(alloc: Global, b: &mut ProblemBuilder, atoms: &[Atom]) -> Resu
     Ok(())
 }
 
-/// Adds the clause that the second is true where the first is.
-pub(crate) fn add_implication(
+/// Adds the clause that the second variable is 1 where the first is, as `add_clause` does.
+pub fn add_implication(
     alloc: Global,
     b: &mut ProblemBuilder,
     first: u32,
@@ -56,7 +57,8 @@ pub(crate) fn add_implication(
     add_clause(alloc, b, &[negated(first), literal(second)])
 }
 
-pub(crate) fn push_literals(atoms: &mut Vec<Atom>, variables: &[u32]) -> Result<(), OutOfMemory>
+/// Pushes the literal of each variable.
+pub fn push_literals(atoms: &mut Vec<Atom>, variables: &[u32]) -> Result<(), OutOfMemory>
     ensures { OnOk result (atoms.new.items ≡ atoms.old.items ++ map literal_of variables.now) }
 {
     for x in variables {
@@ -65,7 +67,8 @@ pub(crate) fn push_literals(atoms: &mut Vec<Atom>, variables: &[u32]) -> Result<
     Ok(())
 }
 
-pub(crate) fn push_negated(atoms: &mut Vec<Atom>, variables: &[u32]) -> Result<(), OutOfMemory>
+/// Pushes for each variable that it is 0.
+pub fn push_negated(atoms: &mut Vec<Atom>, variables: &[u32]) -> Result<(), OutOfMemory>
     ensures { OnOk result (atoms.new.items ≡ atoms.old.items ++ map negated_of variables.now) }
 {
     for x in variables {

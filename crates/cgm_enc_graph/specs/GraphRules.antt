@@ -1,14 +1,8 @@
--- What values say of an assignment, and the rules of a goal graph.
-use Rattle.std.specs.Prelude.{ℕ, Bool, List, ℤ, pos, int_le}
-use Rattle.cgm_atom.specs.Bounds.{value_of}
+-- The rules of a goal graph.
 use Rattle.cgm_formula.specs.declared.assignment.Assignment.{Assignment}
 use Rattle.cgm_model.specs.declared.lists.Lists.{Lists}
 use Rattle.cgm_model.specs.Place.{Each}
 use Rattle.cgm_model.specs.Realization.{KeepsAssertion, KeepsBind, KeepsConflict, KeepsContrib, KeepsElement, KeepsMust, KeepsRefinement}
-
--- the truth that the value of a variable stands for: 1 or more is true, 0 or less is false
-abbrev pub truth_at : List ℤ → ℕ → Bool
-truth_at values x = int_le (pos 1) (value_of values x)
 
 -- each rule of a realization but those that the model states as formulas
 pub record KeepsGraph (m : Lists) (a : Assignment) : Type 0 where

@@ -2,8 +2,8 @@ use Rattle.std.proofs.Common.{◌≡◌, ◌∙◌, rules}
 use Rattle.std.proofs.lemmas.List.Elements.{All-same}
 use Rattle.cgm_atom.specs.Instance.{var_count}
 use Rattle.cgm_atom.specs.Limits.{IsAtomOf}
-use Rattle.cgm_enc_graph.specs.GraphClauses.{clause}
-use Rattle.cgm_enc_graph.proofs.adding.add_clause.Goals as goal
+use Rattle.cgm_atom.specs.Literals.{clause}
+use Rattle.cgm_atom.proofs.literals.add_clause.Goals as goal
 
 pub clause-requires-clause-known : goal.clause-requires-clause-known
 clause-requires-clause-known c =

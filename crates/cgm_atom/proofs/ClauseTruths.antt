@@ -1,10 +1,10 @@
 -- What a clause of literals says of values, as a truth value.
-use Rattle.std.proofs.Common.{◌≡◌, ℕ, ◌==◌, Bool, true, false, not, ◌&&◌, ◌||◌, List, [], ◌∷◌, ◌++◌, map, refl, sym, ap, ◌∙◌, cond, arith}
+use Rattle.std.proofs.Common.{◌≡◌, ℕ, ◌==◌, Bool, true, false, not, ◌&&◌, ◌||◌, List, [], ◌∷◌, ◌++◌, map, refl, sym, ap, ◌∙◌, cond, Decides, arith}
 use Rattle.std.specs.Prelude.{ℤ, pos, int_le, if◌then◌else◌}
 use Rattle.std.specs.Bool.{beq}
 use Rattle.std.specs.List.{list_all, list_any}
 use Rattle.std.specs.Ordering.{int_eq}
-use Rattle.std.proofs.lemmas.Bool.{and_parts, eqb-true}
+use Rattle.std.proofs.lemmas.Bool.{and_parts, eqb-true, false≢true}
 use Rattle.std.proofs.lemmas.Bool.Decides.{Decides-int_eq}
 use Rattle.std.proofs.lemmas.Int.{ints}
 use Rattle.cgm_atom.specs.declared.constraints.Atom.{Atom}
@@ -12,9 +12,7 @@ use Rattle.cgm_atom.specs.declared.constraints.Clause.{Clause}
 use Rattle.cgm_atom.specs.Atoms.{atom_true, clause_true}
 use Rattle.cgm_atom.specs.Bounds.{value_of}
 use Rattle.cgm_atom.specs.Building.{first_atoms, is_same_atom, without_repeats}
-use Rattle.cgm_enc_graph.specs.Assignments.{truth_at}
-use Rattle.cgm_enc_graph.specs.GraphClauses.{implication}
-use Rattle.cgm_enc_graph.specs.Literals.{literal, negated}
+use Rattle.cgm_atom.specs.Literals.{implication, literal, negated, truth_at}
 
 -- ---- literals
 
@@ -126,3 +124,9 @@ all_repeats-true values [] = refl
 all_repeats-true values (c ∷ clauses) =
     ap (λ (t : Bool). t && list_all (clause_true values) (map without_repeats clauses)) (repeats-true values c)
     ∙ ap (λ (t : Bool). clause_true values c && t) (all_repeats-true values clauses)
+
+-- ---- a truth value that decides whether one fact gives another
+
+pub Decides-implies : (s t : Bool) (P Q : Type 0) → Decides s P → Decides t Q → Decides (not s || t) (P → Q)
+Decides-implies true t P Q p q = (λ h _. q.0 h, λ f. q.1 (f (p.0 refl)))
+Decides-implies false t P Q p q = (λ _ x. absurd (false≢true (p.1 x)), λ _. refl)

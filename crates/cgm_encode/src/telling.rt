@@ -9,7 +9,7 @@ ghost use Rattle.cgm_model.specs.Formulas.{formula_of as formula_of_rule};
 ghost use Rattle.cgm_encode.specs.Telling.{all_truths, rule_truths, told};
 
 use cgm_atom::OutOfMemory;
-use cgm_formula::{Assignment, Formula, Linear, Truth, truth_at, value};
+use cgm_formula::{Assignment, Formula, Linear, is_true, value};
 use cgm_model::Rule;
 use std::alloc::Global;
 
@@ -208,14 +208,4 @@ fn is_at_least(linear: &Linear, a: &Assignment, sums: &[i64], k: i64) -> bool
     ensures { result ≡ int_le k (linear_value (number_in a.now sums.now) linear.now) }
 {
     i128::from(k) <= value(linear, a, sums)
-}
-
-/// Whether an element or a refinement is true; what isn't there is false.
-pub(crate) fn is_true(a: &Assignment, name: Truth) -> bool
-    ensures { result ≡ name_in a.now name }
-{
-    match name {
-        Truth::Element(k) => truth_at(a.elements.as_slice(), k),
-        Truth::Refinement(k) => truth_at(a.refinements.as_slice(), k),
-    }
 }

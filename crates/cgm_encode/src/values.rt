@@ -15,10 +15,10 @@ ghost use Rattle.cgm_encode.specs.Decoding.{IsExtended};
 ghost use Rattle.cgm_encode.specs.Encoding.{IsEncodingOf};
 
 use crate::answer::Encoded;
-use crate::telling::{is_true, push_bit, push_rules};
+use crate::telling::{push_bit, push_rules};
 use cgm_atom::OutOfMemory;
 use cgm_evolve::Earlier;
-use cgm_formula::Assignment;
+use cgm_formula::{Assignment, is_true};
 use cgm_model::{Model, Preference, Rule, sums};
 use cgm_obj::vector;
 use std::alloc::Global;

@@ -9,7 +9,7 @@ mod parts;
 
 pub use assignment::{Assignment, number_at, truth_at};
 pub use formula::{Formula, Linear, Number, Truth};
-pub use meaning::{holds, value};
+pub use meaning::{holds, is_true, value};
 pub use name::Name;
 pub use parts::Parts;
 pub use std::alloc::AllocError as OutOfMemory;

@@ -125,7 +125,8 @@ fn sum(x: i128, y: i128) -> i128
     x + y
 }
 
-fn is_true(a: &Assignment, name: Truth) -> bool
+/// Says whether the element or refinement is true; one without a value is false.
+pub fn is_true(a: &Assignment, name: Truth) -> bool
     ensures { result ≡ name_in a.now name }
 {
     match name {

@@ -17,4 +17,6 @@ pub mod Steps
 pub mod TermOrders
 pub mod TermSums
 pub mod TermTables
+pub mod ToldSteps
+pub mod ToldValues
 pub mod WellFormedRules

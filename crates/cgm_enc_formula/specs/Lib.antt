@@ -4,5 +4,6 @@ pub mod Laws
 pub mod Literals
 pub mod Measures
 pub mod Naming
+pub mod NamingValues
 pub mod Rules
 pub mod Terms

@@ -6,6 +6,7 @@ pub mod laws;
 mod literals;
 mod measures;
 mod names;
+pub mod naming_values;
 mod rules;
 mod stop;
 mod terms;

@@ -32,8 +32,6 @@ pub mod Shares
 pub mod SharesBySum
 pub mod SharesSoFar
 pub mod SignedShares
-pub mod TellingSteps
 pub mod ToldRules
-pub mod ToldValues
 pub mod TotalRows
 pub mod TotalSums

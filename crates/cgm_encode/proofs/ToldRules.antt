@@ -23,13 +23,13 @@ use Rattle.cgm_model.specs.TruthVariables.{truth_variables, variable_of}
 use Rattle.cgm_model.specs.WellFormed.{IsWellFormed}
 use Rattle.cgm_obj.specs.Counts.{is_met}
 use Rattle.cgm_enc_formula.specs.Laws.{extended}
+use Rattle.cgm_enc_formula.specs.NamingValues.{rule_truths}
 use Rattle.cgm_enc_formula.specs.Rules.{rule_definitions}
 use Rattle.cgm_enc_formula.specs.Terms.{model_variables, number_variable}
 use Rattle.cgm_enc_formula.proofs.NamingKnown.{rule_formulas_known}
+use Rattle.cgm_enc_formula.proofs.ToldValues.{IsReadable, Reads, formulas_told, two}
 use Rattle.cgm_enc_formula.proofs.WellFormedRules.{each_rule}
 use Rattle.cgm_encode.specs.Assignments.{choice_values, number_values, rule_values}
-use Rattle.cgm_encode.specs.Telling.{rule_truths}
-use Rattle.cgm_encode.proofs.ToldValues.{IsReadable, Reads, formulas_told, two}
 
 abbrev IsReadableRule : Lists → (Truth → Bool) → (Number → ℤ) → Rule → Type 0
 IsReadableRule m names numbers r = IsReadable m names numbers (formula_of r)

@@ -8,6 +8,5 @@ pub mod ProblemText
 pub mod Quantities
 pub mod Stages
 pub mod Summands
-pub mod Telling
 pub mod Totals
 pub mod Variables

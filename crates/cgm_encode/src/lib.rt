@@ -14,7 +14,6 @@ mod quantities;
 mod ranges;
 mod rows;
 mod sums;
-mod telling;
 mod values;
 mod variables;
 mod words;

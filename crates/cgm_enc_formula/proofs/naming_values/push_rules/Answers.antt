@@ -5,9 +5,9 @@ use Rattle.cgm_formula.specs.Reading.{name_in, number_in}
 use Rattle.cgm_formula.specs.Sizes.{AreSmallIn}
 use Rattle.cgm_model.specs.declared.lists.Rule.{Rule}
 use Rattle.cgm_model.specs.Formulas.{formula_of}
-use Rattle.cgm_encode.specs.Telling.{rule_truths, told}
-use Rattle.cgm_encode.proofs.TellingSteps.{rule_told}
-use Rattle.cgm_encode.proofs.telling.push_rules.Goals as goal
+use Rattle.cgm_enc_formula.specs.NamingValues.{rule_truths, told}
+use Rattle.cgm_enc_formula.proofs.ToldSteps.{rule_told}
+use Rattle.cgm_enc_formula.proofs.naming_values.push_rules.Goals as goal
 
 pub push_formula-requires : goal.push_formula-requires
 push_formula-requires c =

@@ -1,8 +1,8 @@
 use Rattle.std.proofs.Common.{◌≡◌, ◌++◌, drop, map}
 use Rattle.cgm_atom.specs.Literals.{bit}
 use Rattle.cgm_formula.specs.Reading.{name_in, number_in}
-use Rattle.cgm_encode.specs.Telling.{rule_truths}
-use Rattle.cgm_encode.proofs.telling.push_rules.Given as goal
+use Rattle.cgm_enc_formula.specs.NamingValues.{rule_truths}
+use Rattle.cgm_enc_formula.proofs.naming_values.push_rules.Given as goal
 
 abbrev pub invariant-loop-rule : goal.invariant-loop-rule
 invariant-loop-rule l =

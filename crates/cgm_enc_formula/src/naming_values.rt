@@ -6,7 +6,7 @@ ghost use Rattle.cgm_formula.specs.Reading.{name_in, number_in};
 ghost use Rattle.cgm_formula.specs.Sizes.{AreSmallIn, IsSmall};
 ghost use Rattle.cgm_formula.specs.Truth.{linear_value, same_truth};
 ghost use Rattle.cgm_model.specs.Formulas.{formula_of as formula_of_rule};
-ghost use Rattle.cgm_encode.specs.Telling.{all_truths, rule_truths, told};
+ghost use Rattle.cgm_enc_formula.specs.NamingValues.{all_truths, rule_truths, told};
 
 use cgm_atom::OutOfMemory;
 use cgm_formula::{Assignment, Formula, Linear, is_true, value};
@@ -15,7 +15,7 @@ use std::alloc::Global;
 
 /// Adds the values of the naming variables of rules: 1 for each node of a formula that holds, 0 for
 /// each that doesn't, parts before the whole, from the left.
-pub(crate) fn push_rules(
+pub fn push_rules(
     alloc: Global,
     out: &mut Vec<i64>,
     a: &Assignment,
@@ -170,7 +170,7 @@ fn are_both(first: bool, second: bool) -> bool
 }
 
 /// Adds 1 for true and 0 for false, and answers the truth.
-pub(crate) fn push_bit(out: &mut Vec<i64>, truth: bool) -> Result<bool, OutOfMemory>
+pub fn push_bit(out: &mut Vec<i64>, truth: bool) -> Result<bool, OutOfMemory>
     ensures says { IfOk result (λ t. t ≡ truth) }
     ensures added { OnOk result (out.new.items ≡ out.old.items ++ bit_of truth ∷ []) }
 {

@@ -28,13 +28,13 @@ use Rattle.cgm_enc_formula.specs.Definitions.{AreDefined, AreDefinitionsFrom, De
 use Rattle.cgm_enc_formula.specs.Laws.{extended}
 use Rattle.cgm_enc_formula.specs.Literals.{literal_true, opposite, positive}
 use Rattle.cgm_enc_formula.specs.Naming.{Named, Naming, defined, naming, naming_step, parts_named}
+use Rattle.cgm_enc_formula.specs.NamingValues.{Told, all_truths, telling, told, told_step}
 use Rattle.cgm_enc_formula.specs.Terms.{model_variables, number_variable, row_terms}
 use Rattle.cgm_enc_formula.proofs.Agreement.{truth_agrees}
 use Rattle.cgm_enc_formula.proofs.Extending.{extended_defined, extended_keeps}
 use Rattle.cgm_enc_formula.proofs.NamingKnown.{HasTerms, naming_known}
 use Rattle.cgm_enc_formula.proofs.NamingTruths.{literal_is_truth, names_at, numbers_at}
 use Rattle.cgm_enc_formula.proofs.Splits.{names_of_conjunction, names_of_disjunction, names_of_equivalence, names_of_implication, names_of_negation}
-use Rattle.cgm_encode.specs.Telling.{Told, all_truths, told, told_step, telling}
 
 -- ---- what a formula says is its truth
 

@@ -1,8 +1,8 @@
 use Rattle.std.proofs.Common.{◌≡◌, ◌++◌, drop, map}
 use Rattle.cgm_atom.specs.Literals.{bit}
 use Rattle.cgm_formula.specs.Reading.{name_in, number_in}
-use Rattle.cgm_encode.specs.Telling.{all_truths, told}
-use Rattle.cgm_encode.proofs.telling.+telling.Given as goal
+use Rattle.cgm_enc_formula.specs.NamingValues.{all_truths, told}
+use Rattle.cgm_enc_formula.proofs.naming_values.+telling.Given as goal
 
 abbrev pub invariant-push_each-loop-part : goal.invariant-push_each-loop-part
 invariant-push_each-loop-part l =

@@ -9,9 +9,9 @@ use Rattle.cgm_formula.specs.declared.formula.Formula.TheViews.{the_lemmas}
 use Rattle.cgm_formula.specs.Reading.{name_in, number_in}
 use Rattle.cgm_formula.specs.Sizes.{IsSmall, AreSmallIn}
 use Rattle.cgm_formula.proofs.Comparisons.{of_negation, of_conjunction, of_disjunction, of_implication, of_equivalence, of_at_most, of_at_least, of_equality}
-use Rattle.cgm_encode.specs.Telling.{all_truths, told}
-use Rattle.cgm_encode.proofs.TellingSteps.{all_say, all_told, any_says, any_told, equivalence_says, equivalence_told, if_ok, implication_says, implication_told, on_ok, part_said, part_told}
-use Rattle.cgm_encode.proofs.telling.+telling.Goals as goal
+use Rattle.cgm_enc_formula.specs.NamingValues.{all_truths, told}
+use Rattle.cgm_enc_formula.proofs.ToldSteps.{all_say, all_told, any_says, any_told, equivalence_says, equivalence_told, if_ok, implication_says, implication_told, on_ok, part_said, part_told}
+use Rattle.cgm_enc_formula.proofs.naming_values.+telling.Goals as goal
 
 abbrev Small : Assignment → List ℤ → Linear × ℤ → Type 0
 Small a sums c = IsSmall (number_in a sums) c.0

@@ -14,7 +14,7 @@ use Rattle.cgm_formula.proofs.Folds.{fold-And, fold-Iff, fold-Implies, fold-Or}
 use Rattle.cgm_formula.proofs.Truths.{list_any-map}
 use Rattle.cgm_model.specs.declared.lists.Rule.{Rule}
 use Rattle.cgm_model.specs.Formulas.{formula_of}
-use Rattle.cgm_encode.specs.Telling.{Told, all_truths, rule_truths, telling, told, told_step}
+use Rattle.cgm_enc_formula.specs.NamingValues.{Told, all_truths, rule_truths, telling, told, told_step}
 
 pub on_ok : {X E : Type 0} {P Q : Type 0} (r : Result X E) → (P → Q) → OnOk r P → OnOk r Q
 on_ok (Ok x) f p = f p

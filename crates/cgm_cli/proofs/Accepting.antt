@@ -19,9 +19,10 @@ use Rattle.cgm_cert.specs.Fault.{IsTextOf}
 use Rattle.cgm_cert.proofs.Once.{entries_or_fault, one_list}
 use Rattle.cgm_check.specs.Verdicts.{IsRefusedAt}
 use Rattle.cgm_encode.specs.declared.answer.Found.{Found}
+use Rattle.cgm_encode.specs.Decoding.{IsDecodedFound}
 use Rattle.cgm_encode.specs.Encoding.{IsEncodable}
 use Rattle.cgm_encode.specs.Problem.{problem_of}
-use Rattle.cgm_solve.specs.Answers.{IsReading, IsReadingOfBest, LeavesOpen, ShowsRealized, ShowsUnrealizable}
+use Rattle.cgm_solve.specs.Answers.{IsDecodedBest, LeavesOpen, ShowsRealized, ShowsUnrealizable}
 use Rattle.cgm_report.specs.Answers.{exhausted, left_open}
 use Rattle.cgm_report.specs.Report.{realized, unrealizable}
 use Rattle.cgm_cli.specs.CheckOutcome.{HasCertificateOutcome, HasCheckOutcome, HasEntriesOutcome, HasNoEntries}
@@ -38,25 +39,25 @@ use Rattle.cgm_cli.proofs.Shelves.{model_of_reading}
 abbrev found_with : Assignment → List ℤ → Found
 found_with assignment vector = record { assignment = assignment; vector = vector }
 
-same_reading : (m : Lists) (pairs : List Pair) (values : List ℤ) (f g : Found) → IsReading m pairs values f → IsReading m pairs values g → f ≡ g
-same_reading m pairs values f g one other =
+same_decoded : (m : Lists) (pairs : List Pair) (values : List ℤ) (f g : Found) → IsDecodedFound m pairs values f → IsDecodedFound m pairs values g → f ≡ g
+same_decoded m pairs values f g one other =
     let assignment : f.assignment ≡ g.assignment = one.assignment ∙ sym other.assignment in
     let vector : f.vector ≡ g.vector = one.vector ∙ (ap (vector_of m pairs) assignment ∙ sym other.vector) in
     ap₂ found_with assignment vector
 
-same_found : (m : Lists) (pairs : List Pair) (best : Option (List ℤ)) (f g : Found) → IsReadingOfBest m pairs best (Some f) → IsReadingOfBest m pairs best (Some g) → f ≡ g
+same_found : (m : Lists) (pairs : List Pair) (best : Option (List ℤ)) (f g : Found) → IsDecodedBest m pairs best (Some f) → IsDecodedBest m pairs best (Some g) → f ≡ g
 same_found m pairs best f g one other =
-    let values = both best (λ values. IsReading m pairs values f) (λ values. IsReading m pairs values g) one other in
-    same_reading m pairs values.0 f g values.1.0 values.1.1
+    let values = both best (λ values. IsDecodedFound m pairs values f) (λ values. IsDecodedFound m pairs values g) one other in
+    same_decoded m pairs values.0 f g values.1.0 values.1.1
 
--- a best that is none is read as nothing
-none_read : (m : Lists) (pairs : List Pair) (best : Option (List ℤ)) (f : Found) → best ≡ None → IsReadingOfBest m pairs best (Some f) → ⊥
-none_read m pairs best f none reading = subst (λ b. IsReadingOfBest m pairs b (Some f)) none reading
+-- a best that is none decodes to nothing
+none_decoded : (m : Lists) (pairs : List Pair) (best : Option (List ℤ)) (f : Found) → best ≡ None → IsDecodedBest m pairs best (Some f) → ⊥
+none_decoded m pairs best f none reading = subst (λ b. IsDecodedBest m pairs b (Some f)) none reading
 
-same_best : (m : Lists) (pairs : List Pair) (best : Option (List ℤ)) (one other : Option Found) → IsReadingOfBest m pairs best one → IsReadingOfBest m pairs best other → one ≡ other
+same_best : (m : Lists) (pairs : List Pair) (best : Option (List ℤ)) (one other : Option Found) → IsDecodedBest m pairs best one → IsDecodedBest m pairs best other → one ≡ other
 same_best m pairs best None None one other = refl
-same_best m pairs best None (Some g) one other = absurd (none_read m pairs best g one other)
-same_best m pairs best (Some f) None one other = absurd (none_read m pairs best f other one)
+same_best m pairs best None (Some g) one other = absurd (none_decoded m pairs best g one other)
+same_best m pairs best (Some f) None one other = absurd (none_decoded m pairs best f other one)
 same_best m pairs best (Some f) (Some g) one other = ap Some (same_found m pairs best f g one other)
 
 -- ---- accepted entries aren't refused
@@ -86,7 +87,7 @@ realized_again m earlier entries found P old new statuses.Done shown printed out
     let same = same_found m earlier (last_best (state_of entries)) outcome.found found outcome.shown.best shown.best in
     inr (refl, (realized m earlier found.assignment, (printed, subst (λ f. IsPrinted (realized m earlier f.assignment) old new) same outcome.printed)))
 realized_again m earlier entries found P old new statuses.Unrealizable shown printed outcome =
-    absurd (none_read m earlier (last_best (state_of entries)) found outcome.0.no_best shown.best)
+    absurd (none_decoded m earlier (last_best (state_of entries)) found outcome.0.no_best shown.best)
 realized_again m earlier entries found P old new statuses.Open shown printed outcome =
     absurd (outcome.open_with.not_closed shown.closed)
 realized_again m earlier entries found P old new statuses.Certificate shown printed outcome =
@@ -97,7 +98,7 @@ realized_again m earlier entries found P old new answer shown printed outcome = 
 
 unrealizable_again : (m : Lists) (earlier : List Pair) (entries : List Entry) (P : List ℕ → Type 0) (old new : SinkState) (answer : Status) → ShowsUnrealizable m earlier entries → P unrealizable → HasEntriesOutcome m earlier entries old new answer → among answer ⊎ ((answer ≡ statuses.Unrealizable) × PrintSame P (λ bytes. IsPrinted bytes old new))
 unrealizable_again m earlier entries P old new statuses.Done shown printed outcome =
-    absurd (none_read m earlier (last_best (state_of entries)) outcome.found shown.no_best outcome.shown.best)
+    absurd (none_decoded m earlier (last_best (state_of entries)) outcome.found shown.no_best outcome.shown.best)
 unrealizable_again m earlier entries P old new statuses.Unrealizable shown printed outcome =
     inr (refl, (unrealizable, (printed, outcome.1)))
 unrealizable_again m earlier entries P old new statuses.Open shown printed outcome =

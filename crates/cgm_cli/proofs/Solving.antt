@@ -19,7 +19,7 @@ use Rattle.cgm_search.specs.declared.plans.Plan.{Plan}
 use Rattle.cgm_encode.specs.declared.answer.Answer.{Answer}
 use Rattle.cgm_encode.specs.declared.answer.Answer.TheVariants.{Exhausted, Open, Realized, Unrealizable}
 use Rattle.cgm_encode.specs.declared.answer.Found.{Found}
-use Rattle.cgm_solve.specs.Answers.{IsReadingOfBest, IsSolved}
+use Rattle.cgm_solve.specs.Answers.{IsDecodedBest, IsSolved}
 use Rattle.cgm_report.specs.Answers.{IsReportable, report_of}
 use Rattle.cgm_report.specs.Shown.{IsShowable}
 use Rattle.cgm_report.proofs.Showing.{show_quantities}
@@ -34,7 +34,7 @@ vector_length : (m : Lists) (pairs : List Pair) (a : Assignment) → length (vec
 unfolding vector_of
 vector_length m pairs a = length-map m.objectives (objective_number m pairs a)
 
-pub showable : (m : Lists) (pairs : List Pair) (best : Option (List ℤ)) (found : Option Found) → IsReadingOfBest m pairs best found → IfSome found (IsShowable m)
+pub showable : (m : Lists) (pairs : List Pair) (best : Option (List ℤ)) (found : Option Found) → IsDecodedBest m pairs best found → IfSome found (IsShowable m)
 showable m pairs best None reading = tt
 showable m pairs None (Some found) reading = absurd reading
 showable m pairs (Some values) (Some found) reading = record {
@@ -42,7 +42,7 @@ showable m pairs (Some values) (Some found) reading = record {
   vector = ap length reading.vector ∙ vector_length m pairs found.assignment;
 }
 
-pub vector_is : (m : Lists) (pairs : List Pair) (best : Option (List ℤ)) (found : Found) → IsReadingOfBest m pairs best (Some found) → found.vector ≡ vector_of m pairs found.assignment
+pub vector_is : (m : Lists) (pairs : List Pair) (best : Option (List ℤ)) (found : Found) → IsDecodedBest m pairs best (Some found) → found.vector ≡ vector_of m pairs found.assignment
 vector_is m pairs None found reading = absurd reading
 vector_is m pairs (Some values) found reading = reading.vector
 

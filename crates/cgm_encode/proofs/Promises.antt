@@ -9,8 +9,9 @@ use Rattle.cgm_evolve.specs.Pairs.{Pair}
 use Rattle.cgm_obj.specs.Least.{Realizes}
 use Rattle.cgm_obj.specs.Vector.{vector_of}
 use Rattle.cgm_encode.specs.declared.answer.Encoded.{Encoded}
+use Rattle.cgm_encode.specs.declared.answer.Found.{Found}
 use Rattle.cgm_encode.specs.Assignments.{assignment_of, decoded, extension}
-use Rattle.cgm_encode.specs.Decoding.{IsDecoded, IsDecodedFor, IsExtended}
+use Rattle.cgm_encode.specs.Decoding.{ForEncoded, IsDecoded, IsDecodedFor, IsDecodedFound, IsExtended}
 use Rattle.cgm_encode.specs.Encoding.{IsEncodingOf}
 use Rattle.cgm_encode.specs.Laws.{DecodesTo, ExtendsTo}
 use Rattle.cgm_encode.specs.Problem.{problem_of}
@@ -36,6 +37,16 @@ decoded_promise enc values a is solution =
     λ m pairs well encoding.
     decoded_for m pairs enc values a (is ∙ counted m pairs enc values encoding) encoding
     (solutions_decode m pairs values well (subst (λ (p : Instance). IsSolution p values) encoding.problem solution))
+
+pub found_promise : (enc : Encoded) (values : List ℤ) (found : Found) → IsDecoded enc values found.assignment → found.vector ≡ vector enc.problem values → ForEncoded enc (λ m pairs. IsDecodedFound m pairs values found)
+unfolding IsDecoded
+found_promise enc values found is_decoded vector_is = λ m pairs well encoding.
+    let for_model = is_decoded m pairs well encoding in
+    record {
+      assignment = for_model.assignment;
+      realizes = for_model.realizes;
+      vector = vector_is ∙ for_model.vector;
+    }
 
 extended_for : (m : Lists) (pairs : List Pair) (enc : Encoded) (a : Assignment) (values : List ℤ) → values ≡ extension m pairs a → IsEncodingOf m pairs enc → ExtendsTo m pairs a (extension m pairs a) → IsExtended m pairs enc a values
 extended_for m pairs enc a values is encoding law = record {

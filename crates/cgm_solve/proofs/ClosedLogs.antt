@@ -8,19 +8,19 @@ use Rattle.cgm_encode.specs.declared.answer.Encoded.{Encoded}
 use Rattle.cgm_encode.specs.declared.answer.Found.{Found}
 use Rattle.cgm_trail.specs.TrailState.{TrailState}
 use Rattle.cgm_solve.specs.declared.running.Ended.{Ended}
-use Rattle.cgm_solve.specs.Readings.{ReadsLastBest}
+use Rattle.cgm_solve.specs.Answers.{IsLastBestOf}
 use Rattle.cgm_solve.specs.Runs.{IsToldOf, closed_answer}
 
-pub told_closed : (encoded : Encoded) (e : Ended) (before : List TrailState) (best : Option Found) (entries : List Entry) → entries ≡ e.log.entries → IsClosed e.log.entries → ReadsLastBest encoded e.log.entries best → IsToldOf encoded e before before (closed_answer best entries)
-told_closed encoded e before None entries same closed reads = (
+pub told_closed : (encoded : Encoded) (e : Ended) (before : List TrailState) (best : Option Found) (entries : List Entry) → entries ≡ e.log.entries → IsClosed e.log.entries → IsLastBestOf encoded e.log.entries best → IsToldOf encoded e before before (closed_answer best entries)
+told_closed encoded e before None entries same closed best_is = (
   same,
   subst (λ (es : List Entry). IsClosed es) (sym same) closed,
-  subst (λ (es : List Entry). ReadsLastBest encoded es None) (sym same) reads,
+  subst (λ (es : List Entry). IsLastBestOf encoded es None) (sym same) best_is,
   refl,
 )
-told_closed encoded e before (Some found) entries same closed reads = (
+told_closed encoded e before (Some found) entries same closed best_is = (
   same,
   subst (λ (es : List Entry). IsClosed es) (sym same) closed,
-  subst (λ (es : List Entry). ReadsLastBest encoded es (Some found)) (sym same) reads,
+  subst (λ (es : List Entry). IsLastBestOf encoded es (Some found)) (sym same) best_is,
   refl,
 )

@@ -1,6 +1,5 @@
 pub mod Bests
 pub mod ClosedLogs
-pub mod Decoded
 pub mod EncodingLaws
 pub mod Showing
 pub mod Telling

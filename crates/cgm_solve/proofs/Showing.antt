@@ -15,14 +15,15 @@ use Rattle.cgm_atom.specs.Laws.{IsConcluded}
 use Rattle.cgm_atom.specs.LogState.{last_best, state_of}
 use Rattle.cgm_atom.proofs.Concluding.{closed_log_is_least}
 use Rattle.cgm_encode.specs.declared.answer.Found.{Found}
+use Rattle.cgm_encode.specs.Decoding.{IsDecodedFound}
 use Rattle.cgm_encode.specs.Problem.{problem_of}
-use Rattle.cgm_solve.specs.Answers.{IsLastBest, IsReading, ShowsRealized, ShowsUnrealizable}
+use Rattle.cgm_solve.specs.Answers.{IsLastBest, ShowsRealized, ShowsUnrealizable}
 use Rattle.cgm_solve.proofs.EncodingLaws.{least_solutions_decode, no_solution_no_realization}
 
-least_by : (m : Lists) (pairs : List Pair) (best : Option (List ℤ)) (found : Found) → ∥ IsWellFormed m ∥₁ → IsConcluded (problem_of m pairs) best → IsSomeAnd best (λ values. IsReading m pairs values found) → IsLeastRealization m pairs found.assignment
-least_by m pairs None found well_formed concluded reading = absurd reading
-least_by m pairs (Some values) found well_formed concluded reading =
-    subst (λ (a : Assignment). IsLeastRealization m pairs a) (sym reading.assignment)
+least_by : (m : Lists) (pairs : List Pair) (best : Option (List ℤ)) (found : Found) → ∥ IsWellFormed m ∥₁ → IsConcluded (problem_of m pairs) best → IsSomeAnd best (λ values. IsDecodedFound m pairs values found) → IsLeastRealization m pairs found.assignment
+least_by m pairs None found well_formed concluded is_found = absurd is_found
+least_by m pairs (Some values) found well_formed concluded is_found =
+    subst (λ (a : Assignment). IsLeastRealization m pairs a) (sym is_found.assignment)
     (least_solutions_decode m pairs values well_formed concluded.0 concluded.1)
 
 pub shows_realized : (m : Lists) (pairs : List Pair) (entries : List Entry) (found : Found) → ∥ IsWellFormed m ∥₁ → IsProper (problem_of m pairs).bounds → IsAccepted (problem_of m pairs) entries → IsClosed entries → IsLastBest m pairs entries (Some found) → ShowsRealized m pairs entries found

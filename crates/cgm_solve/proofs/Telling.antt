@@ -12,6 +12,7 @@ use Rattle.cgm_atom.specs.Ranges.{IsPrintable}
 use Rattle.cgm_encode.specs.declared.answer.Answer.{Answer}
 use Rattle.cgm_encode.specs.declared.answer.Answer.TheVariants.{Exhausted, Open, Realized, Unrealizable}
 use Rattle.cgm_encode.specs.declared.answer.Encoded.{Encoded}
+use Rattle.cgm_encode.specs.Decoding.{ForEncoded}
 use Rattle.cgm_encode.specs.Problem.{problem_of}
 use Rattle.cgm_log.specs.LogBook.{IsLog, LogBook}
 use Rattle.cgm_search.specs.declared.plans.Plan.{Plan}
@@ -20,7 +21,6 @@ use Rattle.cgm_search.specs.declared.plans.Stopped.TheVariants as stopped
 use Rattle.cgm_trail.specs.TrailState.{TrailState}
 use Rattle.cgm_solve.specs.declared.running.Ended.{Ended}
 use Rattle.cgm_solve.specs.Answers.{IsSolved, IsSpentTrail, LeavesOpen}
-use Rattle.cgm_solve.specs.Readings.{ForEncoded}
 use Rattle.cgm_solve.specs.Runs.{IsEnded, IsEndedAs, IsTold, IsToldOf}
 use Rattle.cgm_solve.specs.Searches.{IsSearchAnswer}
 use Rattle.cgm_solve.proofs.Showing.{shows_realized, shows_unrealizable}

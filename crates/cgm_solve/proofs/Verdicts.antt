@@ -12,8 +12,8 @@ use Rattle.cgm_check.specs.Verdicts.{IsVerdictOf}
 use Rattle.cgm_encode.specs.declared.answer.Answer.TheVariants.{Realized, Unrealizable}
 use Rattle.cgm_encode.specs.declared.answer.Encoded.{Encoded}
 use Rattle.cgm_encode.specs.declared.answer.Found.{Found}
-use Rattle.cgm_solve.specs.Answers.{IsReading, IsShown}
-use Rattle.cgm_solve.specs.Readings.{ForEncoded, Reads}
+use Rattle.cgm_encode.specs.Decoding.{ForEncoded, IsDecodedFound}
+use Rattle.cgm_solve.specs.Answers.{IsShown}
 use Rattle.cgm_solve.proofs.Showing.{shows_realized, shows_unrealizable}
 
 proper_for : (p q : Instance) → p ≡ q → IsProper p.bounds → IsProper q.bounds
@@ -22,11 +22,11 @@ proper_for p q same proper = subst (λ (r : Instance). IsProper r.bounds) same p
 accepted_for : (p q : Instance) (entries : List Entry) → p ≡ q → IsAccepted p entries → IsAccepted q entries
 accepted_for p q entries same accepted = subst (λ (r : Instance). IsAccepted r entries) same accepted
 
-pub shown_realized : (encoded : Encoded) (entries : List Entry) (values : List ℤ) (found : Found) (own : List Entry) → IsProper encoded.problem.bounds → IsVerdictOf encoded.problem entries (Least values) → Reads encoded values found → own ≡ entries → ForEncoded encoded (λ m pairs. IsShown m pairs entries (Realized found own))
-shown_realized encoded entries values found own proper verdict reads same = λ m pairs well_formed encoding. (
+pub shown_realized : (encoded : Encoded) (entries : List Entry) (values : List ℤ) (found : Found) (own : List Entry) → IsProper encoded.problem.bounds → IsVerdictOf encoded.problem entries (Least values) → ForEncoded encoded (λ m pairs. IsDecodedFound m pairs values found) → own ≡ entries → ForEncoded encoded (λ m pairs. IsShown m pairs entries (Realized found own))
+shown_realized encoded entries values found own proper verdict is_found same = λ m pairs well_formed encoding. (
   same,
   shows_realized m pairs entries found well_formed (proper_for encoded.problem _ encoding.problem proper) (accepted_for encoded.problem _ entries encoding.problem verdict.0) verdict.1
-      (subst (λ (o : Option (List ℤ)). IsSomeAnd o (λ v. IsReading m pairs v found)) (sym verdict.2) (reads m pairs well_formed encoding)),
+      (subst (λ (o : Option (List ℤ)). IsSomeAnd o (λ v. IsDecodedFound m pairs v found)) (sym verdict.2) (is_found m pairs well_formed encoding)),
 )
 
 pub shown_unrealizable : (encoded : Encoded) (entries own : List Entry) → IsProper encoded.problem.bounds → IsVerdictOf encoded.problem entries NoSolution → own ≡ entries → ForEncoded encoded (λ m pairs. IsShown m pairs entries (Unrealizable own))

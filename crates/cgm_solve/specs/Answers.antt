@@ -5,7 +5,6 @@ use Rattle.cgm_formula.specs.declared.assignment.Assignment.{Assignment}
 use Rattle.cgm_model.specs.declared.lists.Lists.{Lists}
 use Rattle.cgm_evolve.specs.Pairs.{Pair}
 use Rattle.cgm_obj.specs.Least.{IsLeastRealization, Realizes}
-use Rattle.cgm_obj.specs.Vector.{vector_of}
 use Rattle.cgm_atom.specs.declared.entries.BadStep.{BadStep}
 use Rattle.cgm_atom.specs.declared.entries.Entry.{Entry}
 use Rattle.cgm_atom.specs.Acceptance.{IsAccepted, IsClosed}
@@ -20,10 +19,11 @@ use Rattle.cgm_search.specs.declared.plans.Plan.{Plan}
 use Rattle.cgm_search.specs.Storing.{IsSeenName}
 use Rattle.cgm_encode.specs.declared.answer.Answer.{Answer}
 use Rattle.cgm_encode.specs.declared.answer.Answer.TheVariants.{Exhausted, Open, Realized, Unrealizable}
+use Rattle.cgm_encode.specs.declared.answer.Encoded.{Encoded}
 use Rattle.cgm_encode.specs.declared.answer.Found.{Found}
 use Rattle.cgm_enc_formula.specs.declared.stop.EncodeStop.{EncodeStop as SolveStop}
 use Rattle.cgm_enc_formula.specs.declared.stop.EncodeStop.TheVariants.{Memory, Row}
-use Rattle.cgm_encode.specs.Assignments.{decoded}
+use Rattle.cgm_encode.specs.Decoding.{ForEncoded, IsDecodedFound}
 use Rattle.cgm_encode.specs.Encoding.{IsEncodable, IsEncodeAnswer}
 use Rattle.cgm_encode.specs.Problem.{problem_of}
 use Rattle.cgm_solve.specs.declared.verifying.Verified.{Verified}
@@ -31,20 +31,18 @@ use Rattle.cgm_solve.specs.declared.verifying.Verified.TheVariants.{Refused, Sho
 
 -- ---- what is found
 
--- the realization that the values of a solution stand for, with its vector
-pub record IsReading (m : Lists) (pairs : List Pair) (values : List ℤ) (found : Found) : Type 0 where
-  pub assignment : found.assignment ≡ decoded m values
-  pub realizes : Realizes m found.assignment
-  pub vector : found.vector ≡ vector_of m pairs found.assignment
+-- what is found stands for the values of a best; nothing is found where there is none
+abbrev pub IsDecodedBest : Lists → List Pair → Option (List ℤ) → Option Found → Type 0
+IsDecodedBest m pairs best None = best ≡ None
+IsDecodedBest m pairs best (Some found) = IsSomeAnd best (λ values. IsDecodedFound m pairs values found)
 
--- the same of the values of a best, if there is one
-abbrev pub IsReadingOfBest : Lists → List Pair → Option (List ℤ) → Option Found → Type 0
-IsReadingOfBest m pairs best None = best ≡ None
-IsReadingOfBest m pairs best (Some found) = IsSomeAnd best (λ values. IsReading m pairs values found)
-
--- what is found stands for the last best of the entries; nothing is found where there is none
+-- the same of the last best of the entries
 abbrev pub IsLastBest : Lists → List Pair → List Entry → Option Found → Type 0
-IsLastBest m pairs entries found = IsReadingOfBest m pairs (last_best (state_of entries)) found
+IsLastBest m pairs entries found = IsDecodedBest m pairs (last_best (state_of entries)) found
+
+-- whatever model and earlier realization this is the encoding of
+abbrev pub IsLastBestOf : Encoded → List Entry → Option Found → Type 0
+IsLastBestOf encoded entries found = ForEncoded encoded (λ m pairs. IsLastBest m pairs entries found)
 
 abbrev pub HasNoRealization : Lists → Type 0
 HasNoRealization m = (a : Assignment) → ¬ Realizes m a

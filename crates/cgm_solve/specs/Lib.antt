@@ -1,4 +1,3 @@
 pub mod Answers
-pub mod Readings
 pub mod Runs
 pub mod Searches

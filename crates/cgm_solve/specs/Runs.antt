@@ -13,8 +13,7 @@ use Rattle.cgm_search.specs.declared.plans.Stopped.{Stopped}
 use Rattle.cgm_search.specs.declared.plans.Stopped.TheVariants as stopped
 use Rattle.cgm_trail.specs.TrailState.{TrailState}
 use Rattle.cgm_solve.specs.declared.running.Ended.{Ended}
-use Rattle.cgm_solve.specs.Answers.{IsSpentTrail}
-use Rattle.cgm_solve.specs.Readings.{ReadsLastBest}
+use Rattle.cgm_solve.specs.Answers.{IsLastBestOf, IsSpentTrail}
 
 -- ---- the run
 
@@ -44,13 +43,13 @@ IsExhausted best entries trail before after (Err e) = after ≡ before
 -- the answer by a closed log, or by one that isn't closed where the budget is spent
 abbrev pub IsToldOf : Encoded → Ended → List TrailState → List TrailState → Answer → Type 0
 IsToldOf encoded e before after (Realized found entries) =
-    (entries ≡ e.log.entries) × IsClosed entries × ReadsLastBest encoded entries (Some found) × (after ≡ before)
+    (entries ≡ e.log.entries) × IsClosed entries × IsLastBestOf encoded entries (Some found) × (after ≡ before)
 IsToldOf encoded e before after (Unrealizable entries) =
-    (entries ≡ e.log.entries) × IsClosed entries × ReadsLastBest encoded entries None × (after ≡ before)
+    (entries ≡ e.log.entries) × IsClosed entries × IsLastBestOf encoded entries None × (after ≡ before)
 IsToldOf encoded e before after (Exhausted best spent entries) =
     (entries ≡ e.log.entries)
     × (e.stopped ≡ stopped.Spent)
-    × ReadsLastBest encoded entries best
+    × IsLastBestOf encoded entries best
     × (spent ≡ e.trail.moves ∷ [])
     × (after ≡ before ++ e.trail ∷ [])
 IsToldOf encoded e before after (Open best) = ⊥

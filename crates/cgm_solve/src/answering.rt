@@ -1,13 +1,12 @@
 //! What is told of an ended run.
 ghost use Rattle.std.specs.Prelude.{◌≡◌, IfOk};
 ghost use Rattle.cgm_atom.specs.Acceptance.{IsClosed};
-ghost use Rattle.cgm_solve.specs.Readings.{ReadsLastBest};
+ghost use Rattle.cgm_solve.specs.Answers.{IsLastBestOf};
 ghost use Rattle.cgm_solve.specs.Runs.{IsExhausted, IsTold, closed_answer};
 
-use crate::reading::read;
 use crate::running::Ended;
 use cgm_atom::{Entry, OutOfMemory, Seq};
-use cgm_encode::{Answer, Encoded, Found};
+use cgm_encode::{Answer, Encoded, Found, decoded};
 use cgm_log::Log;
 use cgm_search::Stopped;
 use cgm_trail::{Trail, Work};
@@ -30,7 +29,7 @@ pub(crate) fn tell(
         trail,
         stopped,
     } = ended;
-    let best = read_last_best(alloc, encoded, &log)?;
+    let best = decoded_last_best(alloc, encoded, &log)?;
     let is_closed = log.closed();
     let entries = log.into_entries();
     if is_closed {
@@ -45,14 +44,18 @@ pub(crate) fn tell(
 }
 
 /// The realization that the last best of the log stands for, if there is one.
-fn read_last_best(alloc: Global, encoded: &Encoded, log: &Log) -> Result<Option<Found>, OutOfMemory>
+fn decoded_last_best(
+    alloc: Global,
+    encoded: &Encoded,
+    log: &Log,
+) -> Result<Option<Found>, OutOfMemory>
     requires { log.now.problem ≡ encoded.now.problem }
-    ensures { IfOk result (λ found. ReadsLastBest encoded.now log.now.entries found) }
+    ensures { IfOk result (λ found. IsLastBestOf encoded.now log.now.entries found) }
 {
     match log.indexed().last_best() {
         None => Ok(None),
         Some(values) => {
-            let found = read(alloc, encoded, values)?;
+            let found = decoded(alloc, encoded, values)?;
             Ok(Some(found))
         }
     }

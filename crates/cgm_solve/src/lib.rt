@@ -2,7 +2,6 @@
 #![tactic(auto)]
 
 mod answering;
-mod reading;
 mod running;
 mod solving;
 mod verifying;

@@ -1,8 +1,8 @@
 //! Solving a model by one worker.
 ghost use Rattle.cgm_model.specs.Model.{lists_of};
+ghost use Rattle.cgm_encode.specs.Decoding.{ForEncoded};
 ghost use Rattle.cgm_search.specs.Searching.{IsPlan};
 ghost use Rattle.cgm_solve.specs.Answers.{IsSolveAnswer};
-ghost use Rattle.cgm_solve.specs.Readings.{ForEncoded};
 ghost use Rattle.cgm_solve.specs.Searches.{IsSearchAnswer};
 
 use crate::answering::tell;

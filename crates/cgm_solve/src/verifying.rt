@@ -2,13 +2,12 @@
 ghost use Rattle.std.specs.Prelude.{◌≡◌, IfOk, IfSome};
 ghost use Rattle.cgm_model.specs.Model.{lists_of};
 ghost use Rattle.cgm_atom.specs.Instance.{IsSolution};
-ghost use Rattle.cgm_solve.specs.Answers.{IsVerifyAnswer, IsVerified};
-ghost use Rattle.cgm_solve.specs.Readings.{ForEncoded, ReadsBest};
+ghost use Rattle.cgm_encode.specs.Decoding.{ForEncoded};
+ghost use Rattle.cgm_solve.specs.Answers.{IsDecodedBest, IsVerifyAnswer, IsVerified};
 
-use crate::reading::read;
 use cgm_atom::{BadStep, Entry, OutOfMemory, Seq, copy_entries};
 use cgm_check::{Verdict, check};
-use cgm_encode::{Answer, Encoded, Found, SolveStop, encode};
+use cgm_encode::{Answer, Encoded, Found, SolveStop, decoded, encode};
 use cgm_evolve::Earlier;
 use cgm_model::Model;
 use std::alloc::Global;
@@ -59,12 +58,12 @@ pub fn verify_encoded(
     let verdict = check(alloc, &encoded.problem, entries.as_slice())?;
     match verdict {
         Verdict::Least { values } => {
-            let found = read(alloc, encoded, values.as_slice())?;
+            let found = decoded(alloc, encoded, values.as_slice())?;
             Ok(Verified::Shown(Answer::Realized { found, entries }))
         }
         Verdict::NoSolution => Ok(Verified::Shown(Answer::Unrealizable { entries })),
         Verdict::Open { best } => {
-            let best = read_best(alloc, encoded, &best)?;
+            let best = decoded_best(alloc, encoded, &best)?;
             Ok(Verified::Shown(Answer::Open { best }))
         }
         Verdict::Refused { step, why } => Ok(Verified::Refused { step, why }),
@@ -81,18 +80,19 @@ fn verify_copy(alloc: Global, encoded: &Encoded, entries: &[Entry]) -> Result<Ve
 }
 
 /// The realization that the values of a best stand for, if there are any.
-fn read_best(
+fn decoded_best(
     alloc: Global,
     encoded: &Encoded,
     best: &Option<Seq<i64>>,
 ) -> Result<Option<Found>, OutOfMemory>
     requires { IfSome best.now (IsSolution encoded.now.problem) }
-    ensures { IfOk result (λ found. ReadsBest encoded.now best.now found) }
+    ensures { IfOk result
+        (λ found. ForEncoded encoded.now (λ m pairs. IsDecodedBest m pairs best.now found)) }
 {
     match best {
         None => Ok(None),
         Some(values) => {
-            let found = read(alloc, encoded, values.as_slice())?;
+            let found = decoded(alloc, encoded, values.as_slice())?;
             Ok(Some(found))
         }
     }

@@ -1,10 +1,10 @@
 use Rattle.std.proofs.Common.{refl}
-use Rattle.cgm_solve.proofs.Decoded.{best_of_entries}
+use Rattle.cgm_solve.proofs.Bests.{best_of_entries}
 use Rattle.cgm_solve.proofs.Verdicts.{shown_realized, shown_unrealizable}
 use Rattle.cgm_solve.proofs.verifying.verify_encoded.Goals as goal
 
-pub read_best-requires : goal.read_best-requires
-read_best-requires c =
+pub decoded_best-requires : goal.decoded_best-requires
+decoded_best-requires c =
     let verdict = rw (c.in-Open.is, c.as_slice.ensures) at c.in_ok-verdict.ensures in
     best_of_entries c.args.encoded.now.problem c.args.entries c.in-Open.best c.recall_well_formed.ensures.proper verdict.0 verdict.2
 

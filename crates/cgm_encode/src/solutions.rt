@@ -1,18 +1,20 @@
-//! What the values of a solution stand for.
+//! What a solution decodes to: a realization with its vector.
 ghost use Rattle.std.specs.Prelude.{◌≡◌, IfOk};
 ghost use Rattle.cgm_atom.specs.Bounds.{value_of};
 ghost use Rattle.cgm_atom.specs.Instance.{IsSolution, values_at};
-ghost use Rattle.cgm_solve.specs.Readings.{Reads};
+ghost use Rattle.cgm_encode.specs.Decoding.{ForEncoded, IsDecodedFound};
 
+use crate::answer::{Encoded, Found};
+use crate::assignments::decode;
 use cgm_atom::{OutOfMemory, Seq, Var};
-use cgm_encode::{Encoded, Found, decode};
 use cgm_formula::number_at;
 use std::alloc::Global;
 
-/// The realization that a solution of the encoding stands for, with its vector.
-pub(crate) fn read(alloc: Global, encoded: &Encoded, values: &[i64]) -> Result<Found, OutOfMemory>
+/// The realization that a solution stands for, as `decode` gives it, with its vector.
+pub fn decoded(alloc: Global, encoded: &Encoded, values: &[i64]) -> Result<Found, OutOfMemory>
     requires { IsSolution encoded.now.problem values.now }
-    ensures { IfOk result (λ found. Reads encoded.now values.now found) }
+    ensures { IfOk result
+        (λ found. ForEncoded encoded.now (λ m pairs. IsDecodedFound m pairs values.now found)) }
 {
     let assignment = decode(alloc, encoded, values)?;
     let vector = objective_values(alloc, encoded.problem.objectives(), values)?;

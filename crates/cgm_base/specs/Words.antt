@@ -38,8 +38,12 @@ limit_word limits.VariableBound = codes "variable-bound"
 limit_word limits.Row = codes "row"
 limit_word limits.Trial = codes "trial"
 
+-- the most bytes that a text has which is read line by line: 16 MiB
+abbrev pub most_bytes : ℕ
+most_bytes = 16777216
+
 abbrev pub limit_number : Which → ℕ
-limit_number limits.TextBytes = 16777216
+limit_number limits.TextBytes = most_bytes
 limit_number limits.NameBytes = 64
 limit_number limits.Statements = 1000000
 limit_number limits.Elements = 20000

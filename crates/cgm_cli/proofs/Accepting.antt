@@ -2,6 +2,7 @@
 use Rattle.std.proofs.Common.{◌≡◌, ℕ, zero, suc, ◌≤◌, ◌⊎◌, List, [], ◌∷◌, length, slice_get, take, ℤ, IsSome, IsSomeAnd, Option, Some, None, is_some, refl, sym, ap, ap₂, ◌∙◌, subst, inl, inr, ⊎_elim, arith}
 use Rattle.cgm_base.specs.declared.status.Status.{Status}
 use Rattle.cgm_base.specs.declared.status.Status.TheVariants as statuses
+use Rattle.cgm_base.specs.Words.{most_bytes}
 use Rattle.cgm_shelf.specs.Shelf.{Files, Leaves, ShelfState}
 use Rattle.cgm_shelf.specs.Sink.{SinkState}
 use Rattle.cgm_formula.specs.declared.assignment.Assignment.{Assignment}
@@ -27,7 +28,7 @@ use Rattle.cgm_report.specs.Answers.{exhausted, left_open}
 use Rattle.cgm_report.specs.Report.{realized, unrealizable}
 use Rattle.cgm_cli.specs.CheckOutcome.{HasCertificateOutcome, HasCheckOutcome, HasEntriesOutcome, HasNoEntries}
 use Rattle.cgm_cli.specs.Effects.{IsPrinted, Outside, outside_of}
-use Rattle.cgm_cli.specs.Inputs.{HasEarlierFaultOutcome, HasFaultOutcome, HasInputOutcome, HasNoModel, HasNoProblem, HasNoText, HasNothingKnown, HasProblemOutcome, IsFileOf, IsInputOf, IsKnownOf, most_bytes}
+use Rattle.cgm_cli.specs.Inputs.{HasEarlierFaultOutcome, HasFaultOutcome, HasInputOutcome, HasNoModel, HasNoProblem, HasNoText, HasNothingKnown, HasProblemOutcome, IsFileOf, IsInputOf, IsKnownOf}
 use Rattle.cgm_cli.specs.Laws.{Agrees, CertificatesAreAccepted, HasEarlier, IsGoodInput, IsLater, IsOneOf, IsSameEarlier, Names, PrintSame, PrintSameBest, printed_between}
 use Rattle.cgm_cli.specs.SolveOutcome.{HasSolveOutcome, IsCertified, wanted}
 use Rattle.cgm_cli.proofs.Completing.{no_bytes}

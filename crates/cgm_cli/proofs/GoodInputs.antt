@@ -2,6 +2,7 @@
 use Rattle.std.proofs.Common.{◌≡◌, ℕ, ◌+◌, ◌<◌, ◌≤◌, ◌⊎◌, List, [], ◌∷◌, length, IsSomeAnd, Option, Some, None, refl, sym, ◌∙◌, subst, inl, inr, arith}
 use Rattle.cgm_base.specs.declared.status.Status.{Status}
 use Rattle.cgm_base.specs.declared.status.Status.TheVariants as statuses
+use Rattle.cgm_base.specs.Words.{most_bytes}
 use Rattle.cgm_shelf.specs.Faults.{Rose}
 use Rattle.cgm_shelf.specs.Shelf.{CantRead, Files, IsMissing, ShelfState, WhereTold}
 use Rattle.cgm_shelf.specs.Sink.{SinkState}
@@ -16,7 +17,7 @@ use Rattle.cgm_evolve.proofs.Outcomes as earliers
 use Rattle.cgm_enc_formula.specs.Measures.{IsWithinMeasure}
 use Rattle.cgm_encode.specs.Encoding.{IsEncodable, number_box}
 use Rattle.cgm_cli.specs.Effects.{Outside}
-use Rattle.cgm_cli.specs.Inputs.{HasEarlierFaultOutcome, HasFaultOutcome, HasInputOutcome, HasNoInput, HasNoModel, HasNoProblem, HasNoText, HasNothingKnown, HasProblemOutcome, IsFileOf, IsInputOf, IsKnownOf, IsModelOf, most_bytes}
+use Rattle.cgm_cli.specs.Inputs.{HasEarlierFaultOutcome, HasFaultOutcome, HasInputOutcome, HasNoInput, HasNoModel, HasNoProblem, HasNoText, HasNothingKnown, HasProblemOutcome, IsFileOf, IsInputOf, IsKnownOf, IsModelOf}
 use Rattle.cgm_cli.specs.Laws.{HasEarlier, HasModel, IsGoodInput}
 use Rattle.cgm_cli.proofs.Shelves.{model_of_reading}
 

@@ -3,6 +3,7 @@ use Rattle.std.proofs.Common.{◌≡◌, ℕ, ◌<◌, ◌≤◌, ◌⊎◌, Lis
 use Rattle.std.proofs.lemmas.Int.{clamps}
 use Rattle.cgm_base.specs.declared.status.Status.{Status}
 use Rattle.cgm_base.specs.declared.status.Status.TheVariants as statuses
+use Rattle.cgm_base.specs.Words.{most_bytes}
 use Rattle.cgm_model.specs.declared.lists.Lists.{Lists}
 use Rattle.cgm_shelf.specs.Faults.{Rose}
 use Rattle.cgm_shelf.specs.Shelf.{CantRead, Files, IsMissing, Leaves, LeavesPart, OnlyReads, ShelfState, WhereTold}
@@ -16,7 +17,7 @@ use Rattle.cgm_cli.specs.CheckOutcome.{HasCheckOutcome}
 use Rattle.cgm_cli.specs.CommandLine.{Command, solve, check, show, encode}
 use Rattle.cgm_cli.specs.Effects.{IsCutOff, IsTold, IsUntouched, outside, world}
 use Rattle.cgm_cli.specs.FaultLines.{write_fault}
-use Rattle.cgm_cli.specs.Inputs.{HasEarlierFaultOutcome, HasNoContent, HasNoEarlier, HasNoInput, HasNothingKnown, HasProblemOutcome, IsContent, IsFileOf, IsInputOf, IsKnownOf, IsModelOf, IsReadingOf, most_bytes}
+use Rattle.cgm_cli.specs.Inputs.{HasEarlierFaultOutcome, HasNoContent, HasNoEarlier, HasNoInput, HasNothingKnown, HasProblemOutcome, IsContent, IsFileOf, IsInputOf, IsKnownOf, IsModelOf, IsReadingOf}
 use Rattle.cgm_cli.specs.Outcome.{HasOwnOutcome}
 use Rattle.cgm_cli.specs.SolveOutcome.{HasSolveOutcome, IsCertificateCut, IsCertified, Wanted, wanted}
 

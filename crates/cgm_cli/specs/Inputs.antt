@@ -5,7 +5,7 @@ use Rattle.cgm_base.specs.declared.limit.Which.TheVariants as limits
 use Rattle.cgm_base.specs.declared.limit.Limit.{Limit}
 use Rattle.cgm_base.specs.declared.status.Status.{Status}
 use Rattle.cgm_base.specs.declared.status.Status.TheVariants.{Text, Earlier, Limit as LimitPassed, Read, Memory}
-use Rattle.cgm_base.specs.Words.{limit_number}
+use Rattle.cgm_base.specs.Words.{limit_number, most_bytes}
 use Rattle.cgm_shelf.specs.Shelf.{CantRead, Files, WhereTold}
 use Rattle.cgm_shelf.specs.Sink.{SinkState}
 use Rattle.cgm_model.specs.declared.lists.Lists.{Lists}
@@ -62,9 +62,6 @@ HasEarlierFaultOutcome text old new status = ⊥
 -- ---- the outcome for a file name
 
 -- the limit on the bytes of a text
-abbrev pub most_bytes : ℕ
-most_bytes = limit_number limits.TextBytes
-
 abbrev pub text_limit : Limit
 text_limit = record { which = limits.TextBytes; number = most_bytes; line = 0 }
 

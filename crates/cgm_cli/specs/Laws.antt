@@ -2,6 +2,7 @@
 use Rattle.std.specs.Prelude.{◌≡◌, ◌≢◌, ◌⊎◌, ℕ, ◌+◌, ◌*◌, ◌^◌, ◌≤◌, List, [], ◌∷◌, length, Contains, IsSome, IsSomeAnd, Option, None, Some}
 use Rattle.cgm_base.specs.declared.status.Status.{Status}
 use Rattle.cgm_base.specs.declared.status.Status.TheVariants.{Done, Unrealizable, Certificate, Open, Read, Write, Memory}
+use Rattle.cgm_base.specs.Words.{most_bytes}
 use Rattle.cgm_shelf.specs.Faults.{Rose}
 use Rattle.cgm_shelf.specs.Shelf.{Files, ShelfState}
 use Rattle.cgm_model.specs.declared.lists.Lists.{Lists}
@@ -16,7 +17,6 @@ use Rattle.cgm_encode.specs.Problem.{problem_of}
 use Rattle.cgm_report.specs.Answers.{exhausted, left_open}
 use Rattle.cgm_cli.specs.CommandLine.{solve, check, show, encode}
 use Rattle.cgm_cli.specs.Effects.{World, IsPrinted}
-use Rattle.cgm_cli.specs.Inputs.{most_bytes}
 use Rattle.cgm_cli.specs.Outcome.{HasCommandOutcome}
 
 -- ---- which statuses come where nothing fails

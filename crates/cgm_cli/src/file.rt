@@ -1,11 +1,12 @@
 //! The bytes of a file, and the model or the earlier realization that they give, or why there is none.
 ghost use Rattle.std.specs.Prelude.{◌≡◌, ◌≤◌, length, IfOk, MatchResult, OnOk};
+ghost use Rattle.cgm_base.specs.Words.{most_bytes};
 ghost use Rattle.cgm_evolve.specs.Text.{IsTextOf as IsEarlierTextOf};
 ghost use Rattle.cgm_model.specs.Model.{lists_of};
 ghost use Rattle.cgm_text.specs.Text.{IsReading};
 ghost use Rattle.cgm_shelf.specs.Shelf.{OnlyReads};
 ghost use Rattle.cgm_cli.specs.Effects.{outside};
-ghost use Rattle.cgm_cli.specs.Inputs.{HasEarlierFaultOutcome, HasFaultOutcome, HasNoContent, HasNoEarlier, HasNoModel, IsContent, IsEarlierOf, IsReadingOf, most_bytes, text_limit};
+ghost use Rattle.cgm_cli.specs.Inputs.{HasEarlierFaultOutcome, HasFaultOutcome, HasNoContent, HasNoEarlier, HasNoModel, IsContent, IsEarlierOf, IsReadingOf, text_limit};
 
 use crate::faults::{PlacedFault, tell_fault};
 use crate::print::{tell, tell_memory};

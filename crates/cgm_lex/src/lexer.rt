@@ -1,6 +1,7 @@
 //! The tokens of a line and of a text.
 ghost use Rattle.std.specs.Prelude.{◌≡◌, ◌+◌, ◌<◌, ◌≤◌, List, ◌++◌, length, map, All, IfOk, IfErr, IfNone, MatchOption, Ok, drop};
 ghost use Rattle.std.specs.List.{slice_range};
+ghost use Rattle.cgm_base.specs.Words.{most_bytes};
 ghost use Rattle.cgm_lex.specs.Lexemes.{Lexeme, IsAdded, IsFaultOf, IsLineStop, IsWithin, StandInOrder, first_fault, lexeme_with, line_lexemes, placed, seen, text_lexemes};
 ghost use Rattle.cgm_lex.specs.Lines.{lines};
 ghost use Rattle.cgm_lex.specs.Spans.{line_spans, span_of, text_spans};
@@ -12,7 +13,7 @@ use std::alloc::{AllocError, Global};
 
 /// The token of a piece of the line that begins at the place `start`.
 fn token_at(line: u32, start: usize, piece: Span, kind: Kind) -> Token
-    requires small { start + piece.to ≤ 16777216 }
+    requires small { start + piece.to ≤ most_bytes }
     requires order { piece.from < piece.to }
     ensures line { result.line ≡ line }
     ensures from { result.from ≡ start + piece.from }
@@ -38,7 +39,7 @@ fn add_tokens(
 ) -> Result<Option<LexFault>, AllocError>
     requires order { start ≤ end }
     requires inside { end ≤ length text.now }
-    requires small { length text.now ≤ 16777216 }
+    requires small { length text.now ≤ most_bytes }
     ensures added { IfOk result (λ found. MatchOption found
         ((lexemes : List Lexeme) × ((line_lexemes (slice_range text.now start end) ≡ Ok lexemes)
         × IsAdded text.now line tokens.old.items tokens.new.items lexemes))
@@ -68,7 +69,7 @@ fn add_tokens(
 /// The tokens of one line of at most 16 MiB, given without its line feed; their spans are places of
 /// the line. `number` is the line's number.
 pub fn tokens_of_line(alloc: Global, line: &[u8], number: u32) -> Result<Vec<Token>, LexStop>
-    requires { length line.now ≤ 16777216 }
+    requires { length line.now ≤ most_bytes }
     ensures lexemes { IfOk result (λ tokens. line_lexemes line.now
         ≡ Ok (map (seen line.now) tokens.items)) }
     ensures numbered { IfOk result (λ tokens. All (λ token. token.line ≡ number) tokens.items) }
@@ -88,7 +89,7 @@ pub fn tokens_of_line(alloc: Global, line: &[u8], number: u32) -> Result<Vec<Tok
 /// The tokens of a text of at most 16 MiB: those of the lines before the first faulty one, and its
 /// fault.
 pub fn tokens(alloc: Global, bytes: &[u8]) -> Result<Lexed, AllocError>
-    requires { length bytes.now ≤ 16777216 }
+    requires { length bytes.now ≤ most_bytes }
     ensures tokens { IfOk result (λ lexed. map (placed bytes.now) lexed.tokens.items
         ≡ text_lexemes 1 (lines bytes.now)) }
     ensures within { IfOk result (λ lexed. All (IsWithin bytes.now) lexed.tokens.items) }

@@ -1,5 +1,6 @@
 //! The reader of texts, line by line, over any draft that takes lines.
 ghost use Rattle.std.specs.Prelude.{◌≡◌, ◌≤◌, length, IfErr, OnOk};
+ghost use Rattle.cgm_base.specs.Words.{most_bytes};
 ghost use Rattle.cgm_lex.specs.Readings.{IsNotReadAs, IsReadAs, IsReadWhole, LineStep, LineStops, Starts, TextForm, lack_of};
 
 use crate::line::split_line;
@@ -21,7 +22,7 @@ pub trait Draft {
 
     /// Adds what a line says, which has this number.
     fn add_line(&mut self, alloc: Global, line: &[u8], number: u32) -> Result<(), LineStop>
-        requires { length line.now ≤ 16777216 }
+        requires { length line.now ≤ most_bytes }
         ensures step { OnOk result (LineStep form holds number line.now self.old self.new) }
         ensures stop { IfErr result (LineStops form holds number line.now self.old) };
 
@@ -32,7 +33,7 @@ pub trait Draft {
 
 /// Adds the lines of a text to a draft that has none yet.
 fn add_lines<D: Draft>(alloc: Global, bytes: &[u8], draft: &mut D) -> Result<(), TextStop>
-    requires short { length bytes.now ≤ 16777216 }
+    requires short { length bytes.now ≤ most_bytes }
     requires empty { Starts D.form D.holds draft.old }
     ensures read { OnOk result (IsReadWhole D.form D.holds bytes.now draft.new) }
     ensures stop { IfErr result (IsNotReadAs D.form bytes.now) }
@@ -57,7 +58,7 @@ fn add_lines<D: Draft>(alloc: Global, bytes: &[u8], draft: &mut D) -> Result<(),
 /// fault: its line and its kind, or the limit that is passed there. Only want of memory comes beside
 /// these.
 pub fn read_lines<D: Draft>(alloc: Global, bytes: &[u8], draft: &mut D) -> Result<(), TextStop>
-    requires short { length bytes.now ≤ 16777216 }
+    requires short { length bytes.now ≤ most_bytes }
     requires empty { Starts D.form D.holds draft.old }
     ensures read { OnOk result (IsReadAs D.form D.holds bytes.now draft.new) }
     ensures stop { IfErr result (IsNotReadAs D.form bytes.now) }

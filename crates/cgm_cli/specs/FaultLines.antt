@@ -4,11 +4,11 @@ use Rattle.std.specs.Fmt.{decimal}
 use Rattle.cgm_base.specs.declared.fault.BadKind.{BadKind}
 use Rattle.cgm_base.specs.declared.limit.Limit.{Limit}
 use Rattle.cgm_base.specs.Words.{kind_word, limit_word, limit_number}
+use Rattle.cgm_base.specs.Printed.{line}
 use Rattle.cgm_atom.specs.declared.entries.BadStep.{BadStep}
 use Rattle.cgm_atom.specs.StepWords.{step_words}
 use Rattle.cgm_cert.specs.declared.stop.CertKind.{CertKind}
 use Rattle.cgm_cert.specs.Words.{certificate_word}
-use Rattle.cgm_report.specs.Report.{line}
 
 abbrev pub usage_fault : List ℕ
 usage_fault = line (codes "fault usage")

@@ -1,11 +1,12 @@
 -- The reports of answers.
 use Rattle.std.specs.Prelude.{ℕ, ◌+◌, List, [], ◌∷◌, ◌++◌, codes, IfSome, Option, Some, None}
 use Rattle.std.specs.Fmt.{decimal}
+use Rattle.cgm_base.specs.Printed.{line}
 use Rattle.cgm_model.specs.declared.lists.Lists.{Lists}
 use Rattle.cgm_encode.specs.declared.answer.Answer.{Answer}
 use Rattle.cgm_encode.specs.declared.answer.Answer.TheVariants as answers
 use Rattle.cgm_encode.specs.declared.answer.Found.{Found}
-use Rattle.cgm_report.specs.Report.{line, unrealizable}
+use Rattle.cgm_report.specs.Report.{unrealizable}
 use Rattle.cgm_report.specs.Shown.{IsShowable, shown_lines, shown_report}
 
 -- what a worker spent

@@ -1,12 +1,13 @@
 -- The lines of a realization by its vector, as they are made: those of objectives show the quantities themselves.
 use Rattle.std.specs.Prelude.{◌≡◌, ℕ, ℤ, neg_ℤ, Bool, List, [], ◌∷◌, ◌++◌, codes, length, if◌then◌else◌}
+use Rattle.cgm_base.specs.Printed.{line}
 use Rattle.cgm_model.specs.declared.lists.Lists.{Lists}
 use Rattle.cgm_model.specs.declared.lists.Objective.{Objective}
 use Rattle.cgm_model.specs.Assignment.{Fits}
 use Rattle.cgm_model.specs.Sums.{sums_of}
 use Rattle.cgm_text.specs.Canonical.{quantity_name}
 use Rattle.cgm_encode.specs.declared.answer.Found.{Found}
-use Rattle.cgm_report.specs.Report.{line, number_line, objective_word, element_lines, refinement_lines, variable_lines, sum_lines}
+use Rattle.cgm_report.specs.Report.{number_line, objective_word, element_lines, refinement_lines, variable_lines, sum_lines}
 
 -- the quantity of an objective's number in a vector
 abbrev pub shown : Bool → ℤ → ℤ

@@ -1,13 +1,14 @@
 -- A text has one outcome, and always one: its pairs or its first fault.
 use Rattle.std.proofs.Common.{◌≡◌, ℕ, ◌++◌, inl, inr, Bool, true, false, List, [], ◌∷◌, Option, None, Some, Result, Ok, Err, refl, sym, ap, ◌∙◌, subst}
 use Rattle.cgm_base.specs.declared.fault.BadKind.TheVariants as kinds
+use Rattle.cgm_base.specs.Printed.{truth_word}
 use Rattle.cgm_lex.specs.declared.stops.LineFault.{LineFault}
 use Rattle.cgm_lex.specs.declared.stops.LineFault.TheVariants as line_faults
 use Rattle.cgm_lex.specs.declared.token.Flaw.{Flaw}
 use Rattle.cgm_lex.specs.Lexemes.{Lexeme, line_lexemes}
 use Rattle.cgm_lex.specs.Readings.{gives, Comes, IsDecided, flaw_kind}
 use Rattle.cgm_lex.proofs.Readings.{lacks_nothing, one_first_fault, one_text, text_or_fault, text_or_fault_some}
-use Rattle.cgm_evolve.specs.Line.{AreFaulty, ArePairFault, IsFaulty, SayPair, name_fault, pair_tokens, truth_word}
+use Rattle.cgm_evolve.specs.Line.{AreFaulty, ArePairFault, IsFaulty, SayPair, name_fault, pair_tokens}
 use Rattle.cgm_evolve.specs.Pairs.{Pair}
 use Rattle.cgm_evolve.specs.Text.{Follows, HasFault, IsPassed, IsTextOf, LineComesTo, earlier_text}
 use Rattle.cgm_evolve.proofs.Giving.{good}

@@ -5,13 +5,14 @@ use Rattle.std.specs.Fmt.{digits}
 use Rattle.std.proofs.lemmas.Bool.{ne_eqb}
 use Rattle.std.proofs.lemmas.List.Elements.{All-from_recursion}
 use Rattle.std.proofs.lemmas.List.Splits.{slice_split_at}
+use Rattle.cgm_base.specs.Printed.{truth_word}
 use Rattle.cgm_lex.specs.Lexemes.{Lexeme, word}
 use Rattle.cgm_lex.specs.Lines.{lines}
 use Rattle.cgm_lex.specs.Readings.{Lead, gives}
 use Rattle.cgm_lex.specs.Spelling.{IsPlain, spelled_line}
 use Rattle.cgm_lex.proofs.Printing.{line_is_read, line_has_no_feed}
 use Rattle.cgm_lex.proofs.Spelled.{spelled_plain}
-use Rattle.cgm_evolve.specs.Line.{header_tokens, pair_tokens, truth_word}
+use Rattle.cgm_evolve.specs.Line.{header_tokens, pair_tokens}
 use Rattle.cgm_evolve.specs.Pairs.{ArePairs, Pair}
 use Rattle.cgm_evolve.specs.Text.{IsPassed, IsTextOf, canonical_text, earlier_text, pair_line}
 use Rattle.cgm_evolve.proofs.Pushing.{proper_here}

@@ -1,9 +1,10 @@
 -- What a line of an earlier text says, and its fault; the tests stand in the order in which the first that fails is told.
-use Rattle.std.specs.Prelude.{◌≡◌, ◌≢◌, ℕ, ◌⊎◌, pos, Bool, true, false, nat_lt, IsTrue, List, [], ◌∷◌, length, codes, Option, None, Some, Result, Ok, Err, if◌then◌else◌}
+use Rattle.std.specs.Prelude.{◌≡◌, ◌≢◌, ℕ, ◌⊎◌, pos, nat_lt, IsTrue, List, [], ◌∷◌, length, codes, Option, None, Some, Result, Ok, Err, if◌then◌else◌}
 use Rattle.std.specs.Option.{is_some}
 use Rattle.cgm_base.specs.declared.fault.BadKind.TheVariants as kinds
 use Rattle.cgm_base.specs.declared.limit.Which.TheVariants as limits
 use Rattle.cgm_base.specs.Words.{limit_number}
+use Rattle.cgm_base.specs.Printed.{truth_word}
 use Rattle.cgm_lex.specs.declared.token.Flaw.{Flaw}
 use Rattle.cgm_lex.specs.Lexemes.{Lexeme, number, word}
 use Rattle.cgm_lex.specs.Names.{is_spelled}
@@ -11,10 +12,6 @@ use Rattle.cgm_lex.specs.Readings.{flaw_kind}
 use Rattle.cgm_lex.specs.declared.stops.LineFault.{LineFault}
 use Rattle.cgm_lex.specs.declared.stops.LineFault.TheVariants as line_faults
 use Rattle.cgm_evolve.specs.Pairs.{Pair, truth_in}
-
-abbrev pub truth_word : Bool → List ℕ
-truth_word true = codes "true"
-truth_word false = codes "false"
 
 -- the first line with tokens
 abbrev pub header_tokens : List Lexeme

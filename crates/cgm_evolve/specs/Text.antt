@@ -3,13 +3,14 @@ use Rattle.std.specs.Prelude.{◌≡◌, ℕ, ◌+◌, List, [], ◌∷◌, ◌+
 use Rattle.std.specs.List.{filter, flat_map}
 use Rattle.cgm_base.specs.declared.fault.BadKind.TheVariants as kinds
 use Rattle.cgm_base.specs.Words.{limit_number}
+use Rattle.cgm_base.specs.Printed.{truth_word}
 use Rattle.cgm_lex.specs.declared.stops.LineFault.{LineFault}
 use Rattle.cgm_lex.specs.declared.stops.LineFault.TheVariants as line_faults
 use Rattle.cgm_lex.specs.declared.stops.TextStop.{TextStop}
 use Rattle.cgm_lex.specs.declared.stops.TextStop.TheVariants as stops
 use Rattle.cgm_lex.specs.Lexemes.{Lexeme, line_lexemes}
 use Rattle.cgm_lex.specs.Readings.{TextForm, gives, fails, Comes, lacks_header}
-use Rattle.cgm_evolve.specs.Line.{IsFaulty, SayPair, header_tokens, name_fault, pair_tokens, truth_word}
+use Rattle.cgm_evolve.specs.Line.{IsFaulty, SayPair, header_tokens, name_fault, pair_tokens}
 use Rattle.cgm_evolve.specs.Pairs.{ArePairs, Pair}
 
 abbrev pub has_tokens : List Lexeme → Bool

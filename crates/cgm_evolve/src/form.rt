@@ -1,17 +1,11 @@
 //! The forms of a line of an earlier text.
-ghost use Rattle.std.specs.Prelude.{◌≡◌, ◌≢◌, ◌↔◌, ℕ, ℤ, Bool, List, [], ◌∷◌, map, IsTrue, IfSome, IfNone};
+ghost use Rattle.std.specs.Prelude.{◌≡◌, ◌≢◌, ◌↔◌, ℕ, ℤ, List, [], ◌∷◌, map, IsTrue, IfSome, IfNone};
 ghost use Rattle.cgm_lex.specs.Lexemes.{Lexeme, number, seen, word};
-ghost use Rattle.cgm_evolve.specs.Line.{SayPair, header_tokens, truth_word};
+ghost use Rattle.cgm_evolve.specs.Line.{SayPair, header_tokens};
 ghost use Rattle.cgm_evolve.specs.Pairs.{Pair};
 
+use cgm_base::{is_word, truth_of_word};
 use cgm_lex::{Kind, Token, bytes_of, is_spelled};
-
-/// Says whether this is the word.
-fn is(word: &[u8], text: &str) -> bool
-    ensures { IsTrue result ↔ (word.now ≡ text.now) }
-{
-    word == text.as_bytes()
-}
 
 /// Says whether no token is left.
 pub(crate) fn is_end(tokens: &[Token]) -> bool
@@ -84,22 +78,8 @@ pub(crate) fn is_header(line: &[u8], tokens: &[Token]) -> bool
         None => false,
         Some((w, rest)) => match one_number(rest) {
             None => false,
-            Some(version) => version == 1 && is(w, "earlier"),
+            Some(version) => version == 1 && is_word(w, "earlier"),
         },
-    }
-}
-
-/// The truth with this word.
-fn truth_of_word(w: &[u8]) -> Option<bool>
-    ensures found { IfSome result (λ truth. w.now ≡ truth_word truth) }
-    ensures none { IfNone result ((truth : Bool) → w.now ≢ truth_word truth) }
-{
-    if is(w, "true") {
-        Some(true)
-    } else if is(w, "false") {
-        Some(false)
-    } else {
-        None
     }
 }
 

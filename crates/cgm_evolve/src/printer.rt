@@ -1,17 +1,11 @@
 //! The canonical text of an earlier realization.
 ghost use Rattle.std.specs.Prelude.{◌≡◌, ◌++◌, IfOk, OnOk};
-ghost use Rattle.cgm_evolve.specs.Line.{truth_word as word_of};
 ghost use Rattle.cgm_evolve.specs.Text.{canonical_text, pair_line};
 
 use crate::earlier::Earlier;
+use cgm_base::truth_word;
 use cgm_formula::{Name, OutOfMemory};
 use std::alloc::Global;
-
-fn truth_word(truth: bool) -> &'static [u8]
-    ensures { result.now ≡ word_of truth }
-{
-    if truth { b"true" } else { b"false" }
-}
 
 /// Writes the line of a pair.
 fn print_pair(out: &mut Vec<u8>, name: &[u8], truth: bool) -> Result<(), OutOfMemory>

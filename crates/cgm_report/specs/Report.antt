@@ -1,7 +1,7 @@
 -- The lines of a realization, and the reports that there is one or none.
 use Rattle.std.specs.Prelude.{ℕ, Bool, true, false, List, [], ◌∷◌, ◌++◌, codes, ℤ}
 use Rattle.std.specs.Fmt.{signed_decimal}
-use Rattle.cgm_base.specs.Printed.{line}
+use Rattle.cgm_base.specs.Printed.{line, truth_word}
 use Rattle.cgm_model.specs.declared.lists.Element.{Element}
 use Rattle.cgm_model.specs.declared.lists.ElementKind.{ElementKind}
 use Rattle.cgm_model.specs.declared.lists.ElementKind.TheVariants as kinds
@@ -15,10 +15,6 @@ use Rattle.cgm_model.specs.Sums.{sums_of}
 use Rattle.cgm_text.specs.Canonical.{quantity_name}
 use Rattle.cgm_evolve.specs.Pairs.{Pair}
 use Rattle.cgm_obj.specs.Vector.{quantity}
-
-abbrev pub truth_word : Bool → List ℕ
-truth_word true = codes "true"
-truth_word false = codes "false"
 
 abbrev pub element_word : ElementKind → List ℕ
 element_word kinds.Goal = codes "goal"

@@ -2,9 +2,10 @@
 ghost use Rattle.std.specs.Prelude.{◌≡◌, ◌++◌, length, OnOk, IfOk};
 ghost use Rattle.cgm_model.specs.Model.{lists_of};
 ghost use Rattle.cgm_text.specs.Canonical.{quantity_name, sum_name, variable_name};
-ghost use Rattle.cgm_report.specs.Report.{element_word, truth_word, objective_word, found_line, number_line, element_lines, refinement_lines, variable_lines, sum_lines};
+ghost use Rattle.cgm_report.specs.Report.{element_word, objective_word, found_line, number_line, element_lines, refinement_lines, variable_lines, sum_lines};
 ghost use Rattle.cgm_report.specs.Shown.{IsShowable, shown, shown_line, shown_lines, vector_lines};
 
+use cgm_base::truth_word;
 use cgm_encode::Found;
 use cgm_formula::OutOfMemory;
 use cgm_model::{
@@ -61,12 +62,6 @@ fn element_word(kind: ElementKind) -> &'static str
     }
 }
 
-fn truth_word(truth: bool) -> &'static str
-    ensures { result.now ≡ truth_word truth }
-{
-    if truth { "true" } else { "false" }
-}
-
 /// Adds the line of one found truth value.
 fn push_line(report: &mut Vec<u8>, word: &str, name: &[u8], truth: bool) -> Result<(), OutOfMemory>
     ensures { OnOk result (report.new.items ≡ report.old.items ++ found_line word.now name.now
@@ -76,7 +71,7 @@ fn push_line(report: &mut Vec<u8>, word: &str, name: &[u8], truth: bool) -> Resu
     report.extend_from_slice(b" ")?;
     report.extend_from_slice(name)?;
     report.extend_from_slice(b" ")?;
-    report.extend_from_slice(truth_word(truth).as_bytes())?;
+    report.extend_from_slice(truth_word(truth))?;
     report.extend_from_slice(b"\n")
 }
 

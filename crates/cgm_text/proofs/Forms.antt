@@ -1,5 +1,6 @@
 -- Statements: their tokens tell them, and which tokens are those of none.
 use Rattle.std.proofs.Common.{◌≡◌, ◌≢◌, ℕ, ℤ, Bool, true, false, List, [], ◌∷◌, ◌++◌, map, codes, get_or, bytes_eq, Option, None, Some, if◌then◌else◌, refl, ap, ◌∙◌, sym, arith}
+use Rattle.cgm_base.specs.Printed.{truth_word}
 use Rattle.cgm_lex.specs.Lexemes.{Lexeme, colon, number, word}
 use Rattle.cgm_text.specs.declared.written.ConditionWord.{ConditionWord}
 use Rattle.cgm_text.specs.declared.written.ConditionWord.TheVariants as condition_words
@@ -13,7 +14,7 @@ use Rattle.cgm_text.specs.declared.written.Sort.{Sort}
 use Rattle.cgm_text.specs.declared.written.Sort.TheVariants as sorts
 use Rattle.cgm_text.specs.declared.written.WeightWord.{WeightWord}
 use Rattle.cgm_text.specs.declared.written.WeightWord.TheVariants as weight_words
-use Rattle.cgm_text.specs.Statements.{WrittenStatement, goal, named, refinement, pair, assertion, variable, value, weight, condition, requirement, objective, sort_word, sort_of, must_tokens, truth_word, direction_word, body, statement_tokens, IsNoBody}
+use Rattle.cgm_text.specs.Statements.{WrittenStatement, goal, named, refinement, pair, assertion, variable, value, weight, condition, requirement, objective, sort_word, sort_of, must_tokens, direction_word, body, statement_tokens, IsNoBody}
 use Rattle.cgm_text.specs.Written.{WrittenFormula, spelled}
 use Rattle.cgm_text.proofs.Formulas.{once}
 

@@ -4,6 +4,7 @@ use Rattle.std.specs.List.{AllByRecursion}
 use Rattle.std.proofs.lemmas.List.Elements.{recursion_from_All}
 use Rattle.cgm_base.specs.declared.limit.Which.TheVariants as limits
 use Rattle.cgm_base.specs.Words.{limit_number}
+use Rattle.cgm_base.specs.Printed.{truth_word}
 use Rattle.cgm_formula.specs.declared.formula.Formula.{Formula}
 use Rattle.cgm_formula.specs.declared.formula.Number.{Number}
 use Rattle.cgm_formula.specs.declared.formula.Number.TheVariants as numbers_of
@@ -42,7 +43,7 @@ use Rattle.cgm_text.specs.Back.{ArePlain, IsThere, thing_name, Knows, Given, Bac
 use Rattle.cgm_text.specs.Canonical.{direction_of, element_name, number_name, quantity_name, refinement_name, sum_name, truth_name, written, written_element, written_formula, written_refinement, written_rule}
 use Rattle.cgm_text.specs.Line.{nests_too_deep}
 use Rattle.cgm_text.specs.Meaning.{element_named, element_of, is_max, number_named, quantity_named, quantity_of, refinement_named, refinement_of, sum_of, truth_named, formula_of, statement_of, condition_of, weight_of}
-use Rattle.cgm_text.specs.Statements.{built_in, condition, condition_word, direction_word, objective, pair, pair_word, requirement, truth_word, value, weight, weight_word}
+use Rattle.cgm_text.specs.Statements.{built_in, condition, condition_word, direction_word, objective, pair, pair_word, requirement, value, weight, weight_word}
 use Rattle.cgm_text.specs.Trees.{is_deeper}
 use Rattle.cgm_text.specs.Uses.{end_of, first_fault, formula_uses, quantity_uses, thing_fault, use_as}
 use Rattle.cgm_text.specs.Written.{spelled}

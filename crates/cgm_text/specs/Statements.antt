@@ -1,6 +1,7 @@
 -- Statements as they are written, and the tokens of each.
 use Rattle.std.specs.Prelude.{◌≡◌, ◌≢◌, ℕ, ℤ, Bool, true, false, if◌then◌else◌, List, [], ◌∷◌, codes, map, Option, None, Some}
 use Rattle.std.specs.Str.{bytes_eq}
+use Rattle.cgm_base.specs.Printed.{truth_word}
 use Rattle.cgm_lex.specs.Lexemes.{Lexeme, colon, number, word}
 use Rattle.cgm_model.specs.declared.lists.Quantity.{Quantity}
 use Rattle.cgm_model.specs.declared.lists.Quantity.TheVariants as quantities
@@ -93,10 +94,6 @@ sort_of (objective direction quantity) = sorts.Objective
 abbrev pub must_tokens : Bool → List Lexeme
 must_tokens true = word (codes "must") ∷ []
 must_tokens false = []
-
-abbrev pub truth_word : Bool → List ℕ
-truth_word true = codes "true"
-truth_word false = codes "false"
 
 abbrev pub direction_word : Direction → List ℕ
 direction_word directions.Min = codes "min"

@@ -1,5 +1,5 @@
 //! The words of statements, connectives and quantities.
-ghost use Rattle.std.specs.Prelude.{◌≡◌, ◌≢◌, Bool, IfSome, IfNone};
+ghost use Rattle.std.specs.Prelude.{◌≡◌, ◌≢◌, IfSome, IfNone};
 ghost use Rattle.std.specs.Str.{bytes_eq};
 ghost use Rattle.cgm_text.specs.declared.written.ConditionWord.{ConditionWord};
 ghost use Rattle.cgm_text.specs.declared.written.Connective.{Connective};
@@ -8,14 +8,14 @@ ghost use Rattle.cgm_text.specs.declared.written.NameWord.{NameWord};
 ghost use Rattle.cgm_text.specs.declared.written.PairWord.{PairWord};
 ghost use Rattle.cgm_text.specs.declared.written.Sort.{Sort};
 ghost use Rattle.cgm_text.specs.declared.written.WeightWord.{WeightWord};
-ghost use Rattle.cgm_text.specs.Statements.{IsNoSingle, built_in, condition_word, direction_word, name_word, pair_word, sort_word, truth_word, weight_word};
+ghost use Rattle.cgm_text.specs.Statements.{IsNoSingle, built_in, condition_word, direction_word, name_word, pair_word, sort_word, weight_word};
 ghost use Rattle.cgm_text.specs.Written.{connective_word};
 
-use crate::word::is;
 use crate::written::{
     Comparison, ConditionWord, Connective, Direction, Joint, NameWord, PairWord, Pairing, Sort,
     WeightWord,
 };
+use cgm_base::is_word;
 use cgm_model::Quantity;
 
 /// The connective with this word.
@@ -23,21 +23,21 @@ pub(crate) fn connective_of(word: &[u8]) -> Option<Connective>
     ensures found { IfSome result (λ c. word.now ≡ connective_word c) }
     ensures none { IfNone result ((c : Connective) → word.now ≢ connective_word c) }
 {
-    if is(word, "and") {
+    if is_word(word, "and") {
         Some(Connective::Join(Joint::And))
-    } else if is(word, "or") {
+    } else if is_word(word, "or") {
         Some(Connective::Join(Joint::Or))
-    } else if is(word, "not") {
+    } else if is_word(word, "not") {
         Some(Connective::Not)
-    } else if is(word, "=>") {
+    } else if is_word(word, "=>") {
         Some(Connective::Pair(Pairing::Implies))
-    } else if is(word, "iff") {
+    } else if is_word(word, "iff") {
         Some(Connective::Pair(Pairing::Iff))
-    } else if is(word, "<=") {
+    } else if is_word(word, "<=") {
         Some(Connective::Compare(Comparison::AtMost))
-    } else if is(word, ">=") {
+    } else if is_word(word, ">=") {
         Some(Connective::Compare(Comparison::AtLeast))
-    } else if is(word, "=") {
+    } else if is_word(word, "=") {
         Some(Connective::Compare(Comparison::Equal))
     } else {
         None
@@ -48,13 +48,13 @@ fn name_word_of(word: &[u8]) -> Option<NameWord>
     ensures found { IfSome result (λ w. word.now ≡ name_word w) }
     ensures none { IfNone result ((w : NameWord) → word.now ≢ name_word w) }
 {
-    if is(word, "task") {
+    if is_word(word, "task") {
         Some(NameWord::Task)
-    } else if is(word, "assume") {
+    } else if is_word(word, "assume") {
         Some(NameWord::Assume)
-    } else if is(word, "sum") {
+    } else if is_word(word, "sum") {
         Some(NameWord::Sum)
-    } else if is(word, "interest") {
+    } else if is_word(word, "interest") {
         Some(NameWord::Interest)
     } else {
         None
@@ -65,13 +65,13 @@ fn pair_word_of(word: &[u8]) -> Option<PairWord>
     ensures found { IfSome result (λ w. word.now ≡ pair_word w) }
     ensures none { IfNone result ((w : PairWord) → word.now ≢ pair_word w) }
 {
-    if is(word, "contrib") {
+    if is_word(word, "contrib") {
         Some(PairWord::Contrib)
-    } else if is(word, "conflict") {
+    } else if is_word(word, "conflict") {
         Some(PairWord::Conflict)
-    } else if is(word, "bind") {
+    } else if is_word(word, "bind") {
         Some(PairWord::Bind)
-    } else if is(word, "prefer") {
+    } else if is_word(word, "prefer") {
         Some(PairWord::Prefer)
     } else {
         None
@@ -82,9 +82,9 @@ fn weight_word_of(word: &[u8]) -> Option<WeightWord>
     ensures found { IfSome result (λ w. word.now ≡ weight_word w) }
     ensures none { IfNone result ((w : WeightWord) → word.now ≢ weight_word w) }
 {
-    if is(word, "reward") {
+    if is_word(word, "reward") {
         Some(WeightWord::Reward)
-    } else if is(word, "penalty") {
+    } else if is_word(word, "penalty") {
         Some(WeightWord::Penalty)
     } else {
         None
@@ -95,9 +95,9 @@ fn condition_word_of(word: &[u8]) -> Option<ConditionWord>
     ensures found { IfSome result (λ w. word.now ≡ condition_word w) }
     ensures none { IfNone result ((w : ConditionWord) → word.now ≢ condition_word w) }
 {
-    if is(word, "pre+") {
+    if is_word(word, "pre+") {
         Some(ConditionWord::Positive)
-    } else if is(word, "pre-") {
+    } else if is_word(word, "pre-") {
         Some(ConditionWord::Negative)
     } else {
         None
@@ -109,19 +109,19 @@ fn single_sort_of(word: &[u8]) -> Option<Sort>
     ensures found { IfSome result (λ sort. word.now ≡ sort_word sort) }
     ensures none { IfNone result (IsNoSingle word.now) }
 {
-    if is(word, "goal") {
+    if is_word(word, "goal") {
         Some(Sort::Goal)
-    } else if is(word, "refine") {
+    } else if is_word(word, "refine") {
         Some(Sort::Refine)
-    } else if is(word, "assert") {
+    } else if is_word(word, "assert") {
         Some(Sort::Assert)
-    } else if is(word, "var") {
+    } else if is_word(word, "var") {
         Some(Sort::Var)
-    } else if is(word, "value") {
+    } else if is_word(word, "value") {
         Some(Sort::Value)
-    } else if is(word, "require") {
+    } else if is_word(word, "require") {
         Some(Sort::Require)
-    } else if is(word, "objective") {
+    } else if is_word(word, "objective") {
         Some(Sort::Objective)
     } else {
         None
@@ -151,28 +151,14 @@ pub(crate) fn sort_of_word(word: &[u8]) -> Option<Sort>
     }
 }
 
-/// The truth value with this word.
-pub(crate) fn truth_of_word(word: &[u8]) -> Option<bool>
-    ensures found { IfSome result (λ truth. word.now ≡ truth_word truth) }
-    ensures none { IfNone result ((truth : Bool) → word.now ≢ truth_word truth) }
-{
-    if is(word, "true") {
-        Some(true)
-    } else if is(word, "false") {
-        Some(false)
-    } else {
-        None
-    }
-}
-
 /// The direction with this word.
 pub(crate) fn direction_of_word(word: &[u8]) -> Option<Direction>
     ensures found { IfSome result (λ direction. word.now ≡ direction_word direction) }
     ensures none { IfNone result ((direction : Direction) → word.now ≢ direction_word direction) }
 {
-    if is(word, "min") {
+    if is_word(word, "min") {
         Some(Direction::Min)
-    } else if is(word, "max") {
+    } else if is_word(word, "max") {
         Some(Direction::Max)
     } else {
         None

@@ -5,13 +5,14 @@ ghost use Rattle.cgm_model.specs.Model.{lists_of};
 ghost use Rattle.cgm_model.specs.declared.lists.Statement.TheVariants as Statement;
 ghost use Rattle.cgm_text.specs.Canonical.{direction_of, element_name as name_of_element, quantity_name as name_of_quantity, truth_name as name_of_truth, written, written_element, written_formula, written_rule};
 ghost use Rattle.cgm_text.specs.Printing.{Begins, IsLine, Writes, words_before};
-ghost use Rattle.cgm_text.specs.Statements.{direction_word as word_of_direction, goal, statement_tokens, truth_word as word_of_truth};
+ghost use Rattle.cgm_text.specs.Statements.{direction_word as word_of_direction, goal, statement_tokens};
 ghost use Rattle.cgm_text.specs.Written.{spelled};
 
 use crate::formula_printer::{
     element_name, formula, refinement_name, sum_name, truth_name, variable_name,
 };
 use crate::printer::Printer;
+use cgm_base::truth_word;
 use cgm_model::{
     Assertion, Edge, Element, ElementKind, Formula, Model, Objective, Preference, Quantity,
     Refinement, Rule, Sum, SumValue, Truth, Variable, Weighing,
@@ -123,12 +124,6 @@ pub(crate) fn binding(p: &mut Printer, m: &Model, e: &Edge) -> Result<(), OutOfM
         refinement_name(m, e.to),
     )?;
     Ok(())
-}
-
-fn truth_word(truth: bool) -> &'static [u8]
-    ensures { result.now ≡ word_of_truth truth }
-{
-    if truth { b"true" } else { b"false" }
 }
 
 pub(crate) fn assertion(p: &mut Printer, m: &Model, a: &Assertion) -> Result<(), OutOfMemory>

@@ -3,8 +3,8 @@ ghost use Rattle.std.specs.Prelude.{◌≡◌, ◌≢◌, ℕ, ℤ, ◌<◌, Lis
 ghost use Rattle.cgm_lex.specs.Lexemes.{Lexeme, opening, closing, colon, number, word};
 ghost use Rattle.cgm_text.specs.Trees.{seen_all, word_in};
 
-use crate::word::is;
 use crate::written::Word;
+use cgm_base::is_word;
 use cgm_lex::{Kind, Token};
 
 /// Takes a word off.
@@ -106,7 +106,7 @@ pub(crate) fn take_exact<'t>(line: &[u8], tokens: &'t [Token], text: &str) -> Op
     match take_word(tokens) {
         None => None,
         Some((w, rest)) => {
-            if is(bytes_in(line, w), text) {
+            if is_word(bytes_in(line, w), text) {
                 Some(rest)
             } else {
                 None

@@ -1,8 +1,8 @@
 use Rattle.std.proofs.Common.{codes, []}
+use Rattle.cgm_base.specs.Printed.{truth_word}
 use Rattle.cgm_model.specs.Model.{lists_of}
 use Rattle.cgm_text.specs.Canonical.{element_name}
 use Rattle.cgm_text.specs.Printing.{followed}
-use Rattle.cgm_text.specs.Statements.{truth_word}
 use Rattle.cgm_text.proofs.Spaces.{two_names}
 use Rattle.cgm_text.proofs.statement_printer.assertion.Goals as goal
 

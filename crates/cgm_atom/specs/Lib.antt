@@ -1,5 +1,6 @@
 pub mod Acceptance
 pub mod Adding
+pub mod AtomWords
 pub mod Atoms
 pub mod Bounds
 pub mod Building

@@ -15,8 +15,9 @@ use Rattle.cgm_atom.specs.declared.entries.Hint.{Hint}
 use Rattle.cgm_atom.specs.declared.entries.Hint.TheVariants as hint
 use Rattle.cgm_atom.specs.Limits.{IsBound}
 use Rattle.cgm_atom.specs.Ranges.{IsAtomInRange, IsHintInRange, IsPlaced, IsPrintable}
+use Rattle.cgm_atom.specs.AtomWords.{atom_word, spaced}
 use Rattle.cgm_cert.specs.Printable.{IsHintPrintable}
-use Rattle.cgm_cert.specs.Spelling.{atom_word, hint_word, entry_words, entry_line, words, spaced}
+use Rattle.cgm_cert.specs.Spelling.{hint_word, entry_words, entry_line, words}
 use Rattle.cgm_cert.specs.Fault.{IsLineOf, AreReadAs}
 use Rattle.cgm_cert.proofs.WordLemmas.{IsFree, sign, atom_parts}
 

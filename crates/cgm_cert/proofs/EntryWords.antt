@@ -4,8 +4,9 @@ use Rattle.cgm_atom.specs.declared.constraints.Atom.{Atom}
 use Rattle.cgm_atom.specs.declared.entries.Entry.TheVariants.{Best, Lemma}
 use Rattle.cgm_atom.specs.declared.entries.Hint.{Hint}
 use Rattle.cgm_atom.specs.Ranges.{IsAtomInRange}
+use Rattle.cgm_atom.specs.AtomWords.{atom_word}
 use Rattle.cgm_cert.specs.Printable.{IsHintPrintable}
-use Rattle.cgm_cert.specs.Spelling.{atom_word, hint_word}
+use Rattle.cgm_cert.specs.Spelling.{hint_word}
 use Rattle.cgm_cert.specs.Fault.{AreReadAs}
 use Rattle.cgm_cert.proofs.EntryLines.{hints_are_printable}
 use Rattle.cgm_cert.proofs.Rows.{marked}

@@ -4,7 +4,8 @@ use Rattle.std.specs.Fmt.{signed_decimal}
 use Rattle.cgm_atom.specs.declared.constraints.Clause.{Clause}
 use Rattle.cgm_atom.specs.declared.entries.Entry.TheVariants.{Best, Lemma}
 use Rattle.cgm_atom.specs.declared.entries.Hint.{Hint}
-use Rattle.cgm_cert.specs.Spelling.{atom_word, hint_word, entry_line, spaced}
+use Rattle.cgm_atom.specs.AtomWords.{atom_word, spaced}
+use Rattle.cgm_cert.specs.Spelling.{hint_word, entry_line}
 use Rattle.cgm_cert.proofs.EntryLines.{join_is, spaced_append}
 
 pub on_ok : {X E : Type 0} {P Q : Type 0} (r : Result X E) → (P → Q) → OnOk r P → OnOk r Q

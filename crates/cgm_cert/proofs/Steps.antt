@@ -3,9 +3,10 @@ use Rattle.std.proofs.Common.{◌≡◌, ◌≢◌, ℕ, ◌+◌, ◌<◌, eqb, 
 use Rattle.std.proofs.lemmas.List.{append-nil, take_more, map_push}
 use Rattle.std.proofs.lemmas.List.Splits.{length-slice_split}
 use Rattle.cgm_atom.specs.declared.entries.Entry.{Entry}
+use Rattle.cgm_atom.specs.AtomWords.{spaced}
 use Rattle.cgm_cert.specs.declared.stop.CertKind.{CertKind}
 use Rattle.cgm_cert.specs.declared.stop.CertKind.TheVariants as kinds
-use Rattle.cgm_cert.specs.Spelling.{entry_line, lines_of, lines, spaced}
+use Rattle.cgm_cert.specs.Spelling.{entry_line, lines_of, lines}
 use Rattle.cgm_cert.specs.Fault.{IsLineOf, FailsAt}
 use Rattle.cgm_cert.proofs.EntryLines.{spaced_append}
 

@@ -12,8 +12,9 @@ use Rattle.cgm_atom.specs.declared.entries.Hint.{Hint}
 use Rattle.cgm_atom.specs.declared.entries.Hint.TheVariants as hint
 use Rattle.cgm_atom.specs.Limits.{IsBound}
 use Rattle.cgm_atom.specs.Ranges.{IsAtomInRange, IsPrintable}
+use Rattle.cgm_atom.specs.AtomWords.{atom_word}
 use Rattle.cgm_cert.specs.Printable.{IsHintPrintable}
-use Rattle.cgm_cert.specs.Spelling.{atom_word, hint_word, entry_words}
+use Rattle.cgm_cert.specs.Spelling.{hint_word, entry_words}
 use Rattle.cgm_cert.proofs.WordLemmas.{small_mag, sign, atom_is, atom_parts, atom_left_free, atom_is_no_mark, last_is, cut_is, dot_free}
 use Rattle.cgm_cert.proofs.EntryLines.{hints_are_printable}
 use Rattle.cgm_cert.proofs.Rows.{marked}

@@ -12,8 +12,9 @@ use Rattle.cgm_atom.specs.declared.constraints.Atom.{Atom}
 use Rattle.cgm_atom.specs.declared.entries.Hint.{Hint}
 use Rattle.cgm_atom.specs.declared.entries.Hint.TheVariants as hint
 use Rattle.cgm_atom.specs.Ranges.{IsAtomInRange}
+use Rattle.cgm_atom.specs.AtomWords.{relation, atom_word}
 use Rattle.cgm_cert.specs.Printable.{IsHintPrintable}
-use Rattle.cgm_cert.specs.Spelling.{relation, atom_word, hint_word}
+use Rattle.cgm_cert.specs.Spelling.{hint_word}
 
 pub small_mag : (z : ℤ) → unsigned_abs z < 2 ^ 63 → mag z < 2 ^ 63
 small_mag (pos n) small = small

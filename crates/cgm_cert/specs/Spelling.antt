@@ -1,20 +1,12 @@
 -- The one spelling of an entry, and the text of a list of entries.
-use Rattle.std.specs.Prelude.{ℕ, ◌==◌, Bool, true, false, List, [], ◌∷◌, ◌++◌, map, drop, codes, decimal}
+use Rattle.std.specs.Prelude.{ℕ, ◌==◌, List, [], ◌∷◌, ◌++◌, map, drop, codes, decimal}
 use Rattle.std.specs.Fmt.{signed_decimal}
 use Rattle.std.specs.List.{slice_split, join_with_byte}
-use Rattle.cgm_atom.specs.declared.constraints.Atom.{Atom}
 use Rattle.cgm_atom.specs.declared.entries.Entry.{Entry}
 use Rattle.cgm_atom.specs.declared.entries.Entry.TheVariants.{Best, Lemma}
 use Rattle.cgm_atom.specs.declared.entries.Hint.{Hint}
 use Rattle.cgm_atom.specs.declared.entries.Hint.TheVariants as hint
-
-abbrev pub relation : Bool → List ℕ
-relation true = codes ">="
-relation false = codes "<="
-
--- as `3>=-7`
-abbrev pub atom_word : Atom → List ℕ
-atom_word a = decimal a.var.0 ++ (relation a.at_least ++ signed_decimal a.k)
+use Rattle.cgm_atom.specs.AtomWords.{atom_word}
 
 -- as `c3`, `r0`, `e12` or `b2.0`; a lemma that has no place yet has no spelling
 abbrev pub hint_word : Hint → List ℕ
@@ -57,8 +49,3 @@ words line = slice_split (λ byte. byte == 32) line
 -- the words after the first one
 abbrev pub further_words : List ℕ → List (List ℕ)
 further_words line = drop 1 (words line)
-
--- the words, each after a space
-abbrev pub spaced : List (List ℕ) → List ℕ
-spaced [] = []
-spaced (word ∷ more) = 32 ∷ (word ++ spaced more)

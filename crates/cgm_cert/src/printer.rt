@@ -3,8 +3,9 @@ ghost use Rattle.std.specs.Prelude.{◌≡◌, ◌++◌, map, IfOk, OnOk};
 ghost use Rattle.std.specs.Fmt.{signed_decimal};
 ghost use Rattle.std.specs.List.{All};
 ghost use Rattle.cgm_atom.specs.Ranges.{IsPrintable};
+ghost use Rattle.cgm_atom.specs.AtomWords.{atom_word, spaced};
 ghost use Rattle.cgm_cert.specs.Fault.{IsTextOf};
-ghost use Rattle.cgm_cert.specs.Spelling.{atom_word, hint_word, spaced, entry_line};
+ghost use Rattle.cgm_cert.specs.Spelling.{hint_word, entry_line};
 
 use crate::numbers::{push_number, push_value};
 use crate::words::{push_atom, push_hint};

@@ -6,8 +6,9 @@ ghost use Rattle.cgm_atom.specs.Limits.{IsBound};
 ghost use Rattle.cgm_atom.specs.declared.constraints.Atom.{Atom};
 ghost use Rattle.cgm_atom.specs.declared.entries.Hint.{Hint};
 ghost use Rattle.cgm_atom.specs.Ranges.{IsAtomInRange};
+ghost use Rattle.cgm_atom.specs.AtomWords.{atom_word};
 ghost use Rattle.cgm_cert.specs.Printable.{IsHintPrintable};
-ghost use Rattle.cgm_cert.specs.Spelling.{atom_word, hint_word, further_words};
+ghost use Rattle.cgm_cert.specs.Spelling.{hint_word, further_words};
 
 use crate::cuts::{is, next_word};
 use crate::words::{atom_of, hint_of, value_of};

@@ -5,8 +5,9 @@ ghost use Rattle.cgm_atom.specs.Limits.{IsBound};
 ghost use Rattle.cgm_atom.specs.declared.constraints.Atom.{Atom};
 ghost use Rattle.cgm_atom.specs.declared.entries.Hint.{Hint};
 ghost use Rattle.cgm_atom.specs.Ranges.{IsAtomInRange};
+ghost use Rattle.cgm_atom.specs.AtomWords.{atom_word};
 ghost use Rattle.cgm_cert.specs.Printable.{IsHintPrintable};
-ghost use Rattle.cgm_cert.specs.Spelling.{atom_word, hint_word};
+ghost use Rattle.cgm_cert.specs.Spelling.{hint_word};
 
 use crate::cuts::cut;
 use crate::numbers::{number_of, number_within, push_number, push_value, value_within};

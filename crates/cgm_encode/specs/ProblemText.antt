@@ -1,5 +1,5 @@
 -- The text of a problem: a header, then a line for each variable, clause, row and objective, each by number.
-use Rattle.std.specs.Prelude.{ℕ, Bool, true, false, List, [], ◌∷◌, ◌++◌, length, map, flat_map, codes, decimal, ℤ, Option, None, Some}
+use Rattle.std.specs.Prelude.{ℕ, List, [], ◌∷◌, ◌++◌, length, map, flat_map, codes, decimal, ℤ, Option, None, Some}
 use Rattle.std.specs.Fmt.{signed_decimal}
 use Rattle.std.specs.List.{enumerate_from, range_with_len}
 use Rattle.cgm_atom.specs.declared.constraints.Atom.{Atom}
@@ -8,16 +8,9 @@ use Rattle.cgm_atom.specs.declared.constraints.Row.{Row}
 use Rattle.cgm_atom.specs.declared.constraints.Var.{Var}
 use Rattle.cgm_atom.specs.Bounds.{Bounds, lower_of, upper_of}
 use Rattle.cgm_atom.specs.Instance.{Instance, var_count}
+use Rattle.cgm_atom.specs.AtomWords.{atom_word, spaced}
 
 -- ---- words
-
-abbrev pub relation : Bool → List ℕ
-relation true = codes ">="
-relation false = codes "<="
-
--- as `3>=-7`
-abbrev pub atom_word : Atom → List ℕ
-atom_word a = decimal a.var.0 ++ (relation a.at_least ++ signed_decimal a.k)
 
 -- the guard's atom, or `-` where there is none
 abbrev pub guard_word : Option Atom → List ℕ
@@ -29,11 +22,6 @@ abbrev pub term_word : ℤ × Var → List ℕ
 term_word t = signed_decimal t.0 ++ (codes "*" ++ decimal t.1.0)
 
 -- ---- lines
-
--- the words, each after a space
-abbrev pub spaced : List (List ℕ) → List ℕ
-spaced [] = []
-spaced (word ∷ words) = 32 ∷ (word ++ spaced words)
 
 -- the words with one space between each two, and a line feed
 abbrev pub line : List ℕ → List (List ℕ) → List ℕ

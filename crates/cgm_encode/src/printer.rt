@@ -2,7 +2,8 @@
 ghost use Rattle.std.specs.Prelude.{◌≡◌, ◌<◌, ◌++◌, ◌∷◌, length, map, flat_map, IfOk, OnOk};
 ghost use Rattle.std.specs.List.{enumerate_from, range_with_len};
 ghost use Rattle.cgm_atom.specs.Instance.{var_count};
-ghost use Rattle.cgm_encode.specs.ProblemText.{atom_word, clause_line, clause_lines as lines_of_clauses, objective_line, problem_text, range_line, row_line, row_lines as lines_of_rows, spaced, term_word, var_line, var_lines as lines_of_variables};
+ghost use Rattle.cgm_atom.specs.AtomWords.{atom_word, spaced};
+ghost use Rattle.cgm_encode.specs.ProblemText.{clause_line, clause_lines as lines_of_clauses, objective_line, problem_text, range_line, row_line, row_lines as lines_of_rows, term_word, var_line, var_lines as lines_of_variables};
 
 use crate::words::{push_atom, push_guard, push_number, push_term, push_value};
 use cgm_atom::{Atom, Clause, OutOfMemory, Problem, Row, Var};

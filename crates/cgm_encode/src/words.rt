@@ -1,7 +1,8 @@
 //! The words of a problem's text, each after a space.
 ghost use Rattle.std.specs.Prelude.{◌≡◌, ◌++◌, ◌∷◌, decimal, OnOk};
 ghost use Rattle.std.specs.Fmt.{signed_decimal};
-ghost use Rattle.cgm_encode.specs.ProblemText.{atom_word, guard_word, term_word};
+ghost use Rattle.cgm_atom.specs.AtomWords.{atom_word};
+ghost use Rattle.cgm_encode.specs.ProblemText.{guard_word, term_word};
 
 use cgm_atom::{Atom, OutOfMemory, Var};
 use itoa::Buffer;

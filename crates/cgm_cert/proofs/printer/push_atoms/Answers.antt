@@ -1,4 +1,4 @@
-use Rattle.cgm_cert.specs.Spelling.{atom_word}
+use Rattle.cgm_atom.specs.AtomWords.{atom_word}
 use Rattle.cgm_cert.proofs.Steps.{word_added}
 use Rattle.cgm_cert.proofs.printer.push_atoms.Goals as goal
 

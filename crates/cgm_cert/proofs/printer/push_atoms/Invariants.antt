@@ -1,5 +1,5 @@
 use Rattle.std.proofs.Common.{◌≡◌, ◌++◌, map, take}
-use Rattle.cgm_cert.specs.Spelling.{atom_word, spaced}
+use Rattle.cgm_atom.specs.AtomWords.{atom_word, spaced}
 use Rattle.cgm_cert.proofs.printer.push_atoms.Given as goal
 
 abbrev pub invariant-loop-atom : goal.invariant-loop-atom

@@ -1,6 +1,7 @@
 use Rattle.std.proofs.Common.{sym, ap, ◌∙◌, ◌++◌, map}
 use Rattle.std.specs.Fmt.{signed_decimal}
-use Rattle.cgm_cert.specs.Spelling.{entry_line, atom_word, hint_word, spaced}
+use Rattle.cgm_atom.specs.AtomWords.{atom_word, spaced}
+use Rattle.cgm_cert.specs.Spelling.{entry_line, hint_word}
 use Rattle.cgm_cert.proofs.Printed.{on_ok, best_printed, lemma_printed}
 use Rattle.cgm_cert.proofs.printer.push_entry.Goals as goal
 

@@ -1,7 +1,8 @@
 use Rattle.std.proofs.Common.{sym, ◌∙◌, ap, map, ◌++◌, inl, inr, codes}
 use Rattle.std.proofs.lemmas.List.{append-nil}
 use Rattle.cgm_atom.specs.Ranges.{IsAtomInRange}
-use Rattle.cgm_cert.specs.Spelling.{atom_word, further_words}
+use Rattle.cgm_atom.specs.AtomWords.{atom_word}
+use Rattle.cgm_cert.specs.Spelling.{further_words}
 use Rattle.cgm_cert.proofs.Rows.{stray_or_mark, unmarked}
 use Rattle.cgm_cert.proofs.WordLemmas.{atom_is_no_mark}
 use Rattle.cgm_cert.proofs.word_lists.atoms_of.Goals as goal

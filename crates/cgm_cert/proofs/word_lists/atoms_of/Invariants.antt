@@ -1,6 +1,7 @@
 use Rattle.std.proofs.Common.{◌≡◌, ◌++◌, length, map, All}
 use Rattle.cgm_atom.specs.Ranges.{IsAtomInRange}
-use Rattle.cgm_cert.specs.Spelling.{atom_word, further_words}
+use Rattle.cgm_atom.specs.AtomWords.{atom_word}
+use Rattle.cgm_cert.specs.Spelling.{further_words}
 use Rattle.cgm_cert.proofs.word_lists.atoms_of.Given as goal
 
 abbrev pub invariant-loop-word : goal.invariant-loop-word

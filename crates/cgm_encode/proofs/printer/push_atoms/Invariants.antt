@@ -1,5 +1,5 @@
 use Rattle.std.proofs.Common.{◌≡◌, ◌++◌, drop, map}
-use Rattle.cgm_encode.specs.ProblemText.{atom_word, spaced}
+use Rattle.cgm_atom.specs.AtomWords.{atom_word, spaced}
 use Rattle.cgm_encode.proofs.printer.push_atoms.Given as goal
 
 abbrev pub invariant-loop-a : goal.invariant-loop-a

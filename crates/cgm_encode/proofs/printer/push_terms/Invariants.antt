@@ -1,5 +1,6 @@
 use Rattle.std.proofs.Common.{◌≡◌, ◌++◌, drop, map}
-use Rattle.cgm_encode.specs.ProblemText.{spaced, term_word}
+use Rattle.cgm_atom.specs.AtomWords.{spaced}
+use Rattle.cgm_encode.specs.ProblemText.{term_word}
 use Rattle.cgm_encode.proofs.printer.push_terms.Given as goal
 
 abbrev pub invariant-loop-term : goal.invariant-loop-term

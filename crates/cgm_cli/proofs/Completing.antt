@@ -7,7 +7,7 @@ use Rattle.cgm_shelf.specs.Faults.{Rose}
 use Rattle.cgm_shelf.specs.Shelf.{Files, ShelfState}
 use Rattle.cgm_shelf.specs.Sink.{SinkState}
 use Rattle.cgm_model.specs.declared.lists.Lists.{Lists}
-use Rattle.cgm_text.specs.Canonical.{canonical_text}
+use Rattle.cgm_print.specs.Canonical.{canonical_text}
 use Rattle.cgm_evolve.specs.Pairs.{Pair}
 use Rattle.cgm_atom.specs.declared.entries.Entry.{Entry}
 use Rattle.cgm_encode.specs.Problem.{problem_of}

@@ -6,7 +6,7 @@ use Rattle.cgm_shelf.specs.Shelf.{Files, ShelfState}
 use Rattle.cgm_shelf.specs.Sink.{SinkState}
 use Rattle.cgm_model.specs.declared.lists.Lists.{Lists}
 use Rattle.cgm_evolve.specs.Pairs.{Pair}
-use Rattle.cgm_text.specs.Canonical.{canonical_text}
+use Rattle.cgm_print.specs.Canonical.{canonical_text}
 use Rattle.cgm_trail.specs.TrailState.{TrailState}
 use Rattle.cgm_encode.specs.Problem.{problem_of}
 use Rattle.cgm_encode.specs.ProblemText.{problem_text}

@@ -6,7 +6,7 @@ use Rattle.cgm_formula.specs.declared.assignment.Assignment.{Assignment}
 use Rattle.cgm_model.specs.declared.lists.Lists.{Lists}
 use Rattle.cgm_model.specs.declared.lists.Objective.{Objective}
 use Rattle.cgm_model.specs.Sums.{sum_value, sums_of}
-use Rattle.cgm_text.specs.Canonical.{quantity_name}
+use Rattle.cgm_print.specs.Canonical.{quantity_name}
 use Rattle.cgm_evolve.specs.Pairs.{Pair}
 use Rattle.cgm_obj.specs.Vector.{objective_number, quantity, vector_of}
 use Rattle.cgm_report.specs.Report.{number_line, objective_lines, objective_word}

@@ -12,7 +12,7 @@ use Rattle.cgm_model.specs.declared.lists.Objective.{Objective}
 use Rattle.cgm_model.specs.declared.lists.Sum.{Sum}
 use Rattle.cgm_model.specs.declared.lists.Variable.{Variable}
 use Rattle.cgm_model.specs.Sums.{sums_of}
-use Rattle.cgm_text.specs.Canonical.{quantity_name}
+use Rattle.cgm_print.specs.Canonical.{quantity_name}
 use Rattle.cgm_evolve.specs.Pairs.{Pair}
 use Rattle.cgm_obj.specs.Vector.{quantity}
 

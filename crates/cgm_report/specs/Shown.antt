@@ -5,7 +5,7 @@ use Rattle.cgm_model.specs.declared.lists.Lists.{Lists}
 use Rattle.cgm_model.specs.declared.lists.Objective.{Objective}
 use Rattle.cgm_model.specs.Assignment.{Fits}
 use Rattle.cgm_model.specs.Sums.{sums_of}
-use Rattle.cgm_text.specs.Canonical.{quantity_name}
+use Rattle.cgm_print.specs.Canonical.{quantity_name}
 use Rattle.cgm_encode.specs.declared.answer.Found.{Found}
 use Rattle.cgm_report.specs.Report.{number_line, objective_word, element_lines, refinement_lines, variable_lines, sum_lines}
 

@@ -1,7 +1,7 @@
 //! The lines of a found realization.
 ghost use Rattle.std.specs.Prelude.{◌≡◌, ◌++◌, length, OnOk, IfOk};
 ghost use Rattle.cgm_model.specs.Model.{lists_of};
-ghost use Rattle.cgm_text.specs.Canonical.{quantity_name, sum_name, variable_name};
+ghost use Rattle.cgm_print.specs.Canonical.{quantity_name, sum_name, variable_name};
 ghost use Rattle.cgm_report.specs.Report.{element_word, objective_word, found_line, number_line, element_lines, refinement_lines, variable_lines, sum_lines};
 ghost use Rattle.cgm_report.specs.Shown.{IsShowable, shown, shown_line, shown_lines, vector_lines};
 

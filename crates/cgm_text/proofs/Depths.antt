@@ -9,15 +9,15 @@ use Rattle.cgm_formula.specs.Nodes.{depth, depth_step, greatest, linear_depth, t
 use Rattle.cgm_formula.proofs.Folds.{fold-Name, fold-Not, fold-And, fold-Or, fold-Implies, fold-Iff, fold-AtMost, fold-AtLeast, fold-Equal}
 use Rattle.cgm_lex.specs.Lexemes.{Lexeme, opening, closing, number, word}
 use Rattle.cgm_model.specs.declared.lists.Lists.{Lists}
-use Rattle.cgm_text.specs.declared.written.Comparison.{Comparison}
-use Rattle.cgm_text.specs.declared.written.Comparison.TheVariants as comparisons
-use Rattle.cgm_text.specs.declared.written.Joint.{Joint}
-use Rattle.cgm_text.specs.declared.written.Joint.TheVariants as joints
-use Rattle.cgm_text.specs.declared.written.Pairing.{Pairing}
-use Rattle.cgm_text.specs.declared.written.Pairing.TheVariants as pairings
+use Rattle.cgm_print.specs.declared.words.Comparison.{Comparison}
+use Rattle.cgm_print.specs.declared.words.Comparison.TheVariants as comparisons
+use Rattle.cgm_print.specs.declared.words.Joint.{Joint}
+use Rattle.cgm_print.specs.declared.words.Joint.TheVariants as joints
+use Rattle.cgm_print.specs.declared.words.Pairing.{Pairing}
+use Rattle.cgm_print.specs.declared.words.Pairing.TheVariants as pairings
 use Rattle.cgm_text.specs.Meaning.{term_of, linear_of, formula_of, each_formula_of, joined_as, paired_as, compared_as, truth_named, number_named}
 use Rattle.cgm_text.specs.Trees.{count_after, is_deeper}
-use Rattle.cgm_text.specs.Written.{WrittenTerm, plain, scaled, WrittenLinear, single, total, WrittenFormula, name, negation, joined, paired, compared, WrittenFormulas, no_formulas, more_formulas, joint_word, pairing_word, comparison_word, spelled_term, spelled_terms, spelled_linear, spelled, spelled_each}
+use Rattle.cgm_print.specs.Written.{WrittenTerm, plain, scaled, WrittenLinear, single, total, WrittenFormula, name, negation, joined, paired, compared, WrittenFormulas, no_formulas, more_formulas, joint_word, pairing_word, comparison_word, spelled_term, spelled_terms, spelled_linear, spelled, spelled_each}
 
 -- depths of formulas
 

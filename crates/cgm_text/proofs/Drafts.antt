@@ -22,9 +22,10 @@ use Rattle.cgm_model.specs.declared.stop.AddStop.TheVariants as add_stops
 use Rattle.cgm_model.specs.Lists.{no_lists, added}
 use Rattle.cgm_model.specs.Model.{lists_of}
 use Rattle.cgm_model.specs.Statement.{IsNotAdded}
+use Rattle.cgm_print.specs.Statements.{header_tokens}
 use Rattle.cgm_text.specs.declared.draft.ModelDraft.{ModelDraft}
 use Rattle.cgm_text.specs.declared.reader.Reading.{Reading}
-use Rattle.cgm_text.specs.Line.{Verdict, nothing, header, says, faulty, header_tokens, written, IsFormJudged, IsNamedJudged, IsJudged, AreFirst, AreJudged, AreShallowJudged, AreLexemesJudged, ComesTo, nests_too_deep}
+use Rattle.cgm_text.specs.Line.{Verdict, nothing, header, says, faulty, written, IsFormJudged, IsNamedJudged, IsJudged, AreFirst, AreJudged, AreShallowJudged, AreLexemesJudged, ComesTo, nests_too_deep}
 use Rattle.cgm_text.specs.Meaning.{statement_of}
 use Rattle.cgm_text.specs.Progress.{IsAdded, IsDraft, IsFinished, IsMade, IsPut, IsStep, IsStop, IsStopAfter, line_stop, tokens_come_to}
 use Rattle.cgm_text.specs.Text.{LineComesTo, LineStatement, on_line, all_added, model_of, model_text, rule_line, rule_lines, HasFault, HasStatements, IsReading, IsNotRead}

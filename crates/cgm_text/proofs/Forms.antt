@@ -2,21 +2,22 @@
 use Rattle.std.proofs.Common.{◌≡◌, ◌≢◌, ℕ, ℤ, Bool, true, false, List, [], ◌∷◌, ◌++◌, map, codes, get_or, bytes_eq, Option, None, Some, if◌then◌else◌, refl, ap, ◌∙◌, sym, arith}
 use Rattle.cgm_base.specs.Printed.{truth_word}
 use Rattle.cgm_lex.specs.Lexemes.{Lexeme, colon, number, word}
-use Rattle.cgm_text.specs.declared.written.ConditionWord.{ConditionWord}
-use Rattle.cgm_text.specs.declared.written.ConditionWord.TheVariants as condition_words
-use Rattle.cgm_text.specs.declared.written.Direction.{Direction}
-use Rattle.cgm_text.specs.declared.written.Direction.TheVariants as directions
-use Rattle.cgm_text.specs.declared.written.NameWord.{NameWord}
-use Rattle.cgm_text.specs.declared.written.NameWord.TheVariants as name_words
-use Rattle.cgm_text.specs.declared.written.PairWord.{PairWord}
-use Rattle.cgm_text.specs.declared.written.PairWord.TheVariants as pair_words
-use Rattle.cgm_text.specs.declared.written.Sort.{Sort}
-use Rattle.cgm_text.specs.declared.written.Sort.TheVariants as sorts
-use Rattle.cgm_text.specs.declared.written.WeightWord.{WeightWord}
-use Rattle.cgm_text.specs.declared.written.WeightWord.TheVariants as weight_words
-use Rattle.cgm_text.specs.Statements.{WrittenStatement, goal, named, refinement, pair, assertion, variable, value, weight, condition, requirement, objective, sort_word, sort_of, must_tokens, direction_word, body, statement_tokens, IsNoBody}
-use Rattle.cgm_text.specs.Written.{WrittenFormula, spelled}
+use Rattle.cgm_print.specs.declared.words.ConditionWord.{ConditionWord}
+use Rattle.cgm_print.specs.declared.words.ConditionWord.TheVariants as condition_words
+use Rattle.cgm_print.specs.declared.words.Direction.{Direction}
+use Rattle.cgm_print.specs.declared.words.Direction.TheVariants as directions
+use Rattle.cgm_print.specs.declared.words.NameWord.{NameWord}
+use Rattle.cgm_print.specs.declared.words.NameWord.TheVariants as name_words
+use Rattle.cgm_print.specs.declared.words.PairWord.{PairWord}
+use Rattle.cgm_print.specs.declared.words.PairWord.TheVariants as pair_words
+use Rattle.cgm_print.specs.declared.words.Sort.{Sort}
+use Rattle.cgm_print.specs.declared.words.Sort.TheVariants as sorts
+use Rattle.cgm_print.specs.declared.words.WeightWord.{WeightWord}
+use Rattle.cgm_print.specs.declared.words.WeightWord.TheVariants as weight_words
+use Rattle.cgm_print.specs.Statements.{WrittenStatement, goal, named, refinement, pair, assertion, variable, value, weight, condition, requirement, objective, sort_word, sort_of, must_tokens, direction_word, body, statement_tokens}
+use Rattle.cgm_print.specs.Written.{WrittenFormula, spelled}
 use Rattle.cgm_text.proofs.Formulas.{once}
+use Rattle.cgm_text.specs.Parsed.{IsNoBody}
 
 -- the sort of statement with this word
 abbrev sort_in : List ℕ → Option Sort

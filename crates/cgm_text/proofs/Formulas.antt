@@ -1,19 +1,20 @@
 -- Formulas: their tokens tell them, and what begins with none.
 use Rattle.std.proofs.Common.{◌≡◌, ◌≢◌, ℕ, ℤ, List, [], ◌∷◌, ◌++◌, map, codes, bytes_eq, Option, None, Some, if◌then◌else◌, refl, ap, ◌∙◌, sym}
 use Rattle.cgm_lex.specs.Lexemes.{Lexeme, opening, closing, colon, number, word}
-use Rattle.cgm_text.specs.declared.written.Joint.{Joint}
-use Rattle.cgm_text.specs.declared.written.Joint.TheVariants as joints
-use Rattle.cgm_text.specs.declared.written.Pairing.{Pairing}
-use Rattle.cgm_text.specs.declared.written.Pairing.TheVariants as pairings
-use Rattle.cgm_text.specs.declared.written.Comparison.{Comparison}
-use Rattle.cgm_text.specs.declared.written.Comparison.TheVariants as comparisons
+use Rattle.cgm_print.specs.declared.words.Joint.{Joint}
+use Rattle.cgm_print.specs.declared.words.Joint.TheVariants as joints
+use Rattle.cgm_print.specs.declared.words.Pairing.{Pairing}
+use Rattle.cgm_print.specs.declared.words.Pairing.TheVariants as pairings
+use Rattle.cgm_print.specs.declared.words.Comparison.{Comparison}
+use Rattle.cgm_print.specs.declared.words.Comparison.TheVariants as comparisons
 use Rattle.cgm_text.specs.declared.written.Connective.{Connective}
 use Rattle.cgm_text.specs.declared.written.Connective.TheVariants.{Not, Join, Pair, Compare}
 use Rattle.std.proofs.lemmas.List.{map_push}
 use Rattle.cgm_text.specs.declared.written.Tree.{Tree}
-use Rattle.cgm_text.specs.Trees.{formula_in, formulas_of}
-use Rattle.cgm_text.specs.Written.{WrittenLinear, WrittenFormula, name, negation, joined, paired, compared, WrittenFormulas, no_formulas, more_formulas, spelled, spelled_each, spelled_linear, connective_word, joint_word, pairing_word, comparison_word, BeginsNoLinear, BeginsNoFormula}
+use Rattle.cgm_text.specs.Trees.{formula_in}
+use Rattle.cgm_print.specs.Written.{WrittenLinear, WrittenFormula, name, negation, joined, paired, compared, WrittenFormulas, no_formulas, more_formulas, spelled, spelled_each, spelled_linear, joint_word, pairing_word, comparison_word, formulas_of}
 use Rattle.cgm_text.proofs.Terms.{linear_once}
+use Rattle.cgm_text.specs.Parsed.{connective_word, BeginsNoLinear, BeginsNoFormula}
 
 -- the connective with this word
 abbrev connective_in : List ℕ → Option Connective

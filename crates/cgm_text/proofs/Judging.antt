@@ -11,13 +11,14 @@ use Rattle.cgm_lex.proofs.Plain.{run_is_utf8}
 use Rattle.cgm_model.specs.declared.lists.Lists.{Lists}
 use Rattle.cgm_lex.specs.declared.stops.LineFault.TheVariants as line_faults
 use Rattle.cgm_lex.specs.declared.stops.LineStop.{LineStop}
-use Rattle.cgm_text.specs.declared.written.Sort.{Sort}
+use Rattle.cgm_print.specs.declared.words.Sort.{Sort}
 use Rattle.cgm_text.specs.Line.{Verdict, faulty, no_word, no_form, written, HasForm, IsNamedJudged, AreJudged}
 use Rattle.cgm_text.specs.Meaning.{declared_words, statement_of}
 use Rattle.cgm_text.specs.Progress.{IsStop}
-use Rattle.cgm_text.specs.Statements.{WrittenStatement, goal, named, refinement, pair, assertion, variable, value, weight, condition, requirement, objective, IsNoBody, must_tokens, sort_of, sort_word, statement_tokens}
+use Rattle.cgm_print.specs.Statements.{WrittenStatement, goal, named, refinement, pair, assertion, variable, value, weight, condition, requirement, objective, must_tokens, sort_of, sort_word, statement_tokens}
 use Rattle.cgm_text.specs.Uses.{first_fault, statement_uses}
 use Rattle.cgm_text.proofs.Forms.{no_statement}
+use Rattle.cgm_text.specs.Parsed.{IsNoBody}
 
 pub stop_exit : {T : Type 0} (P : Verdict → Type 0) (r : Result T LineStop) (stop : LineStop) → IsErrAnd r (λ e. e ≡ stop) → IsStop P stop → IfErr r (IsStop P)
 stop_exit P (Ok x) stop is p = tt

@@ -25,16 +25,16 @@ use Rattle.cgm_model.specs.Formulas.{IsKnownTruth, IsKnownNumber, IsProperFormul
 use Rattle.cgm_model.specs.Named.{thing_named, element_names, refinement_names, sum_names, variable_names}
 use Rattle.cgm_model.proofs.Lookups.{named-from_thing_named}
 use Rattle.cgm_text.specs.declared.names.Wanted.TheVariants as wants
-use Rattle.cgm_text.specs.declared.written.Comparison.{Comparison}
-use Rattle.cgm_text.specs.declared.written.Comparison.TheVariants as comparison_words
-use Rattle.cgm_text.specs.declared.written.Joint.{Joint}
-use Rattle.cgm_text.specs.declared.written.Joint.TheVariants as joints
-use Rattle.cgm_text.specs.declared.written.Pairing.{Pairing}
-use Rattle.cgm_text.specs.declared.written.Pairing.TheVariants as pairings
+use Rattle.cgm_print.specs.declared.words.Comparison.{Comparison}
+use Rattle.cgm_print.specs.declared.words.Comparison.TheVariants as comparison_words
+use Rattle.cgm_print.specs.declared.words.Joint.{Joint}
+use Rattle.cgm_print.specs.declared.words.Joint.TheVariants as joints
+use Rattle.cgm_print.specs.declared.words.Pairing.{Pairing}
+use Rattle.cgm_print.specs.declared.words.Pairing.TheVariants as pairings
 use Rattle.cgm_text.specs.Meaning.{element_named, refinement_named, truth_named, truth_of, number_named, number_of, element_of, refinement_of, sum_named, sum_of, term_of, linear_of, formula_of, each_formula_of, joined_as, paired_as, compared_as}
 use Rattle.cgm_text.specs.Trees.{is_deeper}
 use Rattle.cgm_text.specs.Uses.{NameUse, use_as, term_name, terms_uses, linear_uses, formula_uses, formulas_uses, thing_fault, first_fault}
-use Rattle.cgm_text.specs.Written.{WrittenTerm, plain, scaled, WrittenLinear, single, total, WrittenFormula, name, negation, joined, paired, compared, WrittenFormulas, no_formulas, more_formulas, spelled}
+use Rattle.cgm_print.specs.Written.{WrittenTerm, plain, scaled, WrittenLinear, single, total, WrittenFormula, name, negation, joined, paired, compared, WrittenFormulas, no_formulas, more_formulas, spelled}
 use Rattle.cgm_text.proofs.Depths.{depth_is_few}
 
 -- faults

@@ -8,10 +8,8 @@ pub mod Judging
 pub mod Known
 pub mod Meanings
 pub mod Outcomes
-pub mod Printed
 pub mod Proper
 pub mod Right
-pub mod Spaces
 pub mod Spellings
 pub mod StatementsBack
 pub mod Terms

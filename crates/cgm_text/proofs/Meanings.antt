@@ -5,8 +5,8 @@ use Rattle.cgm_formula.specs.declared.formula.Formula.{Formula}
 use Rattle.cgm_model.specs.declared.lists.Lists.{Lists}
 use Rattle.cgm_text.specs.declared.written.Tree.{Tree}
 use Rattle.cgm_text.specs.Meaning.{formula_of, each_formula_of}
-use Rattle.cgm_text.specs.Trees.{formula_in, formulas_of}
-use Rattle.cgm_text.specs.Written.{WrittenFormula}
+use Rattle.cgm_text.specs.Trees.{formula_in}
+use Rattle.cgm_print.specs.Written.{WrittenFormula, formulas_of}
 
 each_of_list : (m : Lists) (fs : List WrittenFormula) → each_formula_of m (formulas_of fs) ≡ map (formula_of m) fs
 each_of_list m [] = refl

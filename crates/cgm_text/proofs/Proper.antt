@@ -16,17 +16,17 @@ use Rattle.cgm_model.specs.Formulas.{IsKnownNumber, IsKnownTruth, IsProperFormul
 use Rattle.cgm_model.specs.Named.{thing_named}
 use Rattle.cgm_model.specs.Statement.{IsKnownQuantity, IsProper}
 use Rattle.cgm_text.specs.declared.names.Wanted.TheVariants as wants
-use Rattle.cgm_text.specs.declared.written.ConditionWord.{ConditionWord}
-use Rattle.cgm_text.specs.declared.written.ConditionWord.TheVariants as condition_words
-use Rattle.cgm_text.specs.declared.written.NameWord.TheVariants as name_words
-use Rattle.cgm_text.specs.declared.written.PairWord.TheVariants as pair_words
-use Rattle.cgm_text.specs.declared.written.WeightWord.TheVariants as weight_words
+use Rattle.cgm_print.specs.declared.words.ConditionWord.{ConditionWord}
+use Rattle.cgm_print.specs.declared.words.ConditionWord.TheVariants as condition_words
+use Rattle.cgm_print.specs.declared.words.NameWord.TheVariants as name_words
+use Rattle.cgm_print.specs.declared.words.PairWord.TheVariants as pair_words
+use Rattle.cgm_print.specs.declared.words.WeightWord.TheVariants as weight_words
 use Rattle.cgm_text.specs.Line.{nests_too_deep}
 use Rattle.cgm_text.specs.Meaning.{condition_of, element_named, formula_of, number_named, quantity_of, statement_of, truth_named}
 use Rattle.cgm_text.specs.Progress.{IsMade}
-use Rattle.cgm_text.specs.Statements.{WrittenStatement, goal, named, refinement, pair, assertion, variable, value, weight, condition, requirement, objective, condition_word, statement_tokens}
+use Rattle.cgm_print.specs.Statements.{WrittenStatement, goal, named, refinement, pair, assertion, variable, value, weight, condition, requirement, objective, condition_word, statement_tokens}
 use Rattle.cgm_text.specs.Uses.{NameUse, use_as, first_fault, formula_uses, quantity_uses, statement_uses, thing_fault}
-use Rattle.cgm_text.specs.Written.{WrittenFormula, spelled}
+use Rattle.cgm_print.specs.Written.{WrittenFormula, spelled}
 use Rattle.cgm_text.proofs.Depths.{shallow_after}
 use Rattle.cgm_text.proofs.Known.{first_right, element_known, refinement_known, truth_known, number_known, sum_known, formula_proper}
 use Rattle.cgm_text.proofs.Spellings.{chosen}

@@ -6,17 +6,17 @@ use Rattle.cgm_base.specs.declared.fault.BadKind.{BadKind}
 use Rattle.cgm_model.specs.declared.lists.Lists.{Lists}
 use Rattle.cgm_model.specs.Named.{thing_named}
 use Rattle.cgm_text.specs.declared.names.Wanted.TheVariants as wants
-use Rattle.cgm_text.specs.declared.written.ConditionWord.{ConditionWord}
-use Rattle.cgm_text.specs.declared.written.Pairing.{Pairing}
+use Rattle.cgm_print.specs.declared.words.ConditionWord.{ConditionWord}
+use Rattle.cgm_print.specs.declared.words.Pairing.{Pairing}
 use Rattle.cgm_text.specs.declared.written.Term.{Term}
 use Rattle.cgm_text.specs.declared.written.Tree.{Tree}
 use Rattle.cgm_text.specs.declared.written.Tree.TheOpen.{Tree-F}
 use Rattle.cgm_text.specs.declared.written.Tree.TheFolds.{fold-roll-Tree}
 use Rattle.cgm_text.specs.declared.written.Tree.TheVariants.{Pair, rolls-Pair}
-use Rattle.cgm_text.specs.Statements.{condition}
-use Rattle.cgm_text.specs.Trees.{formula_in, formulas_of, term_in, tree_step}
+use Rattle.cgm_print.specs.Statements.{condition}
+use Rattle.cgm_text.specs.Trees.{formula_in, term_in, tree_step}
 use Rattle.cgm_text.specs.Uses.{NameUse, terms_uses, formula_uses, formulas_uses, thing_fault, first_fault, statement_uses}
-use Rattle.cgm_text.specs.Written.{WrittenFormula, paired}
+use Rattle.cgm_print.specs.Written.{WrittenFormula, paired, formulas_of}
 
 -- before whatever names follow, these names have this fault, or none
 abbrev Comes : Lists → (List NameUse → List NameUse) → Option BadKind → Type 0

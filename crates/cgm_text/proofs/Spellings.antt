@@ -9,7 +9,7 @@ use Rattle.cgm_lex.proofs.Spelled.{spelled_plain}
 use Rattle.cgm_model.specs.declared.lists.Quantity.{Quantity}
 use Rattle.cgm_model.specs.declared.lists.Quantity.TheVariants as quantities
 use Rattle.cgm_model.specs.Name.{is_name, is_reserved}
-use Rattle.cgm_text.specs.Statements.{built_in}
+use Rattle.cgm_text.specs.Parsed.{built_in}
 
 pub name_plain : (n : List ℕ) → is_name n ≡ true → IsPlain (word n)
 name_plain n e = spelled_plain n (and_parts (is_spelled n) (not (is_reserved n)) e).0

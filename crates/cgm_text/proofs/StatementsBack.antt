@@ -33,22 +33,23 @@ use Rattle.cgm_model.specs.Name.{is_name}
 use Rattle.cgm_model.specs.Named.{thing_named}
 use Rattle.cgm_model.specs.Statement.{IsEdgeOf, IsKnownQuantity, IsProper}
 use Rattle.cgm_text.specs.declared.names.Wanted.TheVariants as wants
-use Rattle.cgm_text.specs.declared.written.ConditionWord.{ConditionWord}
-use Rattle.cgm_text.specs.declared.written.ConditionWord.TheVariants as condition_words
-use Rattle.cgm_text.specs.declared.written.PairWord.{PairWord}
-use Rattle.cgm_text.specs.declared.written.PairWord.TheVariants as pair_words
-use Rattle.cgm_text.specs.declared.written.WeightWord.{WeightWord}
-use Rattle.cgm_text.specs.declared.written.WeightWord.TheVariants as weight_words
+use Rattle.cgm_print.specs.declared.words.ConditionWord.{ConditionWord}
+use Rattle.cgm_print.specs.declared.words.ConditionWord.TheVariants as condition_words
+use Rattle.cgm_print.specs.declared.words.PairWord.{PairWord}
+use Rattle.cgm_print.specs.declared.words.PairWord.TheVariants as pair_words
+use Rattle.cgm_print.specs.declared.words.WeightWord.{WeightWord}
+use Rattle.cgm_print.specs.declared.words.WeightWord.TheVariants as weight_words
 use Rattle.cgm_text.specs.Back.{ArePlain, IsThere, thing_name, Knows, Given, Back, StatementBack, Fitting}
-use Rattle.cgm_text.specs.Canonical.{direction_of, element_name, number_name, quantity_name, refinement_name, sum_name, truth_name, written, written_element, written_formula, written_refinement, written_rule}
+use Rattle.cgm_print.specs.Canonical.{direction_of, element_name, number_name, quantity_name, refinement_name, sum_name, truth_name, written, written_element, written_formula, written_refinement, written_rule}
 use Rattle.cgm_text.specs.Line.{nests_too_deep}
 use Rattle.cgm_text.specs.Meaning.{element_named, element_of, is_max, number_named, quantity_named, quantity_of, refinement_named, refinement_of, sum_of, truth_named, formula_of, statement_of, condition_of, weight_of}
-use Rattle.cgm_text.specs.Statements.{built_in, condition, condition_word, direction_word, objective, pair, pair_word, requirement, value, weight, weight_word}
+use Rattle.cgm_print.specs.Statements.{condition, condition_word, direction_word, objective, pair, pair_word, requirement, value, weight, weight_word}
 use Rattle.cgm_text.specs.Trees.{is_deeper}
 use Rattle.cgm_text.specs.Uses.{end_of, first_fault, formula_uses, quantity_uses, thing_fault, use_as}
-use Rattle.cgm_text.specs.Written.{spelled}
+use Rattle.cgm_print.specs.Written.{spelled}
 use Rattle.cgm_text.proofs.Spellings.{name_free}
 use Rattle.cgm_text.proofs.WrittenBack.{formula_back, number_meaning, number_use, pass, passes, thing_plain, truth_meaning, truth_plain, truth_use}
+use Rattle.cgm_text.specs.Parsed.{built_in}
 
 -- ---- tokens without brackets
 

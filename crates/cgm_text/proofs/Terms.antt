@@ -4,7 +4,8 @@ use Rattle.cgm_lex.specs.Lexemes.{Lexeme, opening, closing, word}
 use Rattle.std.proofs.lemmas.List.{map_push}
 use Rattle.cgm_text.specs.declared.written.Term.{Term}
 use Rattle.cgm_text.specs.Trees.{term_in}
-use Rattle.cgm_text.specs.Written.{WrittenTerm, plain, scaled, WrittenLinear, single, total, spelled_term, spelled_terms, spelled_linear, BeginsNoTerm, BeginsNoLinear}
+use Rattle.cgm_text.specs.Parsed.{BeginsNoTerm, BeginsNoLinear}
+use Rattle.cgm_print.specs.Written.{WrittenTerm, plain, scaled, WrittenLinear, single, total, spelled_term, spelled_terms, spelled_linear}
 
 plus_is_no_times : codes "+" ≡ codes "*" → ⊥
 plus_is_no_times e = absurd (omega (arith, ap (λ w. get_or w 0 0) e))

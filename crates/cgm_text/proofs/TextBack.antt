@@ -39,10 +39,10 @@ use Rattle.cgm_model.proofs.Canon.{after_all, stands_in_order}
 use Rattle.cgm_model.proofs.Keeping.{IsWellFormed-added, IsWellFormed-none}
 use Rattle.cgm_model.proofs.Lookups.{place, placed, thing_named-from_named}
 use Rattle.cgm_text.specs.Back.{ArePlain, Fitting, Given, HasWidth, IsSide, IsTerm, IsThere, thing_name, Knows, StatementBack}
-use Rattle.cgm_text.specs.Canonical.{canonical_text, name_at, statement_lines, whole_line, written}
-use Rattle.cgm_text.specs.Line.{ComesTo, AreLexemesJudged, AreShallowJudged, IsNamedJudged, header_tokens, nests_too_deep, nothing, header, says, written as form_written}
+use Rattle.cgm_print.specs.Canonical.{canonical_text, name_at, statement_lines, whole_line, written}
+use Rattle.cgm_text.specs.Line.{ComesTo, AreLexemesJudged, AreShallowJudged, IsNamedJudged, nests_too_deep, nothing, header, says, written as form_written}
 use Rattle.cgm_text.specs.Meaning.{statement_of}
-use Rattle.cgm_text.specs.Statements.{WrittenStatement, statement_tokens}
+use Rattle.cgm_print.specs.Statements.{WrittenStatement, statement_tokens, header_tokens}
 use Rattle.cgm_text.specs.Text.{HasStatements, IsTextOf, LineStatement, all_added, model_of, model_text, on_line}
 use Rattle.cgm_text.specs.Uses.{first_fault, statement_uses}
 use Rattle.cgm_text.proofs.Drafts.{all_added_push}

@@ -20,7 +20,7 @@ use Rattle.cgm_lex.specs.declared.stops.LineFault.TheVariants as line_faults
 use Rattle.cgm_lex.specs.Readings.{flaw_kind}
 use Rattle.cgm_text.specs.Line.{Verdict, nothing, header, says, faulty, refusal_kind, Form, no_word, no_form, written, HasForm, IsRefusedAs, IsJudged, IsNamedJudged, IsFormJudged, AreJudged, AreFirst, AreShallowJudged, nests_too_deep, AreLexemesJudged, ComesTo}
 use Rattle.cgm_text.specs.Meaning.{statement_of}
-use Rattle.cgm_text.specs.Statements.{sort_of, body}
+use Rattle.cgm_print.specs.Statements.{sort_of, body}
 use Rattle.cgm_text.specs.Uses.{first_fault, statement_uses}
 use Rattle.cgm_text.proofs.Forms.{statement_once}
 

@@ -24,18 +24,18 @@ use Rattle.cgm_model.specs.declared.lists.Thing.TheVariants as things
 use Rattle.cgm_model.specs.Formulas.{IsKnownTruth, IsKnownNumber}
 use Rattle.cgm_model.specs.Named.{thing_named}
 use Rattle.cgm_text.specs.declared.names.Wanted.TheVariants as wants
-use Rattle.cgm_text.specs.declared.written.Comparison.{Comparison}
-use Rattle.cgm_text.specs.declared.written.Comparison.TheVariants as comparison_words
-use Rattle.cgm_text.specs.declared.written.Joint.{Joint}
-use Rattle.cgm_text.specs.declared.written.Joint.TheVariants as joints
-use Rattle.cgm_text.specs.declared.written.Pairing.{Pairing}
-use Rattle.cgm_text.specs.declared.written.Pairing.TheVariants as pairings
+use Rattle.cgm_print.specs.declared.words.Comparison.{Comparison}
+use Rattle.cgm_print.specs.declared.words.Comparison.TheVariants as comparison_words
+use Rattle.cgm_print.specs.declared.words.Joint.{Joint}
+use Rattle.cgm_print.specs.declared.words.Joint.TheVariants as joints
+use Rattle.cgm_print.specs.declared.words.Pairing.{Pairing}
+use Rattle.cgm_print.specs.declared.words.Pairing.TheVariants as pairings
 use Rattle.cgm_text.specs.Back.{ArePlain, IsThere, thing_name, Knows, IsTerm, IsSide, Given, Back}
-use Rattle.cgm_text.specs.Canonical.{truth_name, number_name, written_term, written_linear, written_step, written_formula}
+use Rattle.cgm_print.specs.Canonical.{truth_name, number_name, written_term, written_linear, written_step, written_formula}
 use Rattle.cgm_text.specs.Meaning.{truth_named, truth_of, number_named, number_of, term_of, linear_of, linear_with, formula_of, each_formula_of, joined_as, paired_as, compared_as}
-use Rattle.cgm_text.specs.Trees.{count_after, formulas_of, is_deeper}
+use Rattle.cgm_text.specs.Trees.{count_after, is_deeper}
 use Rattle.cgm_text.specs.Uses.{NameUse, use_as, term_name, terms_uses, linear_uses, formula_uses, formulas_uses, thing_fault, first_fault}
-use Rattle.cgm_text.specs.Written.{WrittenTerm, plain, scaled, WrittenLinear, WrittenFormula, name, negation, joined, paired, compared, WrittenFormulas, more_formulas, joint_word, pairing_word, comparison_word, spelled_term, spelled_terms, spelled_linear, spelled, spelled_each}
+use Rattle.cgm_print.specs.Written.{WrittenTerm, plain, scaled, WrittenLinear, WrittenFormula, name, negation, joined, paired, compared, WrittenFormulas, more_formulas, joint_word, pairing_word, comparison_word, spelled_term, spelled_terms, spelled_linear, spelled, spelled_each, formulas_of}
 use Rattle.cgm_text.proofs.Spellings.{name_plain}
 
 -- ---- names

@@ -16,13 +16,13 @@ use Rattle.cgm_model.specs.declared.lists.Thing.TheVariants as things
 use Rattle.cgm_model.specs.Formulas.{IsKnownTruth, IsKnownNumber, formula_of as formula_of_rule}
 use Rattle.cgm_model.specs.Name.{is_name}
 use Rattle.cgm_model.specs.Named.{thing_named}
-use Rattle.cgm_text.specs.Canonical.{element_name, refinement_name, variable_name, sum_name}
+use Rattle.cgm_print.specs.Canonical.{element_name, refinement_name, variable_name, sum_name}
 use Rattle.cgm_text.specs.Line.{nests_too_deep}
 use Rattle.cgm_text.specs.Meaning.{formula_of, statement_of}
-use Rattle.cgm_text.specs.Statements.{WrittenStatement, statement_tokens}
+use Rattle.cgm_print.specs.Statements.{WrittenStatement, statement_tokens}
 use Rattle.cgm_text.specs.Trees.{is_deeper}
 use Rattle.cgm_text.specs.Uses.{NameUse, formula_uses, first_fault, statement_uses}
-use Rattle.cgm_text.specs.Written.{WrittenFormula, spelled}
+use Rattle.cgm_print.specs.Written.{WrittenFormula, spelled}
 
 abbrev pub ArePlain : List Lexeme → Type 0
 ArePlain ts = AllByRecursion IsPlain ts

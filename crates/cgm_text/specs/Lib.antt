@@ -1,11 +1,8 @@
 pub mod Back
-pub mod Canonical
 pub mod Line
 pub mod Meaning
-pub mod Printing
+pub mod Parsed
 pub mod Progress
-pub mod Statements
 pub mod Text
 pub mod Trees
 pub mod Uses
-pub mod Written

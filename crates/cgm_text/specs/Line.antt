@@ -1,11 +1,11 @@
 -- What a line comes to: nothing, the header, a statement, or a fault; the tests stand in the order in which the first that fails is told.
-use Rattle.std.specs.Prelude.{◌≡◌, ◌≢◌, ℕ, pos, Bool, true, false, List, [], ◌∷◌, codes, Option, None, Some, Result, Ok, Err}
+use Rattle.std.specs.Prelude.{◌≡◌, ◌≢◌, ℕ, Bool, true, false, List, [], ◌∷◌, Option, None, Some, Result, Ok, Err}
 use Rattle.cgm_base.specs.declared.fault.BadKind.{BadKind}
 use Rattle.cgm_base.specs.declared.fault.BadKind.TheVariants as kinds
 use Rattle.cgm_base.specs.declared.limit.Which.TheVariants as limits
 use Rattle.cgm_base.specs.Words.{limit_number}
 use Rattle.cgm_lex.specs.declared.token.Flaw.{Flaw}
-use Rattle.cgm_lex.specs.Lexemes.{Lexeme, number, word, line_lexemes}
+use Rattle.cgm_lex.specs.Lexemes.{Lexeme, word, line_lexemes}
 use Rattle.cgm_lex.specs.Readings.{flaw_kind}
 use Rattle.cgm_model.specs.declared.lists.Lists.{Lists}
 use Rattle.cgm_model.specs.declared.lists.Statement.{Statement}
@@ -15,11 +15,12 @@ use Rattle.cgm_model.specs.declared.stop.Fault.TheVariants as faults
 use Rattle.cgm_model.specs.Statement.{IsAllowed, IsRefused}
 use Rattle.cgm_lex.specs.declared.stops.LineFault.{LineFault}
 use Rattle.cgm_lex.specs.declared.stops.LineFault.TheVariants as line_faults
-use Rattle.cgm_text.specs.declared.written.Sort.{Sort}
+use Rattle.cgm_print.specs.declared.words.Sort.{Sort}
 use Rattle.cgm_text.specs.Meaning.{statement_of}
-use Rattle.cgm_text.specs.Statements.{WrittenStatement, sort_word, statement_tokens, BeginsNoStatement}
+use Rattle.cgm_print.specs.Statements.{WrittenStatement, sort_word, statement_tokens}
 use Rattle.cgm_text.specs.Trees.{is_deeper}
 use Rattle.cgm_text.specs.Uses.{first_fault, statement_uses}
+use Rattle.cgm_text.specs.Parsed.{BeginsNoStatement}
 
 pub data Verdict : Type 0 where
   nothing : Verdict
@@ -37,10 +38,6 @@ refusal_kind faults.DoubleInterest = kinds.DoubleInterest
 refusal_kind faults.TaskRefined = kinds.TaskRefined
 refusal_kind faults.AssumptionRefined = kinds.AssumptionRefined
 refusal_kind faults.Cycle = kinds.Cycle
-
--- the first line with tokens, in this version of the text form
-abbrev pub header_tokens : List Lexeme
-header_tokens = word (codes "cgm") ∷ number (pos 1) ∷ []
 
 -- what tokens come to by their form alone
 pub data Form : Type 0 where

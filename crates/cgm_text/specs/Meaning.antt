@@ -21,24 +21,25 @@ use Rattle.cgm_model.specs.declared.lists.Thing.{Thing}
 use Rattle.cgm_model.specs.declared.lists.Thing.TheVariants as things
 use Rattle.cgm_model.specs.declared.lists.Weighing.{Weighing}
 use Rattle.cgm_model.specs.Named.{thing_named}
-use Rattle.cgm_text.specs.declared.written.Comparison.{Comparison}
-use Rattle.cgm_text.specs.declared.written.Comparison.TheVariants as comparisons
-use Rattle.cgm_text.specs.declared.written.ConditionWord.{ConditionWord}
-use Rattle.cgm_text.specs.declared.written.ConditionWord.TheVariants as condition_words
-use Rattle.cgm_text.specs.declared.written.Direction.{Direction}
-use Rattle.cgm_text.specs.declared.written.Direction.TheVariants as directions
-use Rattle.cgm_text.specs.declared.written.Joint.{Joint}
-use Rattle.cgm_text.specs.declared.written.Joint.TheVariants as joints
-use Rattle.cgm_text.specs.declared.written.NameWord.{NameWord}
-use Rattle.cgm_text.specs.declared.written.NameWord.TheVariants as name_words
-use Rattle.cgm_text.specs.declared.written.PairWord.{PairWord}
-use Rattle.cgm_text.specs.declared.written.PairWord.TheVariants as pair_words
-use Rattle.cgm_text.specs.declared.written.Pairing.{Pairing}
-use Rattle.cgm_text.specs.declared.written.Pairing.TheVariants as pairings
-use Rattle.cgm_text.specs.declared.written.WeightWord.{WeightWord}
-use Rattle.cgm_text.specs.declared.written.WeightWord.TheVariants as weight_words
-use Rattle.cgm_text.specs.Statements.{WrittenStatement, built_in, goal, named, refinement, pair, assertion, variable, value, weight, condition, requirement, objective}
-use Rattle.cgm_text.specs.Written.{WrittenTerm, plain, scaled, WrittenLinear, single, total, WrittenFormula, name, negation, joined, paired, compared, WrittenFormulas, no_formulas, more_formulas}
+use Rattle.cgm_print.specs.declared.words.Comparison.{Comparison}
+use Rattle.cgm_print.specs.declared.words.Comparison.TheVariants as comparisons
+use Rattle.cgm_print.specs.declared.words.ConditionWord.{ConditionWord}
+use Rattle.cgm_print.specs.declared.words.ConditionWord.TheVariants as condition_words
+use Rattle.cgm_print.specs.declared.words.Direction.{Direction}
+use Rattle.cgm_print.specs.declared.words.Direction.TheVariants as directions
+use Rattle.cgm_print.specs.declared.words.Joint.{Joint}
+use Rattle.cgm_print.specs.declared.words.Joint.TheVariants as joints
+use Rattle.cgm_print.specs.declared.words.NameWord.{NameWord}
+use Rattle.cgm_print.specs.declared.words.NameWord.TheVariants as name_words
+use Rattle.cgm_print.specs.declared.words.PairWord.{PairWord}
+use Rattle.cgm_print.specs.declared.words.PairWord.TheVariants as pair_words
+use Rattle.cgm_print.specs.declared.words.Pairing.{Pairing}
+use Rattle.cgm_print.specs.declared.words.Pairing.TheVariants as pairings
+use Rattle.cgm_print.specs.declared.words.WeightWord.{WeightWord}
+use Rattle.cgm_print.specs.declared.words.WeightWord.TheVariants as weight_words
+use Rattle.cgm_print.specs.Statements.{WrittenStatement, goal, named, refinement, pair, assertion, variable, value, weight, condition, requirement, objective}
+use Rattle.cgm_print.specs.Written.{WrittenTerm, plain, scaled, WrittenLinear, single, total, WrittenFormula, name, negation, joined, paired, compared, WrittenFormulas, no_formulas, more_formulas}
+use Rattle.cgm_text.specs.Parsed.{built_in}
 
 -- the number of an element; what is none reads as 0, here and below
 abbrev pub element_of : Option Thing → ℕ

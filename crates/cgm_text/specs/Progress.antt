@@ -16,7 +16,7 @@ use Rattle.cgm_lex.specs.declared.stops.LineStop.TheVariants as line_stops
 use Rattle.cgm_text.specs.declared.reader.Reading.{Reading}
 use Rattle.cgm_text.specs.Line.{Verdict, says, faulty, refusal_kind, AreJudged, AreLexemesJudged}
 use Rattle.cgm_text.specs.Meaning.{statement_of}
-use Rattle.cgm_text.specs.Statements.{WrittenStatement, statement_tokens}
+use Rattle.cgm_print.specs.Statements.{WrittenStatement, statement_tokens}
 use Rattle.cgm_text.specs.Text.{LineStatement, after_line, model_of, rule_line, rule_lines}
 use Rattle.cgm_text.specs.Uses.{first_fault, statement_uses}
 

@@ -13,7 +13,7 @@ use Rattle.cgm_text.specs.declared.written.Linear.TheVariants as linears
 use Rattle.cgm_text.specs.declared.written.Tree.{Tree}
 use Rattle.cgm_text.specs.declared.written.Tree.TheOpen.{Tree-F}
 use Rattle.cgm_text.specs.declared.written.Tree.TheFolds.{fold-Tree}
-use Rattle.cgm_text.specs.Written.{WrittenTerm, plain, scaled, WrittenLinear, single, total, WrittenFormula, name, negation, joined, paired, compared, WrittenFormulas, no_formulas, more_formulas}
+use Rattle.cgm_print.specs.Written.{WrittenTerm, plain, scaled, WrittenLinear, single, total, WrittenFormula, name, negation, joined, paired, compared, formulas_of}
 
 -- what the tokens of a line say
 abbrev pub seen_all : List ℕ → List Token → List Lexeme
@@ -29,10 +29,6 @@ term_in line (terms.Scaled k x) = scaled k (word_in line x)
 abbrev pub linear_in : List ℕ → Linear → WrittenLinear
 linear_in line (linears.Single term) = single (term_in line term)
 linear_in line (linears.Total term others) = total (term_in line term) (map (term_in line) others)
-
-abbrev pub formulas_of : List WrittenFormula → WrittenFormulas
-formulas_of [] = no_formulas
-formulas_of (part ∷ parts) = more_formulas part (formulas_of parts)
 
 abbrev pub tree_step : List ℕ → Tree-F WrittenFormula → WrittenFormula
 tree_step line (Tree-F.Name x) = name (word_in line x)

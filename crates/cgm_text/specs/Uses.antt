@@ -10,12 +10,13 @@ use Rattle.cgm_model.specs.declared.lists.Thing.TheVariants as things
 use Rattle.cgm_model.specs.Named.{thing_named}
 use Rattle.cgm_text.specs.declared.names.Wanted.{Wanted}
 use Rattle.cgm_text.specs.declared.names.Wanted.TheVariants as wants
-use Rattle.cgm_text.specs.declared.written.NameWord.{NameWord}
-use Rattle.cgm_text.specs.declared.written.NameWord.TheVariants as name_words
-use Rattle.cgm_text.specs.declared.written.PairWord.{PairWord}
-use Rattle.cgm_text.specs.declared.written.PairWord.TheVariants as pair_words
-use Rattle.cgm_text.specs.Statements.{WrittenStatement, built_in, goal, named, refinement, pair, assertion, variable, value, weight, condition, requirement, objective}
-use Rattle.cgm_text.specs.Written.{WrittenTerm, plain, scaled, WrittenLinear, single, total, WrittenFormula, name, negation, joined, paired, compared, WrittenFormulas, no_formulas, more_formulas}
+use Rattle.cgm_text.specs.Parsed.{built_in}
+use Rattle.cgm_print.specs.declared.words.NameWord.{NameWord}
+use Rattle.cgm_print.specs.declared.words.NameWord.TheVariants as name_words
+use Rattle.cgm_print.specs.declared.words.PairWord.{PairWord}
+use Rattle.cgm_print.specs.declared.words.PairWord.TheVariants as pair_words
+use Rattle.cgm_print.specs.Statements.{WrittenStatement, goal, named, refinement, pair, assertion, variable, value, weight, condition, requirement, objective}
+use Rattle.cgm_print.specs.Written.{WrittenTerm, plain, scaled, WrittenLinear, single, total, WrittenFormula, name, negation, joined, paired, compared, WrittenFormulas, no_formulas, more_formulas}
 
 -- a name that is used, with what its place wants
 pub record NameUse : Type 0 where

@@ -2,7 +2,8 @@
 ghost use Rattle.std.specs.Prelude.{◌≡◌, ◌↔◌, ℕ, List, [], ◌∷◌, true, false, if◌then◌else◌, All, Option, None, IsTrue, IfErr, OnOk};
 ghost use Rattle.cgm_lex.specs.Spelling.{IsPlain};
 ghost use Rattle.cgm_model.specs.Statement.{IsProper};
-ghost use Rattle.cgm_text.specs.Line.{AreFirst, AreJudged, IsJudged, header_tokens, nests_too_deep};
+ghost use Rattle.cgm_print.specs.Statements.{header_tokens};
+ghost use Rattle.cgm_text.specs.Line.{AreFirst, AreJudged, IsJudged, nests_too_deep};
 ghost use Rattle.cgm_text.specs.Progress.{IsAdded, IsDraft, IsFinished, IsPut, IsStep, IsStop, IsStopAfter, line_stop, tokens_come_to};
 ghost use Rattle.cgm_text.specs.Text.{LineStatement, model_text, rule_line};
 ghost use Rattle.cgm_text.specs.Trees.{seen_all};

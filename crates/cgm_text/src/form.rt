@@ -1,8 +1,8 @@
 //! The form of each statement after its word.
 ghost use Rattle.std.specs.Prelude.{◌≡◌, ◌≢◌, [], IfOk, IfErr};
-ghost use Rattle.cgm_text.specs.Statements.{IsBody, IsNoBody};
 ghost use Rattle.cgm_text.specs.Trees.{IsFor, formula_in, seen_all};
-ghost use Rattle.cgm_text.specs.Written.{WrittenFormula, spelled};
+ghost use Rattle.cgm_text.specs.Parsed.{IsBody, IsNoBody};
+ghost use Rattle.cgm_print.specs.Written.{WrittenFormula, spelled};
 
 use crate::formula::formula;
 use crate::shape::{
@@ -10,10 +10,9 @@ use crate::shape::{
     word_and_must, word_and_number, word_and_truth, word_and_two_numbers,
 };
 use crate::take::{take_colon, take_word};
-use crate::written::{
-    ConditionWord, FormStop, NameWord, PairWord, Sort, Tree, WeightWord, Written,
-};
+use crate::written::{FormStop, Tree, Written};
 use cgm_lex::Token;
+use cgm_print::words::{ConditionWord, NameWord, PairWord, Sort, WeightWord};
 use std::alloc::Global;
 
 fn goal(line: &[u8], tokens: &[Token]) -> Result<Written, FormStop>

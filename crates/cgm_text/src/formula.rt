@@ -2,14 +2,16 @@
 ghost use Rattle.std.specs.Prelude.{◌≡◌, ◌≢◌, ◌<◌, ℕ, List, [], ◌∷◌, ◌++◌, codes, length, map, IfSome, IfNone, IfOk, IfErr, OnOk};
 ghost use Rattle.cgm_lex.specs.Lexemes.{Lexeme, opening, word};
 ghost use Rattle.cgm_text.specs.declared.written.Connective.{Connective};
-ghost use Rattle.cgm_text.specs.Trees.{IsFor, formula_in, formulas_of, seen_all};
-ghost use Rattle.cgm_text.specs.Written.{BeginsNoFormula, comparison_word, connective_word, joined, joint_word, negation, paired, pairing_word, spelled};
+ghost use Rattle.cgm_text.specs.Trees.{IsFor, formula_in, seen_all};
+ghost use Rattle.cgm_text.specs.Parsed.{BeginsNoFormula, connective_word};
+ghost use Rattle.cgm_print.specs.Written.{comparison_word, joined, joint_word, negation, paired, pairing_word, spelled, formulas_of};
 
 use crate::keyword::connective_of;
 use crate::linear::linear;
 use crate::take::{bytes_in, take_close, take_number, take_open, take_word};
-use crate::written::{Comparison, Connective, FormStop, Joint, Pairing, Tree};
+use crate::written::{Connective, FormStop, Tree};
 use cgm_lex::Token;
+use cgm_print::words::{Comparison, Joint, Pairing};
 use sqlite_items::{Boxed, Items};
 use std::alloc::Global;
 

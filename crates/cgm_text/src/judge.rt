@@ -5,19 +5,21 @@ ghost use Rattle.cgm_lex.specs.Spelling.{IsPlain};
 ghost use Rattle.cgm_model.specs.declared.lists.Lists.{Lists};
 ghost use Rattle.cgm_text.specs.Line.{AreJudged, HasForm, written};
 ghost use Rattle.cgm_text.specs.Progress.{IsMade, IsStop};
-ghost use Rattle.cgm_text.specs.Statements.{sort_word, statement_in};
+ghost use Rattle.cgm_print.specs.Statements.{sort_word};
 ghost use Rattle.cgm_text.specs.Trees.{seen_all};
+ghost use Rattle.cgm_text.specs.Parsed.{statement_in};
 
 use crate::form::statement_of_sort;
 use crate::keyword::sort_of_word;
 use crate::meaning::statement;
 use crate::names::statement_fault;
 use crate::take::{bytes_in, take_word};
-use crate::written::{FormStop, Sort, Written};
+use crate::written::{FormStop, Written};
 use cgm_base::BadKind;
 use cgm_lex::Token;
 use cgm_lex::reading::{LineFault, LineStop};
 use cgm_model::{ModelBuilder, Statement};
+use cgm_print::words::Sort;
 use std::alloc::Global;
 
 fn bad(kind: BadKind) -> LineStop

@@ -1,22 +1,22 @@
 //! The words of statements, connectives and quantities.
 ghost use Rattle.std.specs.Prelude.{◌≡◌, ◌≢◌, IfSome, IfNone};
 ghost use Rattle.std.specs.Str.{bytes_eq};
-ghost use Rattle.cgm_text.specs.declared.written.ConditionWord.{ConditionWord};
+ghost use Rattle.cgm_print.specs.declared.words.ConditionWord.{ConditionWord};
 ghost use Rattle.cgm_text.specs.declared.written.Connective.{Connective};
-ghost use Rattle.cgm_text.specs.declared.written.Direction.{Direction};
-ghost use Rattle.cgm_text.specs.declared.written.NameWord.{NameWord};
-ghost use Rattle.cgm_text.specs.declared.written.PairWord.{PairWord};
-ghost use Rattle.cgm_text.specs.declared.written.Sort.{Sort};
-ghost use Rattle.cgm_text.specs.declared.written.WeightWord.{WeightWord};
-ghost use Rattle.cgm_text.specs.Statements.{IsNoSingle, built_in, condition_word, direction_word, name_word, pair_word, sort_word, weight_word};
-ghost use Rattle.cgm_text.specs.Written.{connective_word};
+ghost use Rattle.cgm_text.specs.Parsed.{IsNoSingle, built_in, connective_word};
+ghost use Rattle.cgm_print.specs.declared.words.Direction.{Direction};
+ghost use Rattle.cgm_print.specs.declared.words.NameWord.{NameWord};
+ghost use Rattle.cgm_print.specs.declared.words.PairWord.{PairWord};
+ghost use Rattle.cgm_print.specs.declared.words.Sort.{Sort};
+ghost use Rattle.cgm_print.specs.declared.words.WeightWord.{WeightWord};
+ghost use Rattle.cgm_print.specs.Statements.{condition_word, direction_word, name_word, pair_word, sort_word, weight_word};
 
-use crate::written::{
-    Comparison, ConditionWord, Connective, Direction, Joint, NameWord, PairWord, Pairing, Sort,
-    WeightWord,
-};
+use crate::written::Connective;
 use cgm_base::is_word;
 use cgm_model::Quantity;
+use cgm_print::words::{
+    Comparison, ConditionWord, Direction, Joint, NameWord, PairWord, Pairing, Sort, WeightWord,
+};
 
 /// The connective with this word.
 pub(crate) fn connective_of(word: &[u8]) -> Option<Connective>

@@ -3,7 +3,7 @@ ghost use Rattle.std.specs.Prelude.{◌≡◌, ℕ, List};
 ghost use Rattle.cgm_model.specs.declared.lists.Lists.{Lists};
 ghost use Rattle.cgm_lex.specs.declared.stops.LineFault.{LineFault};
 ghost use Rattle.cgm_lex.specs.Readings.{IsDecided};
-ghost use Rattle.cgm_text.specs.Statements.{WrittenStatement, statement_tokens};
+ghost use Rattle.cgm_print.specs.Statements.{WrittenStatement, statement_tokens};
 ghost use Rattle.cgm_text.specs.Text.{IsReading, IsTextOf, HasFault, model_text};
 
 /// The law that after the statements so far a line comes to one thing, and always to one.

@@ -6,29 +6,25 @@ mod draft;
 mod fault;
 mod form;
 mod formula;
-mod formula_printer;
 mod judge;
 mod keyword;
 mod laws;
 mod linear;
 mod meaning;
-mod model_printer;
 mod names;
-mod printer;
 mod printing_laws;
 mod reader;
 mod shape;
-mod statement_printer;
 mod take;
 mod word;
 mod written;
 
 pub use cgm_lex::reading::{LineFault, TextStop};
+pub use cgm_print::print;
 pub use laws::{
     lines_are_decided, text_has_model_or_fault, text_has_one_fault, text_has_one_model,
     tokens_have_one_statement,
 };
-pub use model_printer::print;
 pub use printing_laws::{
     canonical_formula_is_read_back, canonical_statement_is_read_back, canonical_text_is_read_back,
 };

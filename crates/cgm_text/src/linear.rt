@@ -2,7 +2,8 @@
 ghost use Rattle.std.specs.Prelude.{◌≡◌, ◌≢◌, ◌<◌, List, ◌∷◌, codes, length, IfSome, IfNone, IfOk, IfErr, OnOk, [], ◌++◌};
 ghost use Rattle.cgm_lex.specs.Lexemes.{Lexeme, opening, word};
 ghost use Rattle.cgm_text.specs.Trees.{IsFor, linear_in, seen_all, term_in};
-ghost use Rattle.cgm_text.specs.Written.{BeginsNoLinear, BeginsNoTerm, spelled_linear, spelled_term};
+ghost use Rattle.cgm_text.specs.Parsed.{BeginsNoLinear, BeginsNoTerm};
+ghost use Rattle.cgm_print.specs.Written.{spelled_linear, spelled_term};
 
 use crate::take::{take_close, take_exact, take_number, take_open, take_word};
 use crate::written::{FormStop, Linear, Term};

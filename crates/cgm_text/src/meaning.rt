@@ -1,22 +1,23 @@
 //! What a written statement says after those before it.
 ghost use Rattle.std.specs.Prelude.{◌≡◌, ◌∷◌, map, All, IfOk};
 ghost use Rattle.std.specs.Str.{IsUtf8};
+ghost use Rattle.cgm_print.specs.Written.{formulas_of};
 ghost use Rattle.cgm_text.specs.Meaning.{compared_as, condition_of, declared_words, each_formula_of, element_named, formula_of, is_max, joined_as, linear_of, named_of, number_named, pair_of, paired_as, quantity_of, refinement_named, statement_of, sum_named, term_of, truth_named, weight_of};
-ghost use Rattle.cgm_text.specs.Statements.{statement_in};
-ghost use Rattle.cgm_text.specs.Trees.{formula_in, formulas_of, linear_in, term_in, word_in};
+ghost use Rattle.cgm_text.specs.Trees.{formula_in, linear_in, term_in, word_in};
+ghost use Rattle.cgm_text.specs.Parsed.{statement_in};
 
 use crate::keyword::built_in;
 use crate::take::bytes_in;
 use crate::word::name_of;
 use crate::written;
-use crate::written::{
-    Comparison, ConditionWord, Direction, Joint, NameWord, PairWord, Pairing, Term, Tree,
-    WeightWord, Word, Written,
-};
+use crate::written::{Term, Tree, Word, Written};
 use cgm_model::{
     Assertion, Edge, Element, ElementKind, Formula, Linear, ModelBuilder, Number, Objective, Parts,
     Preference, Quantity, Refinement, Rule, Statement, Sum, SumValue, Thing, Truth, Variable,
     Weighing,
+};
+use cgm_print::words::{
+    Comparison, ConditionWord, Direction, Joint, NameWord, PairWord, Pairing, WeightWord,
 };
 use sqlite_items::Boxed;
 use std::alloc::{AllocError as OutOfMemory, Global};

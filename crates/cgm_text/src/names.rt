@@ -2,16 +2,18 @@
 ghost use Rattle.std.specs.Prelude.{◌≡◌, List, [], ◌∷◌, map};
 ghost use Rattle.std.specs.Option.{option_or};
 ghost use Rattle.cgm_model.specs.Named.{thing_named};
+ghost use Rattle.cgm_print.specs.Written.{formulas_of};
 ghost use Rattle.cgm_text.specs.declared.names.Wanted.TheVariants as wants;
-ghost use Rattle.cgm_text.specs.Statements.{built_in, statement_in};
-ghost use Rattle.cgm_text.specs.Trees.{formula_in, formulas_of, linear_in, term_in, word_in};
+ghost use Rattle.cgm_text.specs.Trees.{formula_in, linear_in, term_in, word_in};
 ghost use Rattle.cgm_text.specs.Uses.{NameUse, end_of, first_fault, formula_uses, formulas_uses, linear_uses, named_uses, quantity_uses, statement_uses, suits, terms_uses, thing_fault, use_as};
+ghost use Rattle.cgm_text.specs.Parsed.{built_in, statement_in};
 
 use crate::keyword::built_in;
 use crate::take::bytes_in;
-use crate::written::{Linear, NameWord, PairWord, Term, Tree, Word, Written};
+use crate::written::{Linear, Term, Tree, Word, Written};
 use cgm_base::BadKind;
 use cgm_model::{ModelBuilder, Thing};
+use cgm_print::words::{NameWord, PairWord};
 
 /// What the place of a name wants.
 #[derive(Clone, Copy)]

@@ -8,7 +8,7 @@ ghost use Rattle.cgm_model.specs.WellFormed.{IsWellFormed};
 ghost use Rattle.cgm_text.specs.Text.{IsTextOf};
 ghost use Rattle.std.specs.List.{AllByRecursion};
 ghost use Rattle.cgm_text.specs.Back.{Knows, Given, Back, Fitting, HasWidth, StatementBack};
-ghost use Rattle.cgm_text.specs.Canonical.{canonical_text, written, written_formula};
+ghost use Rattle.cgm_print.specs.Canonical.{canonical_text, written, written_formula};
 
 /// The law that the canonical form of a formula is read back as this formula, after lists that know its names.
 pub fn canonical_formula_is_read_back()

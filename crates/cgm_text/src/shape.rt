@@ -2,15 +2,16 @@
 ghost use Rattle.std.specs.Prelude.{◌≡◌, ◌≢◌, ◌↔◌, ℕ, ℤ, Bool, List, [], ◌∷◌, ◌++◌, map, IsTrue, IfSome, IfNone, IfOk, IfErr, OnOk};
 ghost use Rattle.cgm_base.specs.Printed.{truth_word};
 ghost use Rattle.cgm_lex.specs.Lexemes.{number, word};
-ghost use Rattle.cgm_text.specs.declared.written.Direction.{Direction};
-ghost use Rattle.cgm_text.specs.Statements.{direction_word, must_tokens};
+ghost use Rattle.cgm_print.specs.declared.words.Direction.{Direction};
+ghost use Rattle.cgm_print.specs.Statements.{direction_word, must_tokens};
 ghost use Rattle.cgm_text.specs.Trees.{IsFor, seen_all, word_in};
 
 use crate::keyword::direction_of_word;
 use crate::take::{bytes_in, take_exact, take_number, take_word};
-use crate::written::{Direction, FormStop, Word};
+use crate::written::{FormStop, Word};
 use cgm_base::truth_of_word;
 use cgm_lex::Token;
+use cgm_print::words::Direction;
 use sqlite_items::Items;
 use std::alloc::Global;
 

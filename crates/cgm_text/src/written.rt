@@ -1,4 +1,7 @@
-//! Statements as they are written, with names as words.
+//! Statements as they are parsed, with names as places of their line.
+use cgm_print::words::{
+    Comparison, ConditionWord, Direction, Joint, NameWord, PairWord, Pairing, WeightWord,
+};
 use sqlite_items::{Boxed, Items};
 
 /// Why tokens make no part of a statement.
@@ -15,28 +18,6 @@ pub(crate) enum FormStop {
 pub(crate) struct Word {
     pub(crate) from: u32,
     pub(crate) to: u32,
-}
-
-/// A word that takes one or more formulas.
-#[derive(Clone, Copy)]
-pub(crate) enum Joint {
-    And,
-    Or,
-}
-
-/// A word that takes two formulas.
-#[derive(Clone, Copy)]
-pub(crate) enum Pairing {
-    Implies,
-    Iff,
-}
-
-/// A word that takes a linear expression and a number.
-#[derive(Clone, Copy)]
-pub(crate) enum Comparison {
-    AtMost,
-    AtLeast,
-    Equal,
 }
 
 /// The first word in the brackets of a formula.
@@ -74,61 +55,6 @@ pub(crate) enum Tree {
     Join(Joint, Boxed<Tree>, Items<Tree>),
     Pair(Pairing, Boxed<Tree>, Boxed<Tree>),
     Compare(Comparison, Linear, i64),
-}
-
-/// A statement word that takes one name and nothing else.
-#[derive(Clone, Copy)]
-pub(crate) enum NameWord {
-    Task,
-    Assume,
-    Sum,
-    Interest,
-}
-
-/// A statement word that takes two names.
-#[derive(Clone, Copy)]
-pub(crate) enum PairWord {
-    Contrib,
-    Conflict,
-    Bind,
-    Prefer,
-}
-
-/// A statement word that takes a name and a number.
-#[derive(Clone, Copy)]
-pub(crate) enum WeightWord {
-    Reward,
-    Penalty,
-}
-
-/// A statement word that takes a name and a formula.
-#[derive(Clone, Copy)]
-pub(crate) enum ConditionWord {
-    Positive,
-    Negative,
-}
-
-/// A statement word.
-#[derive(Clone, Copy)]
-pub(crate) enum Sort {
-    Goal,
-    Name(NameWord),
-    Refine,
-    Pair(PairWord),
-    Assert,
-    Var,
-    Value,
-    Weight(WeightWord),
-    Condition(ConditionWord),
-    Require,
-    Objective,
-}
-
-/// Which vectors an objective prefers.
-#[derive(Clone, Copy)]
-pub(crate) enum Direction {
-    Min,
-    Max,
 }
 
 /// A statement as it is written.

@@ -1,10 +1,11 @@
 use Rattle.std.proofs.Common.{◌∷◌, codes, map, arith}
 use Rattle.cgm_lex.specs.Lexemes.{opening, word}
-use Rattle.cgm_text.specs.Trees.{formula_in, formulas_of, seen_all}
-use Rattle.cgm_text.specs.Written.{BeginsNoFormula, joint_word, pairing_word}
+use Rattle.cgm_text.specs.Trees.{formula_in, seen_all}
+use Rattle.cgm_print.specs.Written.{joint_word, pairing_word, formulas_of}
 use Rattle.cgm_text.proofs.Exits.{exit}
 use Rattle.cgm_text.proofs.Formulas.{joint_found, joint_more, negation_found, no_connective, no_joint, no_joint_end, no_negation, no_negation_end, no_pairing, no_pairing_end, no_pairing_other, no_start, pairing_found}
 use Rattle.cgm_text.proofs.formula.+formula.Goals as goal
+use Rattle.cgm_text.specs.Parsed.{BeginsNoFormula}
 
 pub bracketed-returns-in-None-clause-form : goal.bracketed-returns-in-None-clause-form
 bracketed-returns-in-None-clause-form t c =

@@ -1,6 +1,6 @@
 use Rattle.std.proofs.Common.{◌≡◌, ◌+◌, ◌*◌, ◌<◌, length, map}
-use Rattle.cgm_text.specs.Trees.{formula_in, formulas_of, seen_all}
-use Rattle.cgm_text.specs.Written.{spelled, spelled_each}
+use Rattle.cgm_text.specs.Trees.{formula_in, seen_all}
+use Rattle.cgm_print.specs.Written.{spelled, spelled_each, formulas_of}
 use Rattle.cgm_text.proofs.formula.+formula.Given as goal
 
 abbrev pub decreases-bracketed : goal.decreases-bracketed

@@ -1,10 +1,11 @@
 use Rattle.std.proofs.Common.{◌∷◌, ap, ◌∙◌}
 use Rattle.cgm_lex.specs.Lexemes.{opening, word}
 use Rattle.cgm_text.specs.Trees.{linear_in, seen_all}
-use Rattle.cgm_text.specs.Written.{BeginsNoFormula, BeginsNoLinear, comparison_word, spelled_linear}
+use Rattle.cgm_print.specs.Written.{comparison_word, spelled_linear}
 use Rattle.cgm_text.proofs.Exits.{exit}
 use Rattle.cgm_text.proofs.Formulas.{no_comparison, no_comparison_end, no_comparison_number}
 use Rattle.cgm_text.proofs.formula.compared.Goals as goal
+use Rattle.cgm_text.specs.Parsed.{BeginsNoFormula, BeginsNoLinear}
 
 pub returns-in_err-left-clause-form : goal.returns-in_err-left-clause-form
 returns-in_err-left-clause-form c =

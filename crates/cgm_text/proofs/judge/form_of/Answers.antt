@@ -3,7 +3,7 @@ use Rattle.cgm_lex.specs.Lexemes.{word}
 use Rattle.cgm_model.specs.declared.lists.Lists.{Lists}
 use Rattle.cgm_text.specs.Line.{AreJudged}
 use Rattle.cgm_text.specs.Progress.{IsStop}
-use Rattle.cgm_text.specs.Statements.{sort_word}
+use Rattle.cgm_print.specs.Statements.{sort_word}
 use Rattle.cgm_text.specs.Trees.{seen_all}
 use Rattle.cgm_text.proofs.Judging.{word_stop}
 use Rattle.cgm_text.proofs.judge.form_of.Goals as goal

@@ -1,8 +1,8 @@
 use Rattle.cgm_text.specs.Line.{AreJudged}
-use Rattle.cgm_text.specs.Statements.{statement_in}
 use Rattle.cgm_text.specs.Trees.{seen_all}
 use Rattle.cgm_text.proofs.Judging.{declared_is_text, name_stop, stop_exit}
 use Rattle.cgm_text.proofs.judge.statement_of_tokens.Goals as goal
+use Rattle.cgm_text.specs.Parsed.{statement_in}
 
 pub returns-in_err-written-clause-stop : goal.returns-in_err-written-clause-stop
 returns-in_err-written-clause-stop c =

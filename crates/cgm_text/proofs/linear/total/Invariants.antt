@@ -1,6 +1,6 @@
 use Rattle.std.proofs.Common.{◌≡◌, ◌<◌, length, map}
 use Rattle.cgm_text.specs.Trees.{seen_all, term_in}
-use Rattle.cgm_text.specs.Written.{spelled_term, spelled_terms}
+use Rattle.cgm_print.specs.Written.{spelled_term, spelled_terms}
 use Rattle.cgm_text.proofs.linear.total.Given as goal
 
 abbrev pub invariant-loop-after : goal.invariant-loop-after

@@ -1,5 +1,6 @@
 use Rattle.std.proofs.Common.{◌≡◌, List, drop, map}
-use Rattle.cgm_text.specs.Trees.{formula_in, formulas_of}
+use Rattle.cgm_print.specs.Written.{formulas_of}
+use Rattle.cgm_text.specs.Trees.{formula_in}
 use Rattle.cgm_text.specs.Uses.{NameUse, first_fault, formulas_uses}
 use Rattle.cgm_text.proofs.names.+fault.Given as goal
 

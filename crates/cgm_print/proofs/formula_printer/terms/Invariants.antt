@@ -1,0 +1,12 @@
+use Rattle.std.proofs.Common.{◌≡◌, List, drop, map}
+use Rattle.cgm_lex.specs.Lexemes.{Lexeme}
+use Rattle.cgm_model.specs.Model.{lists_of}
+use Rattle.cgm_print.specs.Canonical.{written_term}
+use Rattle.cgm_print.specs.Printing.{followed}
+use Rattle.cgm_print.specs.Written.{spelled_terms}
+use Rattle.cgm_print.proofs.formula_printer.terms.Given as goal
+
+abbrev pub invariant-loop-one : goal.invariant-loop-one
+invariant-loop-one l =
+    (after : List Lexeme) → followed l.p (spelled_terms (map (written_term (lists_of l.m)) (drop l.one-index l.terms)) after)
+    ≡ followed l.initial.p (spelled_terms (map (written_term (lists_of l.m)) l.terms) after)

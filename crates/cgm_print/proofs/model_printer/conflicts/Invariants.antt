@@ -1,0 +1,11 @@
+use Rattle.std.proofs.Common.{◌≡◌, ◌++◌, drop, map}
+use Rattle.cgm_model.specs.declared.lists.Edge.{Edge}
+use Rattle.cgm_model.specs.declared.lists.Statement.TheVariants as statements
+use Rattle.cgm_model.specs.Model.{lists_of}
+use Rattle.cgm_print.specs.Canonical.{statement_lines}
+use Rattle.cgm_print.proofs.model_printer.conflicts.Given as goal
+
+abbrev pub invariant-loop-one : goal.invariant-loop-one
+invariant-loop-one l =
+    l.p.text.items ++ statement_lines (lists_of l.m) (map (λ (x : Edge). statements.Conflict x) (drop l.one-index l.all))
+    ≡ l.initial.p.text.items ++ statement_lines (lists_of l.m) (map (λ (x : Edge). statements.Conflict x) l.all)

@@ -1,0 +1,23 @@
+use Rattle.std.proofs.Common.{◌++◌, map, []}
+use Rattle.cgm_model.specs.declared.lists.Variable.{Variable}
+use Rattle.cgm_model.specs.declared.lists.Statement.TheVariants as statements
+use Rattle.cgm_model.specs.Model.{lists_of}
+use Rattle.cgm_print.specs.Canonical.{statement_lines}
+use Rattle.cgm_print.specs.Printing.{followed}
+use Rattle.cgm_print.proofs.Spaces.{line_more, lines_done}
+use Rattle.cgm_print.proofs.model_printer.variables.Goals as goal
+
+pub loop-one-preserved : goal.loop-one-preserved
+loop-one-preserved c =
+    let m = lists_of c.args.m.now in
+    let xs = c.args.all.now in
+    line_more m (λ (x : Variable). statements.Variable x) xs c.loop-one.one-index c.one-item.result c.loop-one-test.true c.one-item.is
+    (c.args.p.now.text.items ++ statement_lines m (map (λ (x : Variable). statements.Variable x) xs)) c.loop-one.p.text.items (followed c.variable.new.p []) c.end_line.new.self.text.items
+    c.loop-one.invariant c.in_ok-variable.ensures c.in_ok-end_line.ensures
+
+pub returns : goal.returns
+returns c =
+    let m = lists_of c.args.m.now in
+    let xs = c.args.all.now in
+    lines_done m (λ (x : Variable). statements.Variable x) xs c.loop-one.one-index c.loop-one-test.false
+    (c.args.p.now.text.items ++ statement_lines m (map (λ (x : Variable). statements.Variable x) xs)) c.loop-one.p.text.items c.loop-one.invariant

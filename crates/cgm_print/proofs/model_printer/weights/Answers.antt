@@ -1,0 +1,18 @@
+use Rattle.std.proofs.Common.{◌++◌, List, map, ap, ◌∙◌}
+use Rattle.cgm_model.specs.declared.lists.Preference.{Preference}
+use Rattle.cgm_model.specs.declared.lists.SumValue.{SumValue}
+use Rattle.cgm_model.specs.declared.lists.Weighing.{Weighing}
+use Rattle.cgm_model.specs.declared.lists.Statement.TheVariants as statements
+use Rattle.cgm_model.specs.Model.{lists_of}
+use Rattle.cgm_print.specs.Canonical.{statement_lines}
+use Rattle.cgm_print.proofs.Spaces.{four_groups}
+use Rattle.cgm_print.proofs.model_printer.weights.Goals as goal
+
+pub returns : goal.returns
+returns c =
+    let m = lists_of c.args.m.now in
+    four_groups m (map (λ (x : SumValue). statements.Value x) m.values) (map (λ (x : Weighing). statements.Reward x) m.rewards) (map (λ (x : Weighing). statements.Penalty x) m.penalties) (map (λ (x : Preference). statements.Prefer x) m.prefers) c.args.p.now.text.items c.values.new.p.text.items c.rewards.new.p.text.items c.penalties.new.p.text.items c.preferences.new.p.text.items
+    (c.in_ok-values.ensures ∙ ap (λ (xs : List SumValue). c.args.p.now.text.items ++ statement_lines m (map (λ (x : SumValue). statements.Value x) xs)) c.as_slice.ensures)
+    (c.in_ok-rewards.ensures ∙ ap (λ (xs : List Weighing). c.values.new.p.text.items ++ statement_lines m (map (λ (x : Weighing). statements.Reward x) xs)) c.as_slice-2.ensures)
+    (c.in_ok-penalties.ensures ∙ ap (λ (xs : List Weighing). c.rewards.new.p.text.items ++ statement_lines m (map (λ (x : Weighing). statements.Penalty x) xs)) c.as_slice-3.ensures)
+    (c.in_ok-preferences.ensures ∙ ap (λ (xs : List Preference). c.penalties.new.p.text.items ++ statement_lines m (map (λ (x : Preference). statements.Prefer x) xs)) c.as_slice-4.ensures)

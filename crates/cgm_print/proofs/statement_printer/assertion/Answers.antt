@@ -1,0 +1,13 @@
+use Rattle.std.proofs.Common.{codes, []}
+use Rattle.cgm_base.specs.Printed.{truth_word}
+use Rattle.cgm_model.specs.Model.{lists_of}
+use Rattle.cgm_print.specs.Canonical.{element_name}
+use Rattle.cgm_print.specs.Printing.{followed}
+use Rattle.cgm_print.proofs.Spaces.{two_names}
+use Rattle.cgm_print.proofs.statement_printer.assertion.Goals as goal
+
+pub returns : goal.returns
+returns c =
+    let m = lists_of c.args.m.now in
+    two_names (codes "assert") c.element_name.result.now c.truth_word.result.now (element_name m c.args.a.now.element) (truth_word c.args.a.now.truth) c.args.p.now.text.items (followed c.pair.new.p [])
+    c.element_name.ensures c.truth_word.ensures c.in_ok-pair.ensures

@@ -1,0 +1,12 @@
+use Rattle.std.proofs.Common.{codes, []}
+use Rattle.cgm_model.specs.Model.{lists_of}
+use Rattle.cgm_print.specs.Canonical.{element_name}
+use Rattle.cgm_print.specs.Printing.{followed}
+use Rattle.cgm_print.proofs.Spaces.{two_names}
+use Rattle.cgm_print.proofs.statement_printer.conflict.Goals as goal
+
+pub returns : goal.returns
+returns c =
+    let m = lists_of c.args.m.now in
+    two_names (codes "conflict") c.element_name.result.now c.element_name-2.result.now (element_name m c.args.e.now.from) (element_name m c.args.e.now.to) c.args.p.now.text.items (followed c.pair.new.p [])
+    c.element_name.ensures c.element_name-2.ensures c.in_ok-pair.ensures

@@ -1,0 +1,13 @@
+use Rattle.std.proofs.Common.{codes, []}
+use Rattle.cgm_model.specs.Model.{lists_of}
+use Rattle.cgm_print.specs.Canonical.{direction_of, quantity_name}
+use Rattle.cgm_print.specs.Printing.{followed}
+use Rattle.cgm_print.specs.Statements.{direction_word}
+use Rattle.cgm_print.proofs.Spaces.{two_names}
+use Rattle.cgm_print.proofs.statement_printer.objective.Goals as goal
+
+pub returns : goal.returns
+returns c =
+    let m = lists_of c.args.m.now in
+    two_names (codes "objective") c.direction_word.result.now c.quantity_name.result.now (direction_word (direction_of c.args.o.now.max)) (quantity_name m c.args.o.now.of) c.args.p.now.text.items (followed c.pair.new.p [])
+    c.direction_word.ensures c.quantity_name.ensures c.in_ok-pair.ensures

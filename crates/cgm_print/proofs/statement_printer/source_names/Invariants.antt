@@ -1,0 +1,11 @@
+use Rattle.std.proofs.Common.{◌≡◌, List, drop, map}
+use Rattle.cgm_lex.specs.Lexemes.{Lexeme}
+use Rattle.cgm_model.specs.Model.{lists_of}
+use Rattle.cgm_print.specs.Canonical.{element_name}
+use Rattle.cgm_print.specs.Printing.{followed, words_before}
+use Rattle.cgm_print.proofs.statement_printer.source_names.Given as goal
+
+abbrev pub invariant-loop-number : goal.invariant-loop-number
+invariant-loop-number l =
+    (after : List Lexeme) → followed l.p (words_before (map (element_name (lists_of l.m)) (drop l.number-index l.numbers)) after)
+    ≡ followed l.initial.p (words_before (map (element_name (lists_of l.m)) l.numbers) after)

@@ -1,0 +1,17 @@
+use Rattle.std.proofs.Common.{◌≡◌, ◌∙◌, ◌∷◌, [], ◌++◌, ap, List, ℕ, ℤ, arith, to_z, of_z, w64}
+use Rattle.std.proofs.lemmas.Int.{ints}
+use Rattle.cgm_lex.specs.Lexemes.{number, word}
+use Rattle.cgm_lex.specs.Spelling.{spelled_line}
+use Rattle.cgm_model.specs.Model.{lists_of}
+use Rattle.cgm_print.specs.Canonical.{element_name}
+use Rattle.cgm_print.proofs.statement_printer.weighing.Goals as goal
+
+pub returns : goal.returns
+returns c =
+    let old = c.args.p.now.text.items in
+    let first = c.args.first.now in
+    let k = to_z w64 (of_z w64 c.args.w.now.k) in
+    let same : to_z w64 (of_z w64 c.args.w.now.k) ≡ c.args.w.now.k = omega (arith, ints) in
+    c.in_ok-number.ensures [] ∙ c.in_ok-named_line.ensures (number k ∷ [])
+    ∙ ap (λ (x : List ℕ). old ++ spelled_line (word first ∷ word x ∷ number k ∷ [])) c.element_name.ensures
+    ∙ ap (λ (z : ℤ). old ++ spelled_line (word first ∷ word (element_name (lists_of c.args.m.now) c.args.w.now.element) ∷ number z ∷ [])) same

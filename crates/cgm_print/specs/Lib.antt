@@ -1,0 +1,4 @@
+pub mod Canonical
+pub mod Printing
+pub mod Statements
+pub mod Written

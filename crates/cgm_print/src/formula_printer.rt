@@ -1,0 +1,193 @@
+//! Formulas as they are printed.
+ghost use Rattle.std.specs.Prelude.{◌≡◌, map, OnOk};
+ghost use Rattle.cgm_model.specs.Model.{lists_of};
+ghost use Rattle.cgm_print.specs.Canonical.{element_name as name_of_element, joined_with, number_name as name_of_number, refinement_name as name_of_refinement, sum_name as name_of_sum, truth_name as name_of_truth, variable_name as name_of_variable, written_formula, written_linear, written_term};
+ghost use Rattle.cgm_print.specs.Printing.{Writes};
+ghost use Rattle.cgm_print.specs.Written.{compared as written_comparison, comparison_word as word_of_comparison, joint_word as word_of_joint, spelled, spelled_each, spelled_linear, spelled_term, spelled_terms, formulas_of};
+
+use crate::printer::Printer;
+use crate::words::{Comparison, Joint};
+use cgm_model::{Formula, Linear, Model, Number, Truth};
+use sqlite_items::at;
+use std::alloc::AllocError as OutOfMemory;
+
+/// The name of an element; what isn't there has an empty one, here and below.
+pub(crate) fn element_name(m: &Model, k: u32) -> &[u8]
+    ensures { result.now ≡ name_of_element (lists_of m.now) k }
+{
+    match at(m.elements.as_slice(), k as usize) {
+        None => b"",
+        Some(element) => element.name.as_slice(),
+    }
+}
+
+pub(crate) fn refinement_name(m: &Model, k: u32) -> &[u8]
+    ensures { result.now ≡ name_of_refinement (lists_of m.now) k }
+{
+    match at(m.refinements.as_slice(), k as usize) {
+        None => b"",
+        Some(refinement) => refinement.name.as_slice(),
+    }
+}
+
+pub(crate) fn truth_name(m: &Model, x: Truth) -> &[u8]
+    ensures { result.now ≡ name_of_truth (lists_of m.now) x }
+{
+    match x {
+        Truth::Element(k) => element_name(m, k),
+        Truth::Refinement(k) => refinement_name(m, k),
+    }
+}
+
+pub(crate) fn variable_name(m: &Model, k: u32) -> &[u8]
+    ensures { result.now ≡ name_of_variable (lists_of m.now) k }
+{
+    match at(m.vars.as_slice(), k as usize) {
+        None => b"",
+        Some(variable) => variable.name.as_slice(),
+    }
+}
+
+pub(crate) fn sum_name(m: &Model, k: u32) -> &[u8]
+    ensures { result.now ≡ name_of_sum (lists_of m.now) k }
+{
+    match at(m.sums.as_slice(), k as usize) {
+        None => b"",
+        Some(sum) => sum.name.as_slice(),
+    }
+}
+
+fn number_name(m: &Model, x: Number) -> &[u8]
+    ensures { result.now ≡ name_of_number (lists_of m.now) x }
+{
+    match x {
+        Number::Var(k) => variable_name(m, k),
+        Number::Sum(k) => sum_name(m, k),
+    }
+}
+
+fn term(p: &mut Printer, m: &Model, term: (i64, Number)) -> Result<(), OutOfMemory>
+    ensures { OnOk result (Writes p.old p.new (spelled_term (written_term (lists_of m.now) term))) }
+{
+    let name = number_name(m, term.1);
+    if term.0 == 1 {
+        return p.word(name);
+    }
+    p.open_with(b"*")?;
+    p.number(term.0)?;
+    p.word(name)?;
+    p.close()
+}
+
+fn terms(p: &mut Printer, m: &Model, terms: &[(i64, Number)]) -> Result<(), OutOfMemory>
+    ensures { OnOk result (Writes p.old p.new (spelled_terms (map (written_term (lists_of m.now)) terms.now))) }
+{
+    for one in terms {
+        term(p, m, *one)?;
+    }
+    Ok(())
+}
+
+fn linear(p: &mut Printer, m: &Model, linear: &[(i64, Number)]) -> Result<(), OutOfMemory>
+    ensures { OnOk result (Writes p.old p.new (spelled_linear (written_linear (lists_of m.now) linear.now))) }
+{
+    match linear {
+        [] => p.word(b""),
+        [_] => terms(p, m, linear),
+        [_, _, ..] => {
+            p.open_with(b"+")?;
+            terms(p, m, linear)?;
+            p.close()
+        }
+    }
+}
+
+fn joint_word(joint: Joint) -> &'static [u8]
+    ensures { result.now ≡ word_of_joint joint }
+{
+    match joint {
+        Joint::And => b"and",
+        Joint::Or => b"or",
+    }
+}
+
+fn comparison_word(comparison: Comparison) -> &'static [u8]
+    ensures { result.now ≡ word_of_comparison comparison }
+{
+    match comparison {
+        Comparison::AtMost => b"<=",
+        Comparison::AtLeast => b">=",
+        Comparison::Equal => b"=",
+    }
+}
+
+fn comparison(
+    p: &mut Printer,
+    m: &Model,
+    how: Comparison,
+    total: &Linear,
+    k: i64,
+) -> Result<(), OutOfMemory>
+    ensures { OnOk result (Writes p.old p.new (spelled (written_comparison how (written_linear (lists_of m.now) total.now.terms) k))) }
+{
+    p.open_with(comparison_word(how))?;
+    linear(p, m, total.terms.as_slice())?;
+    p.number(k)?;
+    p.close()
+}
+
+/// Writes a formula.
+#[cycle(formula)]
+pub(crate) fn formula(p: &mut Printer, m: &Model, f: &Formula) -> Result<(), OutOfMemory>
+    ensures { OnOk result (Writes p.old p.new (spelled (written_formula (lists_of m.now) f.now))) }
+{
+    match f {
+        Formula::Name(x) => p.word(truth_name(m, *x)),
+        Formula::Not(part) => {
+            p.open_with(b"not")?;
+            formula(p, m, part.get())?;
+            p.close()
+        }
+        Formula::And(parts) => joined(p, m, Joint::And, parts.as_slice()),
+        Formula::Or(parts) => joined(p, m, Joint::Or, parts.as_slice()),
+        Formula::Implies(one, other) => {
+            p.open_with(b"=>")?;
+            formula(p, m, one.get())?;
+            formula(p, m, other.get())?;
+            p.close()
+        }
+        Formula::Iff(one, other) => {
+            p.open_with(b"iff")?;
+            formula(p, m, one.get())?;
+            formula(p, m, other.get())?;
+            p.close()
+        }
+        Formula::AtMost(total, k) => comparison(p, m, Comparison::AtMost, total, *k),
+        Formula::AtLeast(total, k) => comparison(p, m, Comparison::AtLeast, total, *k),
+        Formula::Equal(total, k) => comparison(p, m, Comparison::Equal, total, *k),
+    }
+}
+
+#[cycle(formula)]
+fn joined(p: &mut Printer, m: &Model, joint: Joint, parts: &[Formula]) -> Result<(), OutOfMemory>
+    ensures { OnOk result (Writes p.old p.new (spelled (joined_with joint (map (written_formula (lists_of m.now)) parts.now)))) }
+{
+    match parts {
+        [] => p.word(b""),
+        [_, ..] => {
+            p.open_with(joint_word(joint))?;
+            each(p, m, parts)?;
+            p.close()
+        }
+    }
+}
+
+#[cycle(formula)]
+fn each(p: &mut Printer, m: &Model, parts: &[Formula]) -> Result<(), OutOfMemory>
+    ensures { OnOk result (Writes p.old p.new (spelled_each (formulas_of (map (written_formula (lists_of m.now)) parts.now)))) }
+{
+    for part in parts {
+        formula(p, m, part)?;
+    }
+    Ok(())
+}

@@ -1,0 +1,10 @@
+//! The canonical text of a model, and the words of statements and formulas.
+#![tactic(auto)]
+
+mod formula_printer;
+mod model_printer;
+mod printer;
+mod statement_printer;
+pub mod words;
+
+pub use model_printer::print;

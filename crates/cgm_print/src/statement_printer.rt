@@ -1,0 +1,259 @@
+//! The line of each statement.
+ghost use Rattle.std.specs.Prelude.{◌≡◌, ◌∷◌, [], codes, map, OnOk};
+ghost use Rattle.cgm_lex.specs.Lexemes.{number, word};
+ghost use Rattle.cgm_model.specs.Model.{lists_of};
+ghost use Rattle.cgm_model.specs.declared.lists.Statement.TheVariants as Statement;
+ghost use Rattle.cgm_print.specs.Canonical.{direction_of, element_name as name_of_element, quantity_name as name_of_quantity, truth_name as name_of_truth, written, written_element, written_formula, written_rule};
+ghost use Rattle.cgm_print.specs.Printing.{Begins, IsLine, Writes, words_before};
+ghost use Rattle.cgm_print.specs.Statements.{direction_word as word_of_direction, goal, statement_tokens};
+ghost use Rattle.cgm_print.specs.Written.{spelled};
+
+use crate::formula_printer::{
+    element_name, formula, refinement_name, sum_name, truth_name, variable_name,
+};
+use crate::printer::Printer;
+use cgm_base::truth_word;
+use cgm_model::{
+    Assertion, Edge, Element, ElementKind, Formula, Model, Objective, Preference, Quantity,
+    Refinement, Rule, Sum, SumValue, Truth, Variable, Weighing,
+};
+use std::alloc::AllocError as OutOfMemory;
+
+/// Begins a line with a statement word and a name.
+fn named_line(p: &mut Printer, first: &[u8], name: &[u8]) -> Result<(), OutOfMemory>
+    ensures { OnOk result (Begins p.old p.new (λ after. word first.now ∷ word name.now ∷ after)) }
+{
+    p.begin_line(first)?;
+    p.word(name)?;
+    Ok(())
+}
+
+fn goal_line(p: &mut Printer, name: &[u8], must: bool) -> Result<(), OutOfMemory>
+    ensures { OnOk result (IsLine p.old p.new (statement_tokens (goal name.now must))) }
+{
+    named_line(p, b"goal", name)?;
+    if must {
+        p.word(b"must")?;
+    }
+    Ok(())
+}
+
+/// Writes the line of an element, without its line feed, here and below.
+pub(crate) fn element(p: &mut Printer, e: &Element) -> Result<(), OutOfMemory>
+    ensures { OnOk result (IsLine p.old p.new (statement_tokens (written_element e.now.name e.now.kind e.now.must))) }
+{
+    match e.kind {
+        ElementKind::Goal => goal_line(p, e.name.as_slice(), e.must)?,
+        ElementKind::Task => named_line(p, b"task", e.name.as_slice())?,
+        ElementKind::Assume => named_line(p, b"assume", e.name.as_slice())?,
+    }
+    Ok(())
+}
+
+fn source_names(p: &mut Printer, m: &Model, numbers: &[u32]) -> Result<(), OutOfMemory>
+    ensures { OnOk result (Writes p.old p.new (words_before (map (name_of_element (lists_of m.now)) numbers.now))) }
+{
+    for number in numbers {
+        p.word(element_name(m, *number))?;
+    }
+    Ok(())
+}
+
+pub(crate) fn refinement(p: &mut Printer, m: &Model, r: &Refinement) -> Result<(), OutOfMemory>
+    ensures { OnOk result (IsLine p.old p.new (statement_tokens (written (lists_of m.now) (Statement.Refine r.now)))) }
+{
+    named_line(p, b"refine", r.name.as_slice())?;
+    p.word(element_name(m, r.target))?;
+    p.colon()?;
+    let numbers = r.sources.as_slice();
+    match numbers {
+        [] => p.word(b"")?,
+        [_, ..] => source_names(p, m, numbers)?,
+    }
+    Ok(())
+}
+
+pub(crate) fn variable(p: &mut Printer, v: &Variable) -> Result<(), OutOfMemory>
+    ensures { OnOk result (IsLine p.old p.new (word (codes "var") ∷ word v.now.name ∷ number v.now.lo ∷ number v.now.hi ∷ [])) }
+{
+    named_line(p, b"var", v.name.as_slice())?;
+    p.number(v.lo)?;
+    p.number(v.hi)?;
+    Ok(())
+}
+
+fn pair(p: &mut Printer, first: &[u8], one: &[u8], other: &[u8]) -> Result<(), OutOfMemory>
+    ensures { OnOk result (IsLine p.old p.new (word first.now ∷ word one.now ∷ word other.now ∷ [])) }
+{
+    named_line(p, first, one)?;
+    p.word(other)?;
+    Ok(())
+}
+
+pub(crate) fn contribution(p: &mut Printer, m: &Model, e: &Edge) -> Result<(), OutOfMemory>
+    ensures { OnOk result (IsLine p.old p.new (statement_tokens (written (lists_of m.now) (Statement.Contrib e.now)))) }
+{
+    pair(
+        p,
+        b"contrib",
+        element_name(m, e.from),
+        element_name(m, e.to),
+    )?;
+    Ok(())
+}
+
+pub(crate) fn conflict(p: &mut Printer, m: &Model, e: &Edge) -> Result<(), OutOfMemory>
+    ensures { OnOk result (IsLine p.old p.new (statement_tokens (written (lists_of m.now) (Statement.Conflict e.now)))) }
+{
+    pair(
+        p,
+        b"conflict",
+        element_name(m, e.from),
+        element_name(m, e.to),
+    )?;
+    Ok(())
+}
+
+pub(crate) fn binding(p: &mut Printer, m: &Model, e: &Edge) -> Result<(), OutOfMemory>
+    ensures { OnOk result (IsLine p.old p.new (statement_tokens (written (lists_of m.now) (Statement.Bind e.now)))) }
+{
+    pair(
+        p,
+        b"bind",
+        refinement_name(m, e.from),
+        refinement_name(m, e.to),
+    )?;
+    Ok(())
+}
+
+pub(crate) fn assertion(p: &mut Printer, m: &Model, a: &Assertion) -> Result<(), OutOfMemory>
+    ensures { OnOk result (IsLine p.old p.new (statement_tokens (written (lists_of m.now) (Statement.Assert a.now)))) }
+{
+    pair(
+        p,
+        b"assert",
+        element_name(m, a.element),
+        truth_word(a.truth),
+    )?;
+    Ok(())
+}
+
+pub(crate) fn sum(p: &mut Printer, s: &Sum) -> Result<(), OutOfMemory>
+    ensures { OnOk result (IsLine p.old p.new (word (codes "sum") ∷ word s.now.name ∷ [])) }
+{
+    named_line(p, b"sum", s.name.as_slice())?;
+    Ok(())
+}
+
+pub(crate) fn value(p: &mut Printer, m: &Model, v: &SumValue) -> Result<(), OutOfMemory>
+    ensures { OnOk result (IsLine p.old p.new (statement_tokens (written (lists_of m.now) (Statement.Value v.now)))) }
+{
+    named_line(p, b"value", sum_name(m, v.sum))?;
+    p.word(truth_name(m, v.of))?;
+    p.number(v.k)?;
+    Ok(())
+}
+
+fn weighing(p: &mut Printer, m: &Model, first: &[u8], w: &Weighing) -> Result<(), OutOfMemory>
+    ensures { OnOk result (IsLine p.old p.new (word first.now ∷ word (name_of_element (lists_of m.now) w.now.element) ∷ number w.now.k ∷ [])) }
+{
+    named_line(p, first, element_name(m, w.element))?;
+    p.number(w.k)?;
+    Ok(())
+}
+
+pub(crate) fn reward(p: &mut Printer, m: &Model, w: &Weighing) -> Result<(), OutOfMemory>
+    ensures { OnOk result (IsLine p.old p.new (statement_tokens (written (lists_of m.now) (Statement.Reward w.now)))) }
+{
+    weighing(p, m, b"reward", w)
+}
+
+pub(crate) fn penalty(p: &mut Printer, m: &Model, w: &Weighing) -> Result<(), OutOfMemory>
+    ensures { OnOk result (IsLine p.old p.new (statement_tokens (written (lists_of m.now) (Statement.Penalty w.now)))) }
+{
+    weighing(p, m, b"penalty", w)
+}
+
+pub(crate) fn preference(
+    p: &mut Printer,
+    m: &Model,
+    preferred: &Preference,
+) -> Result<(), OutOfMemory>
+    ensures { OnOk result (IsLine p.old p.new (statement_tokens (written (lists_of m.now) (Statement.Prefer preferred.now)))) }
+{
+    pair(
+        p,
+        b"prefer",
+        truth_name(m, preferred.better),
+        truth_name(m, preferred.worse),
+    )?;
+    Ok(())
+}
+
+pub(crate) fn interest(p: &mut Printer, m: &Model, k: u32) -> Result<(), OutOfMemory>
+    ensures { OnOk result (IsLine p.old p.new (statement_tokens (written (lists_of m.now) (Statement.Interest k)))) }
+{
+    named_line(p, b"interest", element_name(m, k))?;
+    Ok(())
+}
+
+fn direction_word(max: bool) -> &'static [u8]
+    ensures { result.now ≡ word_of_direction (direction_of max) }
+{
+    if max { b"max" } else { b"min" }
+}
+
+fn quantity_name(m: &Model, q: Quantity) -> &[u8]
+    ensures { result.now ≡ name_of_quantity (lists_of m.now) q }
+{
+    match q {
+        Quantity::Var(k) => variable_name(m, k),
+        Quantity::Sum(k) => sum_name(m, k),
+        _ => q.word(),
+    }
+}
+
+pub(crate) fn objective(p: &mut Printer, m: &Model, o: &Objective) -> Result<(), OutOfMemory>
+    ensures { OnOk result (IsLine p.old p.new (statement_tokens (written (lists_of m.now) (Statement.Objective o.now)))) }
+{
+    pair(
+        p,
+        b"objective",
+        direction_word(o.max),
+        quantity_name(m, o.of),
+    )?;
+    Ok(())
+}
+
+fn condition(
+    p: &mut Printer,
+    m: &Model,
+    first: &[u8],
+    x: Truth,
+    f: &Formula,
+) -> Result<(), OutOfMemory>
+    ensures { OnOk result (IsLine p.old p.new (word first.now ∷ word (name_of_truth (lists_of m.now) x) ∷ spelled (written_formula (lists_of m.now) f.now) [])) }
+{
+    named_line(p, first, truth_name(m, x))?;
+    formula(p, m, f)?;
+    Ok(())
+}
+
+fn requirement(p: &mut Printer, m: &Model, f: &Formula) -> Result<(), OutOfMemory>
+    ensures { OnOk result (IsLine p.old p.new (word (codes "require") ∷ spelled (written_formula (lists_of m.now) f.now) [])) }
+{
+    p.begin_line(b"require")?;
+    formula(p, m, f)?;
+    Ok(())
+}
+
+pub(crate) fn rule(p: &mut Printer, m: &Model, r: &Rule) -> Result<(), OutOfMemory>
+    ensures { OnOk result (IsLine p.old p.new (statement_tokens (written_rule (lists_of m.now) r.now))) }
+{
+    match r {
+        Rule::Positive(x, f) => condition(p, m, b"pre+", *x, f)?,
+        Rule::Negative(x, f) => condition(p, m, b"pre-", *x, f)?,
+        Rule::Require(f) => requirement(p, m, f)?,
+    }
+    Ok(())
+}

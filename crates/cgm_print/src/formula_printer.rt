@@ -1,70 +1,15 @@
 //! Formulas as they are printed.
 ghost use Rattle.std.specs.Prelude.{◌≡◌, map, OnOk};
 ghost use Rattle.cgm_model.specs.Model.{lists_of};
-ghost use Rattle.cgm_print.specs.Canonical.{element_name as name_of_element, joined_with, number_name as name_of_number, refinement_name as name_of_refinement, sum_name as name_of_sum, truth_name as name_of_truth, variable_name as name_of_variable, written_formula, written_linear, written_term};
+ghost use Rattle.cgm_print.specs.Canonical.{joined_with, written_formula, written_linear, written_term};
 ghost use Rattle.cgm_print.specs.Printing.{Writes};
 ghost use Rattle.cgm_print.specs.Written.{compared as written_comparison, comparison_word as word_of_comparison, joint_word as word_of_joint, spelled, spelled_each, spelled_linear, spelled_term, spelled_terms, formulas_of};
 
+use crate::names::{number_name, truth_name};
 use crate::printer::Printer;
 use crate::words::{Comparison, Joint};
-use cgm_model::{Formula, Linear, Model, Number, Truth};
-use sqlite_items::at;
+use cgm_model::{Formula, Linear, Model, Number};
 use std::alloc::AllocError as OutOfMemory;
-
-/// The name of an element; what isn't there has an empty one, here and below.
-pub(crate) fn element_name(m: &Model, k: u32) -> &[u8]
-    ensures { result.now ≡ name_of_element (lists_of m.now) k }
-{
-    match at(m.elements.as_slice(), k as usize) {
-        None => b"",
-        Some(element) => element.name.as_slice(),
-    }
-}
-
-pub(crate) fn refinement_name(m: &Model, k: u32) -> &[u8]
-    ensures { result.now ≡ name_of_refinement (lists_of m.now) k }
-{
-    match at(m.refinements.as_slice(), k as usize) {
-        None => b"",
-        Some(refinement) => refinement.name.as_slice(),
-    }
-}
-
-pub(crate) fn truth_name(m: &Model, x: Truth) -> &[u8]
-    ensures { result.now ≡ name_of_truth (lists_of m.now) x }
-{
-    match x {
-        Truth::Element(k) => element_name(m, k),
-        Truth::Refinement(k) => refinement_name(m, k),
-    }
-}
-
-pub(crate) fn variable_name(m: &Model, k: u32) -> &[u8]
-    ensures { result.now ≡ name_of_variable (lists_of m.now) k }
-{
-    match at(m.vars.as_slice(), k as usize) {
-        None => b"",
-        Some(variable) => variable.name.as_slice(),
-    }
-}
-
-pub(crate) fn sum_name(m: &Model, k: u32) -> &[u8]
-    ensures { result.now ≡ name_of_sum (lists_of m.now) k }
-{
-    match at(m.sums.as_slice(), k as usize) {
-        None => b"",
-        Some(sum) => sum.name.as_slice(),
-    }
-}
-
-fn number_name(m: &Model, x: Number) -> &[u8]
-    ensures { result.now ≡ name_of_number (lists_of m.now) x }
-{
-    match x {
-        Number::Var(k) => variable_name(m, k),
-        Number::Sum(k) => sum_name(m, k),
-    }
-}
 
 fn term(p: &mut Printer, m: &Model, term: (i64, Number)) -> Result<(), OutOfMemory>
     ensures { OnOk result (Writes p.old p.new (spelled_term (written_term (lists_of m.now) term))) }

@@ -3,6 +3,7 @@
 
 mod formula_printer;
 mod model_printer;
+pub mod names;
 mod printer;
 mod statement_printer;
 pub mod words;

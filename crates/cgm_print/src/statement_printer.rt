@@ -3,19 +3,18 @@ ghost use Rattle.std.specs.Prelude.{◌≡◌, ◌∷◌, [], codes, map, OnOk};
 ghost use Rattle.cgm_lex.specs.Lexemes.{number, word};
 ghost use Rattle.cgm_model.specs.Model.{lists_of};
 ghost use Rattle.cgm_model.specs.declared.lists.Statement.TheVariants as Statement;
-ghost use Rattle.cgm_print.specs.Canonical.{direction_of, element_name as name_of_element, quantity_name as name_of_quantity, truth_name as name_of_truth, written, written_element, written_formula, written_rule};
+ghost use Rattle.cgm_print.specs.Canonical.{direction_of, element_name as name_of_element, truth_name as name_of_truth, written, written_element, written_formula, written_rule};
 ghost use Rattle.cgm_print.specs.Printing.{Begins, IsLine, Writes, words_before};
 ghost use Rattle.cgm_print.specs.Statements.{direction_word as word_of_direction, goal, statement_tokens};
 ghost use Rattle.cgm_print.specs.Written.{spelled};
 
-use crate::formula_printer::{
-    element_name, formula, refinement_name, sum_name, truth_name, variable_name,
-};
+use crate::formula_printer::formula;
+use crate::names::{element_name, quantity_name, refinement_name, sum_name, truth_name};
 use crate::printer::Printer;
 use cgm_base::truth_word;
 use cgm_model::{
-    Assertion, Edge, Element, ElementKind, Formula, Model, Objective, Preference, Quantity,
-    Refinement, Rule, Sum, SumValue, Truth, Variable, Weighing,
+    Assertion, Edge, Element, ElementKind, Formula, Model, Objective, Preference, Refinement, Rule,
+    Sum, SumValue, Truth, Variable, Weighing,
 };
 use std::alloc::AllocError as OutOfMemory;
 
@@ -201,16 +200,6 @@ fn direction_word(max: bool) -> &'static [u8]
     ensures { result.now ≡ word_of_direction (direction_of max) }
 {
     if max { b"max" } else { b"min" }
-}
-
-fn quantity_name(m: &Model, q: Quantity) -> &[u8]
-    ensures { result.now ≡ name_of_quantity (lists_of m.now) q }
-{
-    match q {
-        Quantity::Var(k) => variable_name(m, k),
-        Quantity::Sum(k) => sum_name(m, k),
-        _ => q.word(),
-    }
 }
 
 pub(crate) fn objective(p: &mut Printer, m: &Model, o: &Objective) -> Result<(), OutOfMemory>

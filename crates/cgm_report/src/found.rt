@@ -1,16 +1,14 @@
 //! The lines of a found realization.
 ghost use Rattle.std.specs.Prelude.{◌≡◌, ◌++◌, length, OnOk, IfOk};
 ghost use Rattle.cgm_model.specs.Model.{lists_of};
-ghost use Rattle.cgm_print.specs.Canonical.{quantity_name, sum_name, variable_name};
 ghost use Rattle.cgm_report.specs.Report.{element_word, objective_word, found_line, number_line, element_lines, refinement_lines, variable_lines, sum_lines};
 ghost use Rattle.cgm_report.specs.Shown.{IsShowable, shown, shown_line, shown_lines, vector_lines};
 
 use cgm_base::truth_word;
 use cgm_encode::Found;
 use cgm_formula::OutOfMemory;
-use cgm_model::{
-    Element, ElementKind, Model, Objective, Quantity, Refinement, Sum, Variable, sums,
-};
+use cgm_model::{Element, ElementKind, Model, Objective, Refinement, Sum, Variable, sums};
+use cgm_print::names::quantity_name;
 use std::alloc::Global;
 
 /// The lines of a realization with its vector: a line for each objective with the quantity itself,
@@ -166,37 +164,6 @@ fn objective_word(max: bool) -> &'static str
         "objective max"
     } else {
         "objective min"
-    }
-}
-
-/// The name of a variable, or an empty one where there is no such variable.
-fn variable_name(m: &Model, k: u32) -> &[u8]
-    ensures { result.now ≡ variable_name (lists_of m.now) k }
-{
-    match m.vars.as_slice().get(k as usize) {
-        None => b"",
-        Some(variable) => variable.name.as_slice(),
-    }
-}
-
-/// The name of a sum, or an empty one where there is no such sum.
-fn sum_name(m: &Model, k: u32) -> &[u8]
-    ensures { result.now ≡ sum_name (lists_of m.now) k }
-{
-    match m.sums.as_slice().get(k as usize) {
-        None => b"",
-        Some(sum) => sum.name.as_slice(),
-    }
-}
-
-/// The name of a variable or a sum, or the word of a built-in quantity.
-fn quantity_name(m: &Model, q: Quantity) -> &[u8]
-    ensures { result.now ≡ quantity_name (lists_of m.now) q }
-{
-    match q {
-        Quantity::Var(k) => variable_name(m, k),
-        Quantity::Sum(k) => sum_name(m, k),
-        _ => q.word(),
     }
 }
 

@@ -1,7 +1,7 @@
 use Rattle.std.proofs.Common.{◌∙◌}
 use Rattle.cgm_model.specs.declared.lists.Variable.{Variable}
 use Rattle.cgm_print.proofs.Printed.{none_named, some_named}
-use Rattle.cgm_print.proofs.formula_printer.variable_name.Goals as goal
+use Rattle.cgm_print.proofs.names.variable_name.Goals as goal
 
 pub returns-in-None : goal.returns-in-None
 returns-in-None c =

@@ -108,6 +108,7 @@ pub enum Quantity {
 
 impl Quantity {
     ghost use Rattle.std.specs.Prelude.{◌≡◌};
+    ghost use Rattle.std.specs.Str.{bytes_eq};
     ghost use Rattle.cgm_model.specs.QuantityWords.{quantity_word};
 
     /// The word of a built-in quantity. A variable and a sum have names, and no word.
@@ -124,6 +125,13 @@ impl Quantity {
             Quantity::Familiarity => b"familiarity",
             Quantity::Effort => b"effort",
         }
+    }
+
+    /// Says whether the bytes are its word.
+    pub fn has_word(self, bytes: &[u8]) -> bool
+        ensures { result ≡ bytes_eq (quantity_word self) bytes.now }
+    {
+        self.word() == bytes
     }
 }
 

@@ -3,6 +3,7 @@ ghost use Rattle.std.specs.Prelude.{◌≡◌};
 ghost use Rattle.std.specs.Str.{bytes_eq};
 ghost use Rattle.cgm_model.specs.Name as spelling;
 
+use crate::lists::Quantity;
 use cgm_lex::is_spelled;
 
 /// Says whether the bytes are a name: spelled as one, and no reserved word.
@@ -19,12 +20,12 @@ fn is_reserved(bytes: &[u8]) -> bool
         || is_word("or", bytes)
         || is_word("not", bytes)
         || is_word("iff", bytes)
-        || is_word("weight", bytes)
-        || is_word("unsat_prefs", bytes)
-        || is_word("unsat_reqs", bytes)
-        || is_word("sat_tasks", bytes)
-        || is_word("familiarity", bytes)
-        || is_word("effort", bytes)
+        || Quantity::Weight.has_word(bytes)
+        || Quantity::UnsatPrefs.has_word(bytes)
+        || Quantity::UnsatReqs.has_word(bytes)
+        || Quantity::SatTasks.has_word(bytes)
+        || Quantity::Familiarity.has_word(bytes)
+        || Quantity::Effort.has_word(bytes)
 }
 
 fn is_word(word: &str, bytes: &[u8]) -> bool

@@ -4,6 +4,7 @@ use Rattle.std.specs.Str.{bytes_eq}
 use Rattle.cgm_lex.specs.Lexemes.{Lexeme, word}
 use Rattle.cgm_model.specs.declared.lists.Quantity.{Quantity}
 use Rattle.cgm_model.specs.declared.lists.Quantity.TheVariants as quantities
+use Rattle.cgm_model.specs.QuantityWords.{quantity_word}
 use Rattle.cgm_print.specs.declared.words.Sort.{Sort}
 use Rattle.cgm_print.specs.Statements.{WrittenStatement, goal, named, refinement, pair, assertion, variable, value, weight, condition, requirement, objective, sort_word, sort_of, body}
 use Rattle.cgm_print.specs.Written.{WrittenTerm, WrittenLinear, WrittenFormula, joint_word, pairing_word, comparison_word, spelled_term, spelled_linear, spelled}
@@ -34,12 +35,12 @@ pub record IsNoSingle (w : List ℕ) : Type 0 where
 -- the built-in quantity with this word
 abbrev pub built_in : List ℕ → Option Quantity
 built_in x =
-    if bytes_eq (codes "weight") x then Some quantities.Weight
-    else if bytes_eq (codes "unsat_prefs") x then Some quantities.UnsatPrefs
-    else if bytes_eq (codes "unsat_reqs") x then Some quantities.UnsatReqs
-    else if bytes_eq (codes "sat_tasks") x then Some quantities.SatTasks
-    else if bytes_eq (codes "familiarity") x then Some quantities.Familiarity
-    else if bytes_eq (codes "effort") x then Some quantities.Effort
+    if bytes_eq (quantity_word quantities.Weight) x then Some quantities.Weight
+    else if bytes_eq (quantity_word quantities.UnsatPrefs) x then Some quantities.UnsatPrefs
+    else if bytes_eq (quantity_word quantities.UnsatReqs) x then Some quantities.UnsatReqs
+    else if bytes_eq (quantity_word quantities.SatTasks) x then Some quantities.SatTasks
+    else if bytes_eq (quantity_word quantities.Familiarity) x then Some quantities.Familiarity
+    else if bytes_eq (quantity_word quantities.Effort) x then Some quantities.Effort
     else None
 
 -- ---- statements

@@ -1,6 +1,5 @@
 //! The words of statements, connectives and quantities.
 ghost use Rattle.std.specs.Prelude.{◌≡◌, ◌≢◌, IfSome, IfNone};
-ghost use Rattle.std.specs.Str.{bytes_eq};
 ghost use Rattle.cgm_print.specs.declared.words.ConditionWord.{ConditionWord};
 ghost use Rattle.cgm_text.specs.declared.written.Connective.{Connective};
 ghost use Rattle.cgm_text.specs.Parsed.{IsNoSingle, built_in, connective_word};
@@ -165,27 +164,21 @@ pub(crate) fn direction_of_word(word: &[u8]) -> Option<Direction>
     }
 }
 
-fn has_text(word: &[u8], text: &str) -> bool
-    ensures { result ≡ bytes_eq text.now word.now }
-{
-    text.as_bytes() == word
-}
-
 /// The built-in quantity with this word.
 pub(crate) fn built_in(word: &[u8]) -> Option<Quantity>
     ensures { result ≡ built_in word.now }
 {
-    if has_text(word, "weight") {
+    if Quantity::Weight.has_word(word) {
         Some(Quantity::Weight)
-    } else if has_text(word, "unsat_prefs") {
+    } else if Quantity::UnsatPrefs.has_word(word) {
         Some(Quantity::UnsatPrefs)
-    } else if has_text(word, "unsat_reqs") {
+    } else if Quantity::UnsatReqs.has_word(word) {
         Some(Quantity::UnsatReqs)
-    } else if has_text(word, "sat_tasks") {
+    } else if Quantity::SatTasks.has_word(word) {
         Some(Quantity::SatTasks)
-    } else if has_text(word, "familiarity") {
+    } else if Quantity::Familiarity.has_word(word) {
         Some(Quantity::Familiarity)
-    } else if has_text(word, "effort") {
+    } else if Quantity::Effort.has_word(word) {
         Some(Quantity::Effort)
     } else {
         None

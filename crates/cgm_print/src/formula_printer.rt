@@ -1,9 +1,9 @@
 //! Formulas as they are printed.
-ghost use Rattle.std.specs.Prelude.{◌≡◌, map, OnOk};
+ghost use Rattle.std.specs.Prelude.{map, OnOk};
 ghost use Rattle.cgm_model.specs.Model.{lists_of};
 ghost use Rattle.cgm_print.specs.Canonical.{joined_with, written_formula, written_linear, written_term};
 ghost use Rattle.cgm_print.specs.Printing.{Writes};
-ghost use Rattle.cgm_print.specs.Written.{compared as written_comparison, comparison_word as word_of_comparison, joint_word as word_of_joint, spelled, spelled_each, spelled_linear, spelled_term, spelled_terms, formulas_of};
+ghost use Rattle.cgm_print.specs.Written.{compared as written_comparison, spelled, spelled_each, spelled_linear, spelled_term, spelled_terms, formulas_of};
 
 use crate::names::{number_name, truth_name};
 use crate::printer::Printer;
@@ -47,25 +47,6 @@ fn linear(p: &mut Printer, m: &Model, linear: &[(i64, Number)]) -> Result<(), Ou
     }
 }
 
-fn joint_word(joint: Joint) -> &'static [u8]
-    ensures { result.now ≡ word_of_joint joint }
-{
-    match joint {
-        Joint::And => b"and",
-        Joint::Or => b"or",
-    }
-}
-
-fn comparison_word(comparison: Comparison) -> &'static [u8]
-    ensures { result.now ≡ word_of_comparison comparison }
-{
-    match comparison {
-        Comparison::AtMost => b"<=",
-        Comparison::AtLeast => b">=",
-        Comparison::Equal => b"=",
-    }
-}
-
 fn comparison(
     p: &mut Printer,
     m: &Model,
@@ -75,7 +56,8 @@ fn comparison(
 ) -> Result<(), OutOfMemory>
     ensures { OnOk result (Writes p.old p.new (spelled (written_comparison how (written_linear (lists_of m.now) total.now.terms) k))) }
 {
-    p.open_with(comparison_word(how))?;
+    let first = how.word();
+    p.open_with(first)?;
     linear(p, m, total.terms.as_slice())?;
     p.number(k)?;
     p.close()
@@ -117,10 +99,11 @@ pub(crate) fn formula(p: &mut Printer, m: &Model, f: &Formula) -> Result<(), Out
 fn joined(p: &mut Printer, m: &Model, joint: Joint, parts: &[Formula]) -> Result<(), OutOfMemory>
     ensures { OnOk result (Writes p.old p.new (spelled (joined_with joint (map (written_formula (lists_of m.now)) parts.now)))) }
 {
+    let first = joint.word();
     match parts {
         [] => p.word(b""),
         [_, ..] => {
-            p.open_with(joint_word(joint))?;
+            p.open_with(first)?;
             each(p, m, parts)?;
             p.close()
         }

@@ -11,6 +11,7 @@ ghost use Rattle.cgm_print.specs.Written.{spelled};
 use crate::formula_printer::formula;
 use crate::names::{element_name, quantity_name, refinement_name, sum_name, truth_name};
 use crate::printer::Printer;
+use crate::words::Direction;
 use cgm_base::truth_word;
 use cgm_model::{
     Assertion, Edge, Element, ElementKind, Formula, Model, Objective, Preference, Refinement, Rule,
@@ -199,7 +200,11 @@ pub(crate) fn interest(p: &mut Printer, m: &Model, k: u32) -> Result<(), OutOfMe
 fn direction_word(max: bool) -> &'static [u8]
     ensures { result.now ≡ word_of_direction (direction_of max) }
 {
-    if max { b"max" } else { b"min" }
+    if max {
+        Direction::Max.word()
+    } else {
+        Direction::Min.word()
+    }
 }
 
 pub(crate) fn objective(p: &mut Printer, m: &Model, o: &Objective) -> Result<(), OutOfMemory>

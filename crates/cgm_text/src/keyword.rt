@@ -1,5 +1,5 @@
-//! The words of statements, connectives and quantities.
-ghost use Rattle.std.specs.Prelude.{◌≡◌, ◌≢◌, IfSome, IfNone};
+//! What the words of statements, connectives and quantities stand for.
+ghost use Rattle.std.specs.Prelude.{◌≡◌, ◌≢◌, ◌↔◌, IsTrue, IfSome, IfNone};
 ghost use Rattle.cgm_print.specs.declared.words.ConditionWord.{ConditionWord};
 ghost use Rattle.cgm_text.specs.declared.written.Connective.{Connective};
 ghost use Rattle.cgm_text.specs.Parsed.{IsNoSingle, built_in, connective_word};
@@ -11,32 +11,52 @@ ghost use Rattle.cgm_print.specs.declared.words.WeightWord.{WeightWord};
 ghost use Rattle.cgm_print.specs.Statements.{condition_word, direction_word, name_word, pair_word, sort_word, weight_word};
 
 use crate::written::Connective;
-use cgm_base::is_word;
 use cgm_model::Quantity;
 use cgm_print::words::{
     Comparison, ConditionWord, Direction, Joint, NameWord, PairWord, Pairing, Sort, WeightWord,
 };
+
+/// Says whether this is the word of the connective.
+fn is_connective(word: &[u8], connective: Connective) -> bool
+    ensures { IsTrue result ↔ (word.now ≡ connective_word connective) }
+{
+    word == connective.word()
+}
+
+/// Says whether this is the word of the sort of statement.
+fn is_sort(word: &[u8], sort: Sort) -> bool
+    ensures { IsTrue result ↔ (word.now ≡ sort_word sort) }
+{
+    word == sort.word()
+}
+
+/// Says whether this is the word of the direction.
+fn is_direction(word: &[u8], direction: Direction) -> bool
+    ensures { IsTrue result ↔ (word.now ≡ direction_word direction) }
+{
+    word == direction.word()
+}
 
 /// The connective with this word.
 pub(crate) fn connective_of(word: &[u8]) -> Option<Connective>
     ensures found { IfSome result (λ c. word.now ≡ connective_word c) }
     ensures none { IfNone result ((c : Connective) → word.now ≢ connective_word c) }
 {
-    if is_word(word, "and") {
+    if is_connective(word, Connective::Join(Joint::And)) {
         Some(Connective::Join(Joint::And))
-    } else if is_word(word, "or") {
+    } else if is_connective(word, Connective::Join(Joint::Or)) {
         Some(Connective::Join(Joint::Or))
-    } else if is_word(word, "not") {
+    } else if is_connective(word, Connective::Not) {
         Some(Connective::Not)
-    } else if is_word(word, "=>") {
+    } else if is_connective(word, Connective::Pair(Pairing::Implies)) {
         Some(Connective::Pair(Pairing::Implies))
-    } else if is_word(word, "iff") {
+    } else if is_connective(word, Connective::Pair(Pairing::Iff)) {
         Some(Connective::Pair(Pairing::Iff))
-    } else if is_word(word, "<=") {
+    } else if is_connective(word, Connective::Compare(Comparison::AtMost)) {
         Some(Connective::Compare(Comparison::AtMost))
-    } else if is_word(word, ">=") {
+    } else if is_connective(word, Connective::Compare(Comparison::AtLeast)) {
         Some(Connective::Compare(Comparison::AtLeast))
-    } else if is_word(word, "=") {
+    } else if is_connective(word, Connective::Compare(Comparison::Equal)) {
         Some(Connective::Compare(Comparison::Equal))
     } else {
         None
@@ -47,13 +67,13 @@ fn name_word_of(word: &[u8]) -> Option<NameWord>
     ensures found { IfSome result (λ w. word.now ≡ name_word w) }
     ensures none { IfNone result ((w : NameWord) → word.now ≢ name_word w) }
 {
-    if is_word(word, "task") {
+    if is_sort(word, Sort::Name(NameWord::Task)) {
         Some(NameWord::Task)
-    } else if is_word(word, "assume") {
+    } else if is_sort(word, Sort::Name(NameWord::Assume)) {
         Some(NameWord::Assume)
-    } else if is_word(word, "sum") {
+    } else if is_sort(word, Sort::Name(NameWord::Sum)) {
         Some(NameWord::Sum)
-    } else if is_word(word, "interest") {
+    } else if is_sort(word, Sort::Name(NameWord::Interest)) {
         Some(NameWord::Interest)
     } else {
         None
@@ -64,13 +84,13 @@ fn pair_word_of(word: &[u8]) -> Option<PairWord>
     ensures found { IfSome result (λ w. word.now ≡ pair_word w) }
     ensures none { IfNone result ((w : PairWord) → word.now ≢ pair_word w) }
 {
-    if is_word(word, "contrib") {
+    if is_sort(word, Sort::Pair(PairWord::Contrib)) {
         Some(PairWord::Contrib)
-    } else if is_word(word, "conflict") {
+    } else if is_sort(word, Sort::Pair(PairWord::Conflict)) {
         Some(PairWord::Conflict)
-    } else if is_word(word, "bind") {
+    } else if is_sort(word, Sort::Pair(PairWord::Bind)) {
         Some(PairWord::Bind)
-    } else if is_word(word, "prefer") {
+    } else if is_sort(word, Sort::Pair(PairWord::Prefer)) {
         Some(PairWord::Prefer)
     } else {
         None
@@ -81,9 +101,9 @@ fn weight_word_of(word: &[u8]) -> Option<WeightWord>
     ensures found { IfSome result (λ w. word.now ≡ weight_word w) }
     ensures none { IfNone result ((w : WeightWord) → word.now ≢ weight_word w) }
 {
-    if is_word(word, "reward") {
+    if is_sort(word, Sort::Weight(WeightWord::Reward)) {
         Some(WeightWord::Reward)
-    } else if is_word(word, "penalty") {
+    } else if is_sort(word, Sort::Weight(WeightWord::Penalty)) {
         Some(WeightWord::Penalty)
     } else {
         None
@@ -94,9 +114,9 @@ fn condition_word_of(word: &[u8]) -> Option<ConditionWord>
     ensures found { IfSome result (λ w. word.now ≡ condition_word w) }
     ensures none { IfNone result ((w : ConditionWord) → word.now ≢ condition_word w) }
 {
-    if is_word(word, "pre+") {
+    if is_sort(word, Sort::Condition(ConditionWord::Positive)) {
         Some(ConditionWord::Positive)
-    } else if is_word(word, "pre-") {
+    } else if is_sort(word, Sort::Condition(ConditionWord::Negative)) {
         Some(ConditionWord::Negative)
     } else {
         None
@@ -108,19 +128,19 @@ fn single_sort_of(word: &[u8]) -> Option<Sort>
     ensures found { IfSome result (λ sort. word.now ≡ sort_word sort) }
     ensures none { IfNone result (IsNoSingle word.now) }
 {
-    if is_word(word, "goal") {
+    if is_sort(word, Sort::Goal) {
         Some(Sort::Goal)
-    } else if is_word(word, "refine") {
+    } else if is_sort(word, Sort::Refine) {
         Some(Sort::Refine)
-    } else if is_word(word, "assert") {
+    } else if is_sort(word, Sort::Assert) {
         Some(Sort::Assert)
-    } else if is_word(word, "var") {
+    } else if is_sort(word, Sort::Var) {
         Some(Sort::Var)
-    } else if is_word(word, "value") {
+    } else if is_sort(word, Sort::Value) {
         Some(Sort::Value)
-    } else if is_word(word, "require") {
+    } else if is_sort(word, Sort::Require) {
         Some(Sort::Require)
-    } else if is_word(word, "objective") {
+    } else if is_sort(word, Sort::Objective) {
         Some(Sort::Objective)
     } else {
         None
@@ -155,9 +175,9 @@ pub(crate) fn direction_of_word(word: &[u8]) -> Option<Direction>
     ensures found { IfSome result (λ direction. word.now ≡ direction_word direction) }
     ensures none { IfNone result ((direction : Direction) → word.now ≢ direction_word direction) }
 {
-    if is_word(word, "min") {
+    if is_direction(word, Direction::Min) {
         Some(Direction::Min)
-    } else if is_word(word, "max") {
+    } else if is_direction(word, Direction::Max) {
         Some(Direction::Max)
     } else {
         None

@@ -29,6 +29,23 @@ pub(crate) enum Connective {
     Compare(Comparison),
 }
 
+impl Connective {
+    ghost use Rattle.std.specs.Prelude.{◌≡◌};
+    ghost use Rattle.cgm_text.specs.Parsed.{connective_word};
+
+    /// The word itself.
+    pub(crate) fn word(self) -> &'static [u8]
+        ensures { result.now ≡ connective_word self }
+    {
+        match self {
+            Connective::Not => b"not",
+            Connective::Join(joint) => joint.word(),
+            Connective::Pair(pairing) => pairing.word(),
+            Connective::Compare(comparison) => comparison.word(),
+        }
+    }
+}
+
 /// A term of a linear expression.
 #[derive(Clone, Copy)]
 pub(crate) enum Term {

@@ -85,7 +85,7 @@ joined-returns-in_ok-each-in-len1-up t c =
     let b = c.open_with.new.self in
     let d = c.each.new.p in
     let opened : Writes a b (λ after. opening ∷ word how ∷ after) =
-    subst (λ (x : List ℕ). Writes a b (λ after. opening ∷ word x ∷ after)) c.joint_word.ensures c.in_ok-open_with-in-len1-up.ensures in
+    subst (λ (x : List ℕ). Writes a b (λ after. opening ∷ word x ∷ after)) c.word-first.ensures c.in_ok-open_with-in-len1-up.ensures in
     let first = then_ a b d (λ after. opening ∷ word how ∷ after) (spelled_each each) opened c.in_ok-each-in-len1-up.ensures in
     finish c.close.result a d c.close.new.self (λ after. opening ∷ word how ∷ spelled_each each after) (λ after. closing ∷ after) (spelled (joined_with c.args.joint (map (written_formula m) parts)))
     (λ after. some_parts m c.args.joint parts after c.in-len1-up.len_at_least) first c.close.ensures

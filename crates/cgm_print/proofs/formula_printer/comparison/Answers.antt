@@ -19,7 +19,7 @@ returns c =
     let d = c.linear.new.p in
     let e = c.number.new.self in
     let opened : Writes a b (λ after. opening ∷ word how ∷ after) =
-    subst (λ (x : List ℕ). Writes a b (λ after. opening ∷ word x ∷ after)) c.comparison_word.ensures c.in_ok-open_with.ensures in
+    subst (λ (x : List ℕ). Writes a b (λ after. opening ∷ word x ∷ after)) c.word-first.ensures c.in_ok-open_with.ensures in
     let first : Writes a d (λ after. opening ∷ word how ∷ spelled_linear w after) =
     then_ a b d (λ after. opening ∷ word how ∷ after) (spelled_linear w) opened (rw c.as_slice.ensures at c.in_ok-linear.ensures) in
     let same : to_z w64 (of_z w64 c.args.k) ≡ c.args.k = omega (arith, ints) in

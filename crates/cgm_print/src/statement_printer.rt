@@ -5,13 +5,13 @@ ghost use Rattle.cgm_model.specs.Model.{lists_of};
 ghost use Rattle.cgm_model.specs.declared.lists.Statement.TheVariants as Statement;
 ghost use Rattle.cgm_print.specs.Canonical.{direction_of, element_name as name_of_element, truth_name as name_of_truth, written, written_element, written_formula, written_rule};
 ghost use Rattle.cgm_print.specs.Printing.{Begins, IsLine, Writes, words_before};
-ghost use Rattle.cgm_print.specs.Statements.{direction_word as word_of_direction, goal, statement_tokens};
+ghost use Rattle.cgm_print.specs.Statements.{direction_word as word_of_direction, goal, sort_word, statement_tokens};
 ghost use Rattle.cgm_print.specs.Written.{spelled};
 
 use crate::formula_printer::formula;
 use crate::names::{element_name, quantity_name, refinement_name, sum_name, truth_name};
 use crate::printer::Printer;
-use crate::words::Direction;
+use crate::words::{ConditionWord, Direction, NameWord, PairWord, Sort, WeightWord};
 use cgm_base::truth_word;
 use cgm_model::{
     Assertion, Edge, Element, ElementKind, Formula, Model, Objective, Preference, Refinement, Rule,
@@ -19,11 +19,19 @@ use cgm_model::{
 };
 use std::alloc::AllocError as OutOfMemory;
 
-/// Begins a line with a statement word and a name.
-fn named_line(p: &mut Printer, first: &[u8], name: &[u8]) -> Result<(), OutOfMemory>
-    ensures { OnOk result (Begins p.old p.new (λ after. word first.now ∷ word name.now ∷ after)) }
+/// Begins the line of a statement of this sort.
+fn begin_statement(p: &mut Printer, sort: Sort) -> Result<(), OutOfMemory>
+    ensures { OnOk result (Begins p.old p.new (λ after. word (sort_word sort) ∷ after)) }
 {
-    p.begin_line(first)?;
+    p.begin_line(sort.word())?;
+    Ok(())
+}
+
+/// Begins such a line with a name.
+fn named_line(p: &mut Printer, sort: Sort, name: &[u8]) -> Result<(), OutOfMemory>
+    ensures { OnOk result (Begins p.old p.new (λ after. word (sort_word sort) ∷ word name.now ∷ after)) }
+{
+    begin_statement(p, sort)?;
     p.word(name)?;
     Ok(())
 }
@@ -31,7 +39,7 @@ fn named_line(p: &mut Printer, first: &[u8], name: &[u8]) -> Result<(), OutOfMem
 fn goal_line(p: &mut Printer, name: &[u8], must: bool) -> Result<(), OutOfMemory>
     ensures { OnOk result (IsLine p.old p.new (statement_tokens (goal name.now must))) }
 {
-    named_line(p, b"goal", name)?;
+    named_line(p, Sort::Goal, name)?;
     if must {
         p.word(b"must")?;
     }
@@ -44,8 +52,8 @@ pub(crate) fn element(p: &mut Printer, e: &Element) -> Result<(), OutOfMemory>
 {
     match e.kind {
         ElementKind::Goal => goal_line(p, e.name.as_slice(), e.must)?,
-        ElementKind::Task => named_line(p, b"task", e.name.as_slice())?,
-        ElementKind::Assume => named_line(p, b"assume", e.name.as_slice())?,
+        ElementKind::Task => named_line(p, Sort::Name(NameWord::Task), e.name.as_slice())?,
+        ElementKind::Assume => named_line(p, Sort::Name(NameWord::Assume), e.name.as_slice())?,
     }
     Ok(())
 }
@@ -62,7 +70,7 @@ fn source_names(p: &mut Printer, m: &Model, numbers: &[u32]) -> Result<(), OutOf
 pub(crate) fn refinement(p: &mut Printer, m: &Model, r: &Refinement) -> Result<(), OutOfMemory>
     ensures { OnOk result (IsLine p.old p.new (statement_tokens (written (lists_of m.now) (Statement.Refine r.now)))) }
 {
-    named_line(p, b"refine", r.name.as_slice())?;
+    named_line(p, Sort::Refine, r.name.as_slice())?;
     p.word(element_name(m, r.target))?;
     p.colon()?;
     let numbers = r.sources.as_slice();
@@ -76,16 +84,16 @@ pub(crate) fn refinement(p: &mut Printer, m: &Model, r: &Refinement) -> Result<(
 pub(crate) fn variable(p: &mut Printer, v: &Variable) -> Result<(), OutOfMemory>
     ensures { OnOk result (IsLine p.old p.new (word (codes "var") ∷ word v.now.name ∷ number v.now.lo ∷ number v.now.hi ∷ [])) }
 {
-    named_line(p, b"var", v.name.as_slice())?;
+    named_line(p, Sort::Var, v.name.as_slice())?;
     p.number(v.lo)?;
     p.number(v.hi)?;
     Ok(())
 }
 
-fn pair(p: &mut Printer, first: &[u8], one: &[u8], other: &[u8]) -> Result<(), OutOfMemory>
-    ensures { OnOk result (IsLine p.old p.new (word first.now ∷ word one.now ∷ word other.now ∷ [])) }
+fn pair(p: &mut Printer, sort: Sort, one: &[u8], other: &[u8]) -> Result<(), OutOfMemory>
+    ensures { OnOk result (IsLine p.old p.new (word (sort_word sort) ∷ word one.now ∷ word other.now ∷ [])) }
 {
-    named_line(p, first, one)?;
+    named_line(p, sort, one)?;
     p.word(other)?;
     Ok(())
 }
@@ -95,7 +103,7 @@ pub(crate) fn contribution(p: &mut Printer, m: &Model, e: &Edge) -> Result<(), O
 {
     pair(
         p,
-        b"contrib",
+        Sort::Pair(PairWord::Contrib),
         element_name(m, e.from),
         element_name(m, e.to),
     )?;
@@ -107,7 +115,7 @@ pub(crate) fn conflict(p: &mut Printer, m: &Model, e: &Edge) -> Result<(), OutOf
 {
     pair(
         p,
-        b"conflict",
+        Sort::Pair(PairWord::Conflict),
         element_name(m, e.from),
         element_name(m, e.to),
     )?;
@@ -119,7 +127,7 @@ pub(crate) fn binding(p: &mut Printer, m: &Model, e: &Edge) -> Result<(), OutOfM
 {
     pair(
         p,
-        b"bind",
+        Sort::Pair(PairWord::Bind),
         refinement_name(m, e.from),
         refinement_name(m, e.to),
     )?;
@@ -131,7 +139,7 @@ pub(crate) fn assertion(p: &mut Printer, m: &Model, a: &Assertion) -> Result<(),
 {
     pair(
         p,
-        b"assert",
+        Sort::Assert,
         element_name(m, a.element),
         truth_word(a.truth),
     )?;
@@ -141,23 +149,23 @@ pub(crate) fn assertion(p: &mut Printer, m: &Model, a: &Assertion) -> Result<(),
 pub(crate) fn sum(p: &mut Printer, s: &Sum) -> Result<(), OutOfMemory>
     ensures { OnOk result (IsLine p.old p.new (word (codes "sum") ∷ word s.now.name ∷ [])) }
 {
-    named_line(p, b"sum", s.name.as_slice())?;
+    named_line(p, Sort::Name(NameWord::Sum), s.name.as_slice())?;
     Ok(())
 }
 
 pub(crate) fn value(p: &mut Printer, m: &Model, v: &SumValue) -> Result<(), OutOfMemory>
     ensures { OnOk result (IsLine p.old p.new (statement_tokens (written (lists_of m.now) (Statement.Value v.now)))) }
 {
-    named_line(p, b"value", sum_name(m, v.sum))?;
+    named_line(p, Sort::Value, sum_name(m, v.sum))?;
     p.word(truth_name(m, v.of))?;
     p.number(v.k)?;
     Ok(())
 }
 
-fn weighing(p: &mut Printer, m: &Model, first: &[u8], w: &Weighing) -> Result<(), OutOfMemory>
-    ensures { OnOk result (IsLine p.old p.new (word first.now ∷ word (name_of_element (lists_of m.now) w.now.element) ∷ number w.now.k ∷ [])) }
+fn weighing(p: &mut Printer, m: &Model, sort: Sort, w: &Weighing) -> Result<(), OutOfMemory>
+    ensures { OnOk result (IsLine p.old p.new (word (sort_word sort) ∷ word (name_of_element (lists_of m.now) w.now.element) ∷ number w.now.k ∷ [])) }
 {
-    named_line(p, first, element_name(m, w.element))?;
+    named_line(p, sort, element_name(m, w.element))?;
     p.number(w.k)?;
     Ok(())
 }
@@ -165,13 +173,13 @@ fn weighing(p: &mut Printer, m: &Model, first: &[u8], w: &Weighing) -> Result<()
 pub(crate) fn reward(p: &mut Printer, m: &Model, w: &Weighing) -> Result<(), OutOfMemory>
     ensures { OnOk result (IsLine p.old p.new (statement_tokens (written (lists_of m.now) (Statement.Reward w.now)))) }
 {
-    weighing(p, m, b"reward", w)
+    weighing(p, m, Sort::Weight(WeightWord::Reward), w)
 }
 
 pub(crate) fn penalty(p: &mut Printer, m: &Model, w: &Weighing) -> Result<(), OutOfMemory>
     ensures { OnOk result (IsLine p.old p.new (statement_tokens (written (lists_of m.now) (Statement.Penalty w.now)))) }
 {
-    weighing(p, m, b"penalty", w)
+    weighing(p, m, Sort::Weight(WeightWord::Penalty), w)
 }
 
 pub(crate) fn preference(
@@ -183,7 +191,7 @@ pub(crate) fn preference(
 {
     pair(
         p,
-        b"prefer",
+        Sort::Pair(PairWord::Prefer),
         truth_name(m, preferred.better),
         truth_name(m, preferred.worse),
     )?;
@@ -193,7 +201,7 @@ pub(crate) fn preference(
 pub(crate) fn interest(p: &mut Printer, m: &Model, k: u32) -> Result<(), OutOfMemory>
     ensures { OnOk result (IsLine p.old p.new (statement_tokens (written (lists_of m.now) (Statement.Interest k)))) }
 {
-    named_line(p, b"interest", element_name(m, k))?;
+    named_line(p, Sort::Name(NameWord::Interest), element_name(m, k))?;
     Ok(())
 }
 
@@ -212,7 +220,7 @@ pub(crate) fn objective(p: &mut Printer, m: &Model, o: &Objective) -> Result<(),
 {
     pair(
         p,
-        b"objective",
+        Sort::Objective,
         direction_word(o.max),
         quantity_name(m, o.of),
     )?;
@@ -222,13 +230,13 @@ pub(crate) fn objective(p: &mut Printer, m: &Model, o: &Objective) -> Result<(),
 fn condition(
     p: &mut Printer,
     m: &Model,
-    first: &[u8],
+    sort: Sort,
     x: Truth,
     f: &Formula,
 ) -> Result<(), OutOfMemory>
-    ensures { OnOk result (IsLine p.old p.new (word first.now ∷ word (name_of_truth (lists_of m.now) x) ∷ spelled (written_formula (lists_of m.now) f.now) [])) }
+    ensures { OnOk result (IsLine p.old p.new (word (sort_word sort) ∷ word (name_of_truth (lists_of m.now) x) ∷ spelled (written_formula (lists_of m.now) f.now) [])) }
 {
-    named_line(p, first, truth_name(m, x))?;
+    named_line(p, sort, truth_name(m, x))?;
     formula(p, m, f)?;
     Ok(())
 }
@@ -236,7 +244,7 @@ fn condition(
 fn requirement(p: &mut Printer, m: &Model, f: &Formula) -> Result<(), OutOfMemory>
     ensures { OnOk result (IsLine p.old p.new (word (codes "require") ∷ spelled (written_formula (lists_of m.now) f.now) [])) }
 {
-    p.begin_line(b"require")?;
+    begin_statement(p, Sort::Require)?;
     formula(p, m, f)?;
     Ok(())
 }
@@ -245,8 +253,8 @@ pub(crate) fn rule(p: &mut Printer, m: &Model, r: &Rule) -> Result<(), OutOfMemo
     ensures { OnOk result (IsLine p.old p.new (statement_tokens (written_rule (lists_of m.now) r.now))) }
 {
     match r {
-        Rule::Positive(x, f) => condition(p, m, b"pre+", *x, f)?,
-        Rule::Negative(x, f) => condition(p, m, b"pre-", *x, f)?,
+        Rule::Positive(x, f) => condition(p, m, Sort::Condition(ConditionWord::Positive), *x, f)?,
+        Rule::Negative(x, f) => condition(p, m, Sort::Condition(ConditionWord::Negative), *x, f)?,
         Rule::Require(f) => requirement(p, m, f)?,
     }
     Ok(())

@@ -3,6 +3,7 @@ use Rattle.cgm_lex.specs.Lexemes.{word}
 use Rattle.cgm_lex.specs.Spelling.{spelled_line}
 use Rattle.cgm_model.specs.Model.{lists_of}
 use Rattle.cgm_print.specs.Canonical.{written_formula}
+use Rattle.cgm_print.specs.Statements.{sort_word}
 use Rattle.cgm_print.specs.Written.{spelled}
 use Rattle.cgm_print.proofs.statement_printer.condition.Goals as goal
 
@@ -10,4 +11,4 @@ pub returns : goal.returns
 returns c =
     let w = spelled (written_formula (lists_of c.args.m.now) c.args.f.now) [] in
     c.in_ok-formula.ensures [] ∙ c.in_ok-named_line.ensures w
-    ∙ ap (λ (x : List ℕ). c.args.p.now.text.items ++ spelled_line (word c.args.first.now ∷ word x ∷ w)) c.truth_name.ensures
+    ∙ ap (λ (x : List ℕ). c.args.p.now.text.items ++ spelled_line (word (sort_word c.args.sort) ∷ word x ∷ w)) c.truth_name.ensures

@@ -4,12 +4,13 @@ use Rattle.cgm_lex.specs.Lexemes.{number, word}
 use Rattle.cgm_lex.specs.Spelling.{spelled_line}
 use Rattle.cgm_model.specs.Model.{lists_of}
 use Rattle.cgm_print.specs.Canonical.{element_name}
+use Rattle.cgm_print.specs.Statements.{sort_word}
 use Rattle.cgm_print.proofs.statement_printer.weighing.Goals as goal
 
 pub returns : goal.returns
 returns c =
     let old = c.args.p.now.text.items in
-    let first = c.args.first.now in
+    let first = sort_word c.args.sort in
     let k = to_z w64 (of_z w64 c.args.w.now.k) in
     let same : to_z w64 (of_z w64 c.args.w.now.k) ≡ c.args.w.now.k = omega (arith, ints) in
     c.in_ok-number.ensures [] ∙ c.in_ok-named_line.ensures (number k ∷ [])

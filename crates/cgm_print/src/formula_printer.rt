@@ -25,7 +25,8 @@ fn term(p: &mut Printer, m: &Model, term: (i64, Number)) -> Result<(), OutOfMemo
 }
 
 fn terms(p: &mut Printer, m: &Model, terms: &[(i64, Number)]) -> Result<(), OutOfMemory>
-    ensures { OnOk result (Writes p.old p.new (spelled_terms (map (written_term (lists_of m.now)) terms.now))) }
+    ensures { OnOk result (Writes p.old p.new
+        (spelled_terms (map (written_term (lists_of m.now)) terms.now))) }
 {
     for one in terms {
         term(p, m, *one)?;
@@ -34,7 +35,8 @@ fn terms(p: &mut Printer, m: &Model, terms: &[(i64, Number)]) -> Result<(), OutO
 }
 
 fn linear(p: &mut Printer, m: &Model, linear: &[(i64, Number)]) -> Result<(), OutOfMemory>
-    ensures { OnOk result (Writes p.old p.new (spelled_linear (written_linear (lists_of m.now) linear.now))) }
+    ensures { OnOk result (Writes p.old p.new
+        (spelled_linear (written_linear (lists_of m.now) linear.now))) }
 {
     match linear {
         [] => p.word(b""),
@@ -54,7 +56,8 @@ fn comparison(
     total: &Linear,
     k: i64,
 ) -> Result<(), OutOfMemory>
-    ensures { OnOk result (Writes p.old p.new (spelled (written_comparison how (written_linear (lists_of m.now) total.now.terms) k))) }
+    ensures { OnOk result (Writes p.old p.new
+        (spelled (written_comparison how (written_linear (lists_of m.now) total.now.terms) k))) }
 {
     let first = how.word();
     p.open_with(first)?;
@@ -97,7 +100,8 @@ pub(crate) fn formula(p: &mut Printer, m: &Model, f: &Formula) -> Result<(), Out
 
 #[cycle(formula)]
 fn joined(p: &mut Printer, m: &Model, joint: Joint, parts: &[Formula]) -> Result<(), OutOfMemory>
-    ensures { OnOk result (Writes p.old p.new (spelled (joined_with joint (map (written_formula (lists_of m.now)) parts.now)))) }
+    ensures { OnOk result (Writes p.old p.new
+        (spelled (joined_with joint (map (written_formula (lists_of m.now)) parts.now)))) }
 {
     let first = joint.word();
     match parts {
@@ -112,7 +116,8 @@ fn joined(p: &mut Printer, m: &Model, joint: Joint, parts: &[Formula]) -> Result
 
 #[cycle(formula)]
 fn each(p: &mut Printer, m: &Model, parts: &[Formula]) -> Result<(), OutOfMemory>
-    ensures { OnOk result (Writes p.old p.new (spelled_each (formulas_of (map (written_formula (lists_of m.now)) parts.now)))) }
+    ensures { OnOk result (Writes p.old p.new
+        (spelled_each (formulas_of (map (written_formula (lists_of m.now)) parts.now)))) }
 {
     for part in parts {
         formula(p, m, part)?;

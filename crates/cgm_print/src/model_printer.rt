@@ -17,7 +17,8 @@ use cgm_model::{
 use std::alloc::{AllocError as OutOfMemory, Global};
 
 fn elements(p: &mut Printer, m: &Model, all: &[Element]) -> Result<(), OutOfMemory>
-    ensures { OnOk result (p.new.text.items ≡ p.old.text.items ++ statement_lines (lists_of m.now) (map (λ x. Statement.Element x) all.now)) }
+    ensures { OnOk result (p.new.text.items ≡ p.old.text.items ++ statement_lines (lists_of m.now)
+        (map (λ x. Statement.Element x) all.now)) }
 {
     for one in all {
         element(p, one)?;
@@ -27,7 +28,8 @@ fn elements(p: &mut Printer, m: &Model, all: &[Element]) -> Result<(), OutOfMemo
 }
 
 fn refinements(p: &mut Printer, m: &Model, all: &[Refinement]) -> Result<(), OutOfMemory>
-    ensures { OnOk result (p.new.text.items ≡ p.old.text.items ++ statement_lines (lists_of m.now) (map (λ x. Statement.Refine x) all.now)) }
+    ensures { OnOk result (p.new.text.items ≡ p.old.text.items ++ statement_lines (lists_of m.now)
+        (map (λ x. Statement.Refine x) all.now)) }
 {
     for one in all {
         refinement(p, m, one)?;
@@ -37,7 +39,8 @@ fn refinements(p: &mut Printer, m: &Model, all: &[Refinement]) -> Result<(), Out
 }
 
 fn variables(p: &mut Printer, m: &Model, all: &[Variable]) -> Result<(), OutOfMemory>
-    ensures { OnOk result (p.new.text.items ≡ p.old.text.items ++ statement_lines (lists_of m.now) (map (λ x. Statement.Variable x) all.now)) }
+    ensures { OnOk result (p.new.text.items ≡ p.old.text.items ++ statement_lines (lists_of m.now)
+        (map (λ x. Statement.Variable x) all.now)) }
 {
     for one in all {
         variable(p, one)?;
@@ -47,7 +50,8 @@ fn variables(p: &mut Printer, m: &Model, all: &[Variable]) -> Result<(), OutOfMe
 }
 
 fn sums(p: &mut Printer, m: &Model, all: &[Sum]) -> Result<(), OutOfMemory>
-    ensures { OnOk result (p.new.text.items ≡ p.old.text.items ++ statement_lines (lists_of m.now) (map (λ x. Statement.Sum x) all.now)) }
+    ensures { OnOk result (p.new.text.items ≡ p.old.text.items ++ statement_lines (lists_of m.now)
+        (map (λ x. Statement.Sum x) all.now)) }
 {
     for one in all {
         sum(p, one)?;
@@ -57,7 +61,8 @@ fn sums(p: &mut Printer, m: &Model, all: &[Sum]) -> Result<(), OutOfMemory>
 }
 
 fn contributions(p: &mut Printer, m: &Model, all: &[Edge]) -> Result<(), OutOfMemory>
-    ensures { OnOk result (p.new.text.items ≡ p.old.text.items ++ statement_lines (lists_of m.now) (map (λ x. Statement.Contrib x) all.now)) }
+    ensures { OnOk result (p.new.text.items ≡ p.old.text.items ++ statement_lines (lists_of m.now)
+        (map (λ x. Statement.Contrib x) all.now)) }
 {
     for one in all {
         contribution(p, m, one)?;
@@ -67,7 +72,8 @@ fn contributions(p: &mut Printer, m: &Model, all: &[Edge]) -> Result<(), OutOfMe
 }
 
 fn conflicts(p: &mut Printer, m: &Model, all: &[Edge]) -> Result<(), OutOfMemory>
-    ensures { OnOk result (p.new.text.items ≡ p.old.text.items ++ statement_lines (lists_of m.now) (map (λ x. Statement.Conflict x) all.now)) }
+    ensures { OnOk result (p.new.text.items ≡ p.old.text.items ++ statement_lines (lists_of m.now)
+        (map (λ x. Statement.Conflict x) all.now)) }
 {
     for one in all {
         conflict(p, m, one)?;
@@ -77,7 +83,8 @@ fn conflicts(p: &mut Printer, m: &Model, all: &[Edge]) -> Result<(), OutOfMemory
 }
 
 fn bindings(p: &mut Printer, m: &Model, all: &[Edge]) -> Result<(), OutOfMemory>
-    ensures { OnOk result (p.new.text.items ≡ p.old.text.items ++ statement_lines (lists_of m.now) (map (λ x. Statement.Bind x) all.now)) }
+    ensures { OnOk result (p.new.text.items ≡ p.old.text.items ++ statement_lines (lists_of m.now)
+        (map (λ x. Statement.Bind x) all.now)) }
 {
     for one in all {
         binding(p, m, one)?;
@@ -87,7 +94,8 @@ fn bindings(p: &mut Printer, m: &Model, all: &[Edge]) -> Result<(), OutOfMemory>
 }
 
 fn assertions(p: &mut Printer, m: &Model, all: &[Assertion]) -> Result<(), OutOfMemory>
-    ensures { OnOk result (p.new.text.items ≡ p.old.text.items ++ statement_lines (lists_of m.now) (map (λ x. Statement.Assert x) all.now)) }
+    ensures { OnOk result (p.new.text.items ≡ p.old.text.items ++ statement_lines (lists_of m.now)
+        (map (λ x. Statement.Assert x) all.now)) }
 {
     for one in all {
         assertion(p, m, one)?;
@@ -97,7 +105,8 @@ fn assertions(p: &mut Printer, m: &Model, all: &[Assertion]) -> Result<(), OutOf
 }
 
 fn values(p: &mut Printer, m: &Model, all: &[SumValue]) -> Result<(), OutOfMemory>
-    ensures { OnOk result (p.new.text.items ≡ p.old.text.items ++ statement_lines (lists_of m.now) (map (λ x. Statement.Value x) all.now)) }
+    ensures { OnOk result (p.new.text.items ≡ p.old.text.items ++ statement_lines (lists_of m.now)
+        (map (λ x. Statement.Value x) all.now)) }
 {
     for one in all {
         value(p, m, one)?;
@@ -107,7 +116,8 @@ fn values(p: &mut Printer, m: &Model, all: &[SumValue]) -> Result<(), OutOfMemor
 }
 
 fn rewards(p: &mut Printer, m: &Model, all: &[Weighing]) -> Result<(), OutOfMemory>
-    ensures { OnOk result (p.new.text.items ≡ p.old.text.items ++ statement_lines (lists_of m.now) (map (λ x. Statement.Reward x) all.now)) }
+    ensures { OnOk result (p.new.text.items ≡ p.old.text.items ++ statement_lines (lists_of m.now)
+        (map (λ x. Statement.Reward x) all.now)) }
 {
     for one in all {
         reward(p, m, one)?;
@@ -117,7 +127,8 @@ fn rewards(p: &mut Printer, m: &Model, all: &[Weighing]) -> Result<(), OutOfMemo
 }
 
 fn penalties(p: &mut Printer, m: &Model, all: &[Weighing]) -> Result<(), OutOfMemory>
-    ensures { OnOk result (p.new.text.items ≡ p.old.text.items ++ statement_lines (lists_of m.now) (map (λ x. Statement.Penalty x) all.now)) }
+    ensures { OnOk result (p.new.text.items ≡ p.old.text.items ++ statement_lines (lists_of m.now)
+        (map (λ x. Statement.Penalty x) all.now)) }
 {
     for one in all {
         penalty(p, m, one)?;
@@ -127,7 +138,8 @@ fn penalties(p: &mut Printer, m: &Model, all: &[Weighing]) -> Result<(), OutOfMe
 }
 
 fn preferences(p: &mut Printer, m: &Model, all: &[Preference]) -> Result<(), OutOfMemory>
-    ensures { OnOk result (p.new.text.items ≡ p.old.text.items ++ statement_lines (lists_of m.now) (map (λ x. Statement.Prefer x) all.now)) }
+    ensures { OnOk result (p.new.text.items ≡ p.old.text.items ++ statement_lines (lists_of m.now)
+        (map (λ x. Statement.Prefer x) all.now)) }
 {
     for one in all {
         preference(p, m, one)?;
@@ -137,7 +149,8 @@ fn preferences(p: &mut Printer, m: &Model, all: &[Preference]) -> Result<(), Out
 }
 
 fn rules(p: &mut Printer, m: &Model, all: &[Rule]) -> Result<(), OutOfMemory>
-    ensures { OnOk result (p.new.text.items ≡ p.old.text.items ++ statement_lines (lists_of m.now) (map (λ x. Statement.Rule x) all.now)) }
+    ensures { OnOk result (p.new.text.items ≡ p.old.text.items ++ statement_lines (lists_of m.now)
+        (map (λ x. Statement.Rule x) all.now)) }
 {
     for one in all {
         rule(p, m, one)?;
@@ -147,7 +160,8 @@ fn rules(p: &mut Printer, m: &Model, all: &[Rule]) -> Result<(), OutOfMemory>
 }
 
 fn interests(p: &mut Printer, m: &Model, all: &[u32]) -> Result<(), OutOfMemory>
-    ensures { OnOk result (p.new.text.items ≡ p.old.text.items ++ statement_lines (lists_of m.now) (map (λ x. Statement.Interest x) all.now)) }
+    ensures { OnOk result (p.new.text.items ≡ p.old.text.items ++ statement_lines (lists_of m.now)
+        (map (λ x. Statement.Interest x) all.now)) }
 {
     for one in all {
         interest(p, m, *one)?;
@@ -157,7 +171,8 @@ fn interests(p: &mut Printer, m: &Model, all: &[u32]) -> Result<(), OutOfMemory>
 }
 
 fn objectives(p: &mut Printer, m: &Model, all: &[Objective]) -> Result<(), OutOfMemory>
-    ensures { OnOk result (p.new.text.items ≡ p.old.text.items ++ statement_lines (lists_of m.now) (map (λ x. Statement.Objective x) all.now)) }
+    ensures { OnOk result (p.new.text.items ≡ p.old.text.items ++ statement_lines (lists_of m.now)
+        (map (λ x. Statement.Objective x) all.now)) }
 {
     for one in all {
         objective(p, m, one)?;
@@ -168,7 +183,8 @@ fn objectives(p: &mut Printer, m: &Model, all: &[Objective]) -> Result<(), OutOf
 
 /// The lines of what declares names.
 fn declarations(p: &mut Printer, m: &Model) -> Result<(), OutOfMemory>
-    ensures { OnOk result (p.new.text.items ≡ p.old.text.items ++ statement_lines (lists_of m.now) (declaring (lists_of m.now))) }
+    ensures { OnOk result (p.new.text.items ≡ p.old.text.items ++ statement_lines (lists_of m.now)
+        (declaring (lists_of m.now))) }
 {
     elements(p, m, m.elements.as_slice())?;
     refinements(p, m, m.refinements.as_slice())?;
@@ -179,7 +195,8 @@ fn declarations(p: &mut Printer, m: &Model) -> Result<(), OutOfMemory>
 
 /// The lines of what relates elements and refinements, or asserts them.
 fn relations(p: &mut Printer, m: &Model) -> Result<(), OutOfMemory>
-    ensures { OnOk result (p.new.text.items ≡ p.old.text.items ++ statement_lines (lists_of m.now) (relating (lists_of m.now))) }
+    ensures { OnOk result (p.new.text.items ≡ p.old.text.items ++ statement_lines (lists_of m.now)
+        (relating (lists_of m.now))) }
 {
     contributions(p, m, m.contribs.as_slice())?;
     conflicts(p, m, m.conflicts.as_slice())?;
@@ -190,7 +207,8 @@ fn relations(p: &mut Printer, m: &Model) -> Result<(), OutOfMemory>
 
 /// The lines of numbers and preferences.
 fn weights(p: &mut Printer, m: &Model) -> Result<(), OutOfMemory>
-    ensures { OnOk result (p.new.text.items ≡ p.old.text.items ++ statement_lines (lists_of m.now) (weighing (lists_of m.now))) }
+    ensures { OnOk result (p.new.text.items ≡ p.old.text.items ++ statement_lines (lists_of m.now)
+        (weighing (lists_of m.now))) }
 {
     values(p, m, m.values.as_slice())?;
     rewards(p, m, m.rewards.as_slice())?;
@@ -201,7 +219,8 @@ fn weights(p: &mut Printer, m: &Model) -> Result<(), OutOfMemory>
 
 /// The lines of rules, interests and objectives.
 fn demands(p: &mut Printer, m: &Model) -> Result<(), OutOfMemory>
-    ensures { OnOk result (p.new.text.items ≡ p.old.text.items ++ statement_lines (lists_of m.now) (demanding (lists_of m.now))) }
+    ensures { OnOk result (p.new.text.items ≡ p.old.text.items ++ statement_lines (lists_of m.now)
+        (demanding (lists_of m.now))) }
 {
     rules(p, m, m.rules.as_slice())?;
     interests(p, m, m.interests.as_slice())?;

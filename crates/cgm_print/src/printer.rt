@@ -45,7 +45,8 @@ impl Printer {
 
     /// Writes the space that is due.
     fn space(&mut self) -> Result<(), OutOfMemory>
-        ensures { OnOk result (self.new.text.items ≡ self.old.text.items ++ (if self.old.is_due then codes " " else [])) }
+        ensures { OnOk result (self.new.text.items ≡ self.old.text.items
+            ++ (if self.old.is_due then codes " " else [])) }
     {
         if self.is_due {
             self.text.push(b' ')?;
@@ -100,7 +101,8 @@ impl Printer {
 
     /// Opens a bracket with this word in it.
     pub(crate) fn open_with(&mut self, first: &[u8]) -> Result<(), OutOfMemory>
-        ensures { OnOk result (Writes self.old self.new (λ after. opening ∷ word first.now ∷ after)) }
+        ensures { OnOk result (Writes self.old self.new
+            (λ after. opening ∷ word first.now ∷ after)) }
     {
         self.open()?;
         self.word(first)?;

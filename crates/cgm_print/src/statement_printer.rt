@@ -29,7 +29,8 @@ fn begin_statement(p: &mut Printer, sort: Sort) -> Result<(), OutOfMemory>
 
 /// Begins such a line with a name.
 fn named_line(p: &mut Printer, sort: Sort, name: &[u8]) -> Result<(), OutOfMemory>
-    ensures { OnOk result (Begins p.old p.new (λ after. word (sort_word sort) ∷ word name.now ∷ after)) }
+    ensures { OnOk result (Begins p.old p.new
+        (λ after. word (sort_word sort) ∷ word name.now ∷ after)) }
 {
     begin_statement(p, sort)?;
     p.word(name)?;
@@ -48,7 +49,8 @@ fn goal_line(p: &mut Printer, name: &[u8], must: bool) -> Result<(), OutOfMemory
 
 /// Writes the line of an element, without its line feed, here and below.
 pub(crate) fn element(p: &mut Printer, e: &Element) -> Result<(), OutOfMemory>
-    ensures { OnOk result (IsLine p.old p.new (statement_tokens (written_element e.now.name e.now.kind e.now.must))) }
+    ensures { OnOk result (IsLine p.old p.new
+        (statement_tokens (written_element e.now.name e.now.kind e.now.must))) }
 {
     match e.kind {
         ElementKind::Goal => goal_line(p, e.name.as_slice(), e.must)?,
@@ -59,7 +61,8 @@ pub(crate) fn element(p: &mut Printer, e: &Element) -> Result<(), OutOfMemory>
 }
 
 fn source_names(p: &mut Printer, m: &Model, numbers: &[u32]) -> Result<(), OutOfMemory>
-    ensures { OnOk result (Writes p.old p.new (words_before (map (name_of_element (lists_of m.now)) numbers.now))) }
+    ensures { OnOk result (Writes p.old p.new
+        (words_before (map (name_of_element (lists_of m.now)) numbers.now))) }
 {
     for number in numbers {
         p.word(element_name(m, *number))?;
@@ -68,7 +71,8 @@ fn source_names(p: &mut Printer, m: &Model, numbers: &[u32]) -> Result<(), OutOf
 }
 
 pub(crate) fn refinement(p: &mut Printer, m: &Model, r: &Refinement) -> Result<(), OutOfMemory>
-    ensures { OnOk result (IsLine p.old p.new (statement_tokens (written (lists_of m.now) (Statement.Refine r.now)))) }
+    ensures { OnOk result (IsLine p.old p.new
+        (statement_tokens (written (lists_of m.now) (Statement.Refine r.now)))) }
 {
     named_line(p, Sort::Refine, r.name.as_slice())?;
     p.word(element_name(m, r.target))?;
@@ -82,7 +86,8 @@ pub(crate) fn refinement(p: &mut Printer, m: &Model, r: &Refinement) -> Result<(
 }
 
 pub(crate) fn variable(p: &mut Printer, v: &Variable) -> Result<(), OutOfMemory>
-    ensures { OnOk result (IsLine p.old p.new (word (codes "var") ∷ word v.now.name ∷ number v.now.lo ∷ number v.now.hi ∷ [])) }
+    ensures { OnOk result (IsLine p.old p.new
+        (word (codes "var") ∷ word v.now.name ∷ number v.now.lo ∷ number v.now.hi ∷ [])) }
 {
     named_line(p, Sort::Var, v.name.as_slice())?;
     p.number(v.lo)?;
@@ -91,7 +96,8 @@ pub(crate) fn variable(p: &mut Printer, v: &Variable) -> Result<(), OutOfMemory>
 }
 
 fn pair(p: &mut Printer, sort: Sort, one: &[u8], other: &[u8]) -> Result<(), OutOfMemory>
-    ensures { OnOk result (IsLine p.old p.new (word (sort_word sort) ∷ word one.now ∷ word other.now ∷ [])) }
+    ensures { OnOk result (IsLine p.old p.new
+        (word (sort_word sort) ∷ word one.now ∷ word other.now ∷ [])) }
 {
     named_line(p, sort, one)?;
     p.word(other)?;
@@ -99,7 +105,8 @@ fn pair(p: &mut Printer, sort: Sort, one: &[u8], other: &[u8]) -> Result<(), Out
 }
 
 pub(crate) fn contribution(p: &mut Printer, m: &Model, e: &Edge) -> Result<(), OutOfMemory>
-    ensures { OnOk result (IsLine p.old p.new (statement_tokens (written (lists_of m.now) (Statement.Contrib e.now)))) }
+    ensures { OnOk result (IsLine p.old p.new
+        (statement_tokens (written (lists_of m.now) (Statement.Contrib e.now)))) }
 {
     pair(
         p,
@@ -111,7 +118,8 @@ pub(crate) fn contribution(p: &mut Printer, m: &Model, e: &Edge) -> Result<(), O
 }
 
 pub(crate) fn conflict(p: &mut Printer, m: &Model, e: &Edge) -> Result<(), OutOfMemory>
-    ensures { OnOk result (IsLine p.old p.new (statement_tokens (written (lists_of m.now) (Statement.Conflict e.now)))) }
+    ensures { OnOk result (IsLine p.old p.new
+        (statement_tokens (written (lists_of m.now) (Statement.Conflict e.now)))) }
 {
     pair(
         p,
@@ -123,7 +131,8 @@ pub(crate) fn conflict(p: &mut Printer, m: &Model, e: &Edge) -> Result<(), OutOf
 }
 
 pub(crate) fn binding(p: &mut Printer, m: &Model, e: &Edge) -> Result<(), OutOfMemory>
-    ensures { OnOk result (IsLine p.old p.new (statement_tokens (written (lists_of m.now) (Statement.Bind e.now)))) }
+    ensures { OnOk result (IsLine p.old p.new
+        (statement_tokens (written (lists_of m.now) (Statement.Bind e.now)))) }
 {
     pair(
         p,
@@ -135,7 +144,8 @@ pub(crate) fn binding(p: &mut Printer, m: &Model, e: &Edge) -> Result<(), OutOfM
 }
 
 pub(crate) fn assertion(p: &mut Printer, m: &Model, a: &Assertion) -> Result<(), OutOfMemory>
-    ensures { OnOk result (IsLine p.old p.new (statement_tokens (written (lists_of m.now) (Statement.Assert a.now)))) }
+    ensures { OnOk result (IsLine p.old p.new
+        (statement_tokens (written (lists_of m.now) (Statement.Assert a.now)))) }
 {
     pair(
         p,
@@ -154,7 +164,8 @@ pub(crate) fn sum(p: &mut Printer, s: &Sum) -> Result<(), OutOfMemory>
 }
 
 pub(crate) fn value(p: &mut Printer, m: &Model, v: &SumValue) -> Result<(), OutOfMemory>
-    ensures { OnOk result (IsLine p.old p.new (statement_tokens (written (lists_of m.now) (Statement.Value v.now)))) }
+    ensures { OnOk result (IsLine p.old p.new
+        (statement_tokens (written (lists_of m.now) (Statement.Value v.now)))) }
 {
     named_line(p, Sort::Value, sum_name(m, v.sum))?;
     p.word(truth_name(m, v.of))?;
@@ -163,7 +174,9 @@ pub(crate) fn value(p: &mut Printer, m: &Model, v: &SumValue) -> Result<(), OutO
 }
 
 fn weighing(p: &mut Printer, m: &Model, sort: Sort, w: &Weighing) -> Result<(), OutOfMemory>
-    ensures { OnOk result (IsLine p.old p.new (word (sort_word sort) ∷ word (name_of_element (lists_of m.now) w.now.element) ∷ number w.now.k ∷ [])) }
+    ensures { OnOk result (IsLine p.old p.new
+        (word (sort_word sort) ∷ word (name_of_element (lists_of m.now) w.now.element)
+        ∷ number w.now.k ∷ [])) }
 {
     named_line(p, sort, element_name(m, w.element))?;
     p.number(w.k)?;
@@ -171,13 +184,15 @@ fn weighing(p: &mut Printer, m: &Model, sort: Sort, w: &Weighing) -> Result<(), 
 }
 
 pub(crate) fn reward(p: &mut Printer, m: &Model, w: &Weighing) -> Result<(), OutOfMemory>
-    ensures { OnOk result (IsLine p.old p.new (statement_tokens (written (lists_of m.now) (Statement.Reward w.now)))) }
+    ensures { OnOk result (IsLine p.old p.new
+        (statement_tokens (written (lists_of m.now) (Statement.Reward w.now)))) }
 {
     weighing(p, m, Sort::Weight(WeightWord::Reward), w)
 }
 
 pub(crate) fn penalty(p: &mut Printer, m: &Model, w: &Weighing) -> Result<(), OutOfMemory>
-    ensures { OnOk result (IsLine p.old p.new (statement_tokens (written (lists_of m.now) (Statement.Penalty w.now)))) }
+    ensures { OnOk result (IsLine p.old p.new
+        (statement_tokens (written (lists_of m.now) (Statement.Penalty w.now)))) }
 {
     weighing(p, m, Sort::Weight(WeightWord::Penalty), w)
 }
@@ -187,7 +202,8 @@ pub(crate) fn preference(
     m: &Model,
     preferred: &Preference,
 ) -> Result<(), OutOfMemory>
-    ensures { OnOk result (IsLine p.old p.new (statement_tokens (written (lists_of m.now) (Statement.Prefer preferred.now)))) }
+    ensures { OnOk result (IsLine p.old p.new
+        (statement_tokens (written (lists_of m.now) (Statement.Prefer preferred.now)))) }
 {
     pair(
         p,
@@ -199,7 +215,8 @@ pub(crate) fn preference(
 }
 
 pub(crate) fn interest(p: &mut Printer, m: &Model, k: u32) -> Result<(), OutOfMemory>
-    ensures { OnOk result (IsLine p.old p.new (statement_tokens (written (lists_of m.now) (Statement.Interest k)))) }
+    ensures { OnOk result (IsLine p.old p.new
+        (statement_tokens (written (lists_of m.now) (Statement.Interest k)))) }
 {
     named_line(p, Sort::Name(NameWord::Interest), element_name(m, k))?;
     Ok(())
@@ -216,7 +233,8 @@ fn direction_word(max: bool) -> &'static [u8]
 }
 
 pub(crate) fn objective(p: &mut Printer, m: &Model, o: &Objective) -> Result<(), OutOfMemory>
-    ensures { OnOk result (IsLine p.old p.new (statement_tokens (written (lists_of m.now) (Statement.Objective o.now)))) }
+    ensures { OnOk result (IsLine p.old p.new
+        (statement_tokens (written (lists_of m.now) (Statement.Objective o.now)))) }
 {
     pair(
         p,
@@ -234,7 +252,9 @@ fn condition(
     x: Truth,
     f: &Formula,
 ) -> Result<(), OutOfMemory>
-    ensures { OnOk result (IsLine p.old p.new (word (sort_word sort) ∷ word (name_of_truth (lists_of m.now) x) ∷ spelled (written_formula (lists_of m.now) f.now) [])) }
+    ensures { OnOk result (IsLine p.old p.new
+        (word (sort_word sort) ∷ word (name_of_truth (lists_of m.now) x)
+        ∷ spelled (written_formula (lists_of m.now) f.now) [])) }
 {
     named_line(p, sort, truth_name(m, x))?;
     formula(p, m, f)?;
@@ -242,7 +262,8 @@ fn condition(
 }
 
 fn requirement(p: &mut Printer, m: &Model, f: &Formula) -> Result<(), OutOfMemory>
-    ensures { OnOk result (IsLine p.old p.new (word (codes "require") ∷ spelled (written_formula (lists_of m.now) f.now) [])) }
+    ensures { OnOk result (IsLine p.old p.new
+        (word (codes "require") ∷ spelled (written_formula (lists_of m.now) f.now) [])) }
 {
     begin_statement(p, Sort::Require)?;
     formula(p, m, f)?;
@@ -250,7 +271,8 @@ fn requirement(p: &mut Printer, m: &Model, f: &Formula) -> Result<(), OutOfMemor
 }
 
 pub(crate) fn rule(p: &mut Printer, m: &Model, r: &Rule) -> Result<(), OutOfMemory>
-    ensures { OnOk result (IsLine p.old p.new (statement_tokens (written_rule (lists_of m.now) r.now))) }
+    ensures { OnOk result (IsLine p.old p.new
+        (statement_tokens (written_rule (lists_of m.now) r.now))) }
 {
     match r {
         Rule::Positive(x, f) => condition(p, m, Sort::Condition(ConditionWord::Positive), *x, f)?,

@@ -10,67 +10,67 @@ use crate::constraints::Atom;
 use crate::outcome::Narrowed;
 
 /// Whether all values of the box make the atom true.
-pub fn is_true(b: &BoxState, a: Atom) -> bool
-    requires { a.var.0 < length b.now.lower }
-    ensures value { result ≡ is_true_in b.now a }
-    ensures proper { IsProper b.now }
+pub fn is_true(bounds: &BoxState, atom: Atom) -> bool
+    requires { atom.var.0 < length bounds.now.lower }
+    ensures value { result ≡ is_true_in bounds.now atom }
+    ensures proper { IsProper bounds.now }
 {
-    if a.at_least {
-        a.k <= b.lo(a.var)
+    if atom.at_least {
+        atom.k <= bounds.lo(atom.var)
     } else {
-        b.hi(a.var) <= a.k
+        bounds.hi(atom.var) <= atom.k
     }
 }
 
 /// Whether no value of the box makes the atom true.
-pub fn is_false(b: &BoxState, a: Atom) -> bool
-    requires { a.var.0 < length b.now.lower }
-    ensures { result ≡ is_false_in b.now a }
+pub fn is_false(bounds: &BoxState, atom: Atom) -> bool
+    requires { atom.var.0 < length bounds.now.lower }
+    ensures { result ≡ is_false_in bounds.now atom }
 {
-    is_false_between(a, b.lo(a.var), b.hi(a.var))
+    is_false_between(atom, bounds.lo(atom.var), bounds.hi(atom.var))
 }
 
 /// The atom's negation, or None where the atom is true in the box.
-pub fn negated(b: &BoxState, a: Atom) -> Option<Atom>
-    requires { a.var.0 < length b.now.lower }
-    ensures { MatchOption result (is_true_in b.now a ≡ true)
-        (λ n. (is_true_in b.now a ≡ false) × (n ≡ negation a)) }
+pub fn negated(bounds: &BoxState, atom: Atom) -> Option<Atom>
+    requires { atom.var.0 < length bounds.now.lower }
+    ensures { MatchOption result (is_true_in bounds.now atom ≡ true)
+        (λ n. (is_true_in bounds.now atom ≡ false) × (n ≡ negation atom)) }
 {
-    if a.at_least {
-        let least = b.lo(a.var);
-        if a.k <= least {
+    if atom.at_least {
+        let least = bounds.lo(atom.var);
+        if atom.k <= least {
             return None;
         }
         Some(Atom {
-            var: a.var,
+            var: atom.var,
             at_least: false,
-            k: a.k - 1,
+            k: atom.k - 1,
         })
     } else {
-        let greatest = b.hi(a.var);
-        if greatest <= a.k {
+        let greatest = bounds.hi(atom.var);
+        if greatest <= atom.k {
             return None;
         }
         Some(Atom {
-            var: a.var,
+            var: atom.var,
             at_least: true,
-            k: a.k + 1,
+            k: atom.k + 1,
         })
     }
 }
 
 /// Makes an atom true in the box, and tells whether a bound is tighter now.
 /// Condition: the atom isn't false in the box.
-pub fn make_true(b: &mut BoxState, a: Atom) -> Narrowed
-    requires known { a.var.0 < length b.old.lower }
-    requires not_false { is_false_in b.old a ≡ false }
-    ensures after { b.new ≡ made_true b.old a }
-    ensures answer { IsTightening b.old b.new result }
-    ensures within { (limits : Bounds) → IsBoxOf limits b.old → IsBoxOf limits b.new }
+pub fn make_true(bounds: &mut BoxState, atom: Atom) -> Narrowed
+    requires known { atom.var.0 < length bounds.old.lower }
+    requires not_false { is_false_in bounds.old atom ≡ false }
+    ensures after { bounds.new ≡ made_true bounds.old atom }
+    ensures answer { IsTightening bounds.old bounds.new result }
+    ensures within { (limits : Bounds) → IsBoxOf limits bounds.old → IsBoxOf limits bounds.new }
 {
-    if is_true(b, a) {
+    if is_true(bounds, atom) {
         return Narrowed::Same;
     }
-    b.assume(a);
+    bounds.assume(atom);
     Narrowed::Tighter
 }

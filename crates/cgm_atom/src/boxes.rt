@@ -31,25 +31,25 @@ impl Model for BoxState {
 
 impl BoxState {
     /// The problem's bounds.
-    pub fn of(alloc: Global, p: &Problem) -> Result<BoxState, OutOfMemory>
-        ensures bounds { IfOk result (λ b. b ≡ p.now.bounds) }
-        ensures box_of { IfOk result (λ b. IsBoxOf p.now.bounds b) }
+    pub fn of(alloc: Global, problem: &Problem) -> Result<BoxState, OutOfMemory>
+        ensures bounds { IfOk result (λ b. b ≡ problem.now.bounds) }
+        ensures box_of { IfOk result (λ b. IsBoxOf problem.now.bounds b) }
     {
-        p.recall_well_formed();
-        let lower = Vec::from_slice(alloc, p.lower())?;
-        let upper = Vec::from_slice(alloc, p.upper())?;
+        problem.recall_well_formed();
+        let lower = Vec::from_slice(alloc, problem.lower())?;
+        let upper = Vec::from_slice(alloc, problem.upper())?;
         Ok(BoxState { lower, upper })
     }
 
     /// Takes the problem's bounds again. Takes no memory.
-    pub fn reset(&mut self, p: &Problem)
-        requires { IsBoxOf p.now.bounds self.old }
-        ensures bounds { self.new ≡ p.now.bounds }
-        ensures box_of { IsBoxOf p.now.bounds self.new }
+    pub fn reset(&mut self, problem: &Problem)
+        requires { IsBoxOf problem.now.bounds self.old }
+        ensures bounds { self.new ≡ problem.now.bounds }
+        ensures box_of { IsBoxOf problem.now.bounds self.new }
     {
-        p.recall_well_formed();
-        self.lower.copy_from_slice(p.lower());
-        self.upper.copy_from_slice(p.upper());
+        problem.recall_well_formed();
+        self.lower.copy_from_slice(problem.lower());
+        self.upper.copy_from_slice(problem.upper());
     }
 
     /// An equal box.
@@ -62,62 +62,62 @@ impl BoxState {
     }
 
     /// The least value of a variable.
-    pub fn lo(&self, v: Var) -> i64
-        requires { v.0 < length self.now.lower }
-        ensures value { result ≡ lower_of self.now v.0 }
+    pub fn lo(&self, variable: Var) -> i64
+        requires { variable.0 < length self.now.lower }
+        ensures value { result ≡ lower_of self.now variable.0 }
         ensures proper { IsProper self.now }
     {
-        self.lower[v.0 as usize]
+        self.lower[variable.0 as usize]
     }
 
     /// The greatest value of a variable.
-    pub fn hi(&self, v: Var) -> i64
-        requires { v.0 < length self.now.lower }
-        ensures value { result ≡ upper_of self.now v.0 }
+    pub fn hi(&self, variable: Var) -> i64
+        requires { variable.0 < length self.now.lower }
+        ensures value { result ≡ upper_of self.now variable.0 }
         ensures proper { IsProper self.now }
     {
-        self.upper[v.0 as usize]
+        self.upper[variable.0 as usize]
     }
 
     /// Makes an atom true. Answers false where it is false in the box, and then changes nothing.
-    pub fn assume(&mut self, a: Atom) -> bool
-        requires { a.var.0 < length self.old.lower }
-        ensures answer { result ≡ not (is_false_in self.old a) }
-        ensures after { self.new ≡ (if result then made_true self.old a else self.old) }
+    pub fn assume(&mut self, atom: Atom) -> bool
+        requires { atom.var.0 < length self.old.lower }
+        ensures answer { result ≡ not (is_false_in self.old atom) }
+        ensures after { self.new ≡ (if result then made_true self.old atom else self.old) }
         ensures within { (limits : Bounds) → IsBoxOf limits self.old → IsBoxOf limits self.new }
     {
-        let lo = self.lo(a.var);
-        let hi = self.hi(a.var);
-        if is_false_between(a, lo, hi) {
+        let lo = self.lo(atom.var);
+        let hi = self.hi(atom.var);
+        if is_false_between(atom, lo, hi) {
             return false;
         }
-        if a.at_least {
-            self.lower[a.var.0 as usize] = lo.max(a.k);
+        if atom.at_least {
+            self.lower[atom.var.0 as usize] = lo.max(atom.k);
         } else {
-            self.upper[a.var.0 as usize] = hi.min(a.k);
+            self.upper[atom.var.0 as usize] = hi.min(atom.k);
         }
         true
     }
 
     /// Sets the bound that an atom speaks of back to the atom's number. The atom's variable exists,
     /// and the atom is true in the box. Takes no memory.
-    pub fn relax(&mut self, a: Atom)
-        requires known { a.var.0 < length self.old.lower }
-        requires met { IsTrue (is_true_in self.old a) }
-        ensures after { self.new ≡ relaxed self.old a }
-        ensures within { (limits : Bounds) → IsBoxOf limits self.old → IsNumberWithin limits a → IsBoxOf limits self.new }
+    pub fn relax(&mut self, atom: Atom)
+        requires known { atom.var.0 < length self.old.lower }
+        requires met { IsTrue (is_true_in self.old atom) }
+        ensures after { self.new ≡ relaxed self.old atom }
+        ensures within { (limits : Bounds) → IsBoxOf limits self.old → IsNumberWithin limits atom → IsBoxOf limits self.new }
     {
-        if a.at_least {
-            self.lower[a.var.0 as usize] = a.k;
+        if atom.at_least {
+            self.lower[atom.var.0 as usize] = atom.k;
         } else {
-            self.upper[a.var.0 as usize] = a.k;
+            self.upper[atom.var.0 as usize] = atom.k;
         }
     }
 }
 
 /// Whether no value from `lo` to `hi` makes the atom true.
-pub(crate) fn is_false_between(a: Atom, lo: i64, hi: i64) -> bool
-    ensures { result ≡ cond a.at_least (int_lt hi a.k) (int_lt a.k lo) }
+pub(crate) fn is_false_between(atom: Atom, lo: i64, hi: i64) -> bool
+    ensures { result ≡ cond atom.at_least (int_lt hi atom.k) (int_lt atom.k lo) }
 {
-    if a.at_least { hi < a.k } else { a.k < lo }
+    if atom.at_least { hi < atom.k } else { atom.k < lo }
 }

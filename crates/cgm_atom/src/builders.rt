@@ -79,11 +79,11 @@ impl ProblemBuilder {
     }
 
     /// The least and the greatest value of a variable.
-    pub fn bounds(&self, v: Var) -> (i64, i64)
-        requires { v.0 < var_count self.now }
-        ensures { result ≡ (lower_of self.now.bounds v.0, upper_of self.now.bounds v.0) }
+    pub fn bounds(&self, variable: Var) -> (i64, i64)
+        requires { variable.0 < var_count self.now }
+        ensures { result ≡ (lower_of self.now.bounds variable.0, upper_of self.now.bounds variable.0) }
     {
-        self.problem.bounds(v)
+        self.problem.bounds(variable)
     }
 
     /// Whether the measure of the terms, the sum of coefficient size times greatest bound size, is at most `most`.
@@ -95,15 +95,15 @@ impl ProblemBuilder {
     }
 
     /// Adds a clause without its later equal atoms, and answers its number.
-    pub fn clause(&mut self, c: Clause) -> Result<u32, OutOfMemory>
-        requires known { IsClauseOf (var_count self.old) c }
+    pub fn clause(&mut self, added: Clause) -> Result<u32, OutOfMemory>
+        requires known { IsClauseOf (var_count self.old) added }
         requires room { length self.old.clauses < 2 ^ 32 - 1 }
         ensures number { IfOk result (λ n. n ≡ length self.old.clauses) }
-        ensures added { OnOk result (self.new ≡ with_clause self.old (without_repeats c)) }
+        ensures added { OnOk result (self.new ≡ with_clause self.old (without_repeats added)) }
         ensures unchanged { OnErr result (self.new ≡ self.old) }
     {
         let number = self.problem.clauses();
-        let atoms = first_atoms(self.alloc, c.atoms.as_slice())?;
+        let atoms = first_atoms(self.alloc, added.atoms.as_slice())?;
         self.problem.push_clause(Clause {
             atoms: Seq::of(atoms),
         })?;
@@ -111,30 +111,30 @@ impl ProblemBuilder {
     }
 
     /// Adds a row, and answers its number.
-    pub fn row(&mut self, r: Row) -> Result<u32, BuildStop>
-        requires guard { IfSome r.guard (λ g. g.var.0 < var_count self.old) }
-        requires terms { AreTermsOf (var_count self.old) r.terms }
+    pub fn row(&mut self, added: Row) -> Result<u32, BuildStop>
+        requires guard { IfSome added.guard (λ g. g.var.0 < var_count self.old) }
+        requires terms { AreTermsOf (var_count self.old) added.terms }
         requires room { length self.old.rows < 2 ^ 32 - 1 }
-        ensures { IsRowAnswer self.old self.new r result }
+        ensures { IsRowAnswer self.old self.new added result }
     {
-        if !is_row_size(&self.problem, &r) {
+        if !is_row_size(&self.problem, &added) {
             return Err(BuildStop::Row);
         }
         let number = self.problem.rows();
-        match self.problem.push_row(r) {
+        match self.problem.push_row(added) {
             Ok(()) => Ok(number),
             Err(_) => Err(BuildStop::Memory),
         }
     }
 
     /// Adds a variable to the objectives, at their end.
-    pub fn objective(&mut self, v: Var) -> Result<(), OutOfMemory>
-        requires known { v.0 < var_count self.old }
+    pub fn objective(&mut self, variable: Var) -> Result<(), OutOfMemory>
+        requires known { variable.0 < var_count self.old }
         requires room { length self.old.objectives < max_objectives }
-        ensures added { OnOk result (self.new ≡ with_objective self.old v) }
+        ensures added { OnOk result (self.new ≡ with_objective self.old variable) }
         ensures unchanged { OnErr result (self.new ≡ self.old) }
     {
-        self.problem.push_objective(v)
+        self.problem.push_objective(variable)
     }
 
     /// The problem as it was built.
@@ -170,24 +170,24 @@ fn insert_new(seen: &mut BTreeSet<Atom>, atom: Atom) -> Result<bool, OutOfMemory
     Ok(is_new)
 }
 
-fn is_row_size(p: &Problem, r: &Row) -> bool
-    requires { AreTermsOf (var_count p.now) r.now.terms }
-    ensures { IsTrue result ↔ IsRowSize p.now.bounds r.now }
+fn is_row_size(problem: &Problem, row: &Row) -> bool
+    requires { AreTermsOf (var_count problem.now) row.now.terms }
+    ensures { IsTrue result ↔ IsRowSize problem.now.bounds row.now }
 {
-    if r.least.unsigned_abs() > MAX_LEAST {
+    if row.least.unsigned_abs() > MAX_LEAST {
         return false;
     }
-    is_measure_within(p, r.terms.as_slice(), MAX_MEASURE)
+    is_measure_within(problem, row.terms.as_slice(), MAX_MEASURE)
 }
 
 // Stops at the first term that passes the limit, since the whole measure may not fit.
-fn is_measure_within(p: &Problem, terms: &[(i64, Var)], most: u64) -> bool
-    requires { AreTermsOf (var_count p.now) terms.now }
-    ensures { IsTrue result ↔ (measure p.now.bounds terms.now ≤ most) }
+fn is_measure_within(problem: &Problem, terms: &[(i64, Var)], most: u64) -> bool
+    requires { AreTermsOf (var_count problem.now) terms.now }
+    ensures { IsTrue result ↔ (measure problem.now.bounds terms.now ≤ most) }
 {
     let mut room = most;
     for (coefficient, v) in terms {
-        let share = term_measure(*coefficient, bound_size(p, *v));
+        let share = term_measure(*coefficient, bound_size(problem, *v));
         if share > u128::from(room) {
             return false;
         }
@@ -196,12 +196,12 @@ fn is_measure_within(p: &Problem, terms: &[(i64, Var)], most: u64) -> bool
     true
 }
 
-fn bound_size(p: &Problem, v: Var) -> u64
-    requires { v.0 < var_count p.now }
-    ensures size { result ≡ greatest_size p.now.bounds v.0 }
+fn bound_size(problem: &Problem, variable: Var) -> u64
+    requires { variable.0 < var_count problem.now }
+    ensures size { result ≡ greatest_size problem.now.bounds variable.0 }
     ensures limit { result ≤ max_bound }
 {
-    let (lo, hi) = p.bounds(v);
+    let (lo, hi) = problem.bounds(variable);
     lo.unsigned_abs().max(hi.unsigned_abs())
 }
 

@@ -24,37 +24,37 @@ pub enum Violated {
 }
 
 /// Whether the values, one for each variable by its number, are a solution.
-pub fn satisfied(p: &Problem, values: &[i64]) -> bool
-    ensures { IsTrue result ↔ IsSolution p.now values.now }
+pub fn satisfied(problem: &Problem, values: &[i64]) -> bool
+    ensures { IsTrue result ↔ IsSolution problem.now values.now }
 {
-    first_violated(p, values).is_none()
+    first_violated(problem, values).is_none()
 }
 
 /// What keeps the values from being a solution: the count, then the first bound, clause or row by its number.
-pub fn first_violated(p: &Problem, values: &[i64]) -> Option<Violated>
-    ensures first { result ≡ first_violation p.now values.now }
-    ensures none { IsNone result ↔ IsSolution p.now values.now }
+pub fn first_violated(problem: &Problem, values: &[i64]) -> Option<Violated>
+    ensures first { result ≡ first_violation problem.now values.now }
+    ensures none { IsNone result ↔ IsSolution problem.now values.now }
 {
-    if values.len() != p.vars() as usize {
+    if values.len() != problem.vars() as usize {
         return Some(Violated::Count);
     }
-    if let Some(x) = first_outside(p, values) {
+    if let Some(x) = first_outside(problem, values) {
         return Some(Violated::Bound(x));
     }
-    if let Some(n) = first_false_clause(p, values) {
+    if let Some(n) = first_false_clause(problem, values) {
         return Some(Violated::Clause(n));
     }
-    first_unmet_row(p, values).map(Violated::Row)
+    first_unmet_row(problem, values).map(Violated::Row)
 }
 
-fn first_outside(p: &Problem, values: &[i64]) -> Option<u32>
-    requires { length values.now ≡ var_count p.now }
-    ensures first { result ≡ outside_from p.now.bounds 0 values.now }
-    ensures none { IsNone result ↔ IsWithin p.now.bounds values.now }
+fn first_outside(problem: &Problem, values: &[i64]) -> Option<u32>
+    requires { length values.now ≡ var_count problem.now }
+    ensures first { result ≡ outside_from problem.now.bounds 0 values.now }
+    ensures none { IsNone result ↔ IsWithin problem.now.bounds values.now }
 {
-    p.recall_well_formed();
+    problem.recall_well_formed();
     for (x, value) in values.iter().enumerate() {
-        let (lo, hi) = p.bounds(Var(x as u32));
+        let (lo, hi) = problem.bounds(Var(x as u32));
         if !is_between(lo, *value, hi) {
             return Some(x as u32);
         }
@@ -68,12 +68,12 @@ fn is_between(lo: i64, value: i64, hi: i64) -> bool
     lo <= value && value <= hi
 }
 
-fn first_false_clause(p: &Problem, values: &[i64]) -> Option<u32>
-    requires { length values.now ≡ var_count p.now }
-    ensures { result ≡ position_from (λ c. not (clause_true values.now c)) 0 p.now.clauses }
+fn first_false_clause(problem: &Problem, values: &[i64]) -> Option<u32>
+    requires { length values.now ≡ var_count problem.now }
+    ensures { result ≡ position_from (λ c. not (clause_true values.now c)) 0 problem.now.clauses }
 {
-    p.recall_well_formed();
-    for (n, clause) in p.clause_list().iter().enumerate() {
+    problem.recall_well_formed();
+    for (n, clause) in problem.clause_list().iter().enumerate() {
         if !is_clause_true(clause, values) {
             return Some(n as u32);
         }
@@ -81,37 +81,37 @@ fn first_false_clause(p: &Problem, values: &[i64]) -> Option<u32>
     None
 }
 
-fn first_unmet_row(p: &Problem, values: &[i64]) -> Option<u32>
-    requires count { length values.now ≡ var_count p.now }
-    requires within { IsWithin p.now.bounds values.now }
-    ensures { result ≡ position_from (λ r. not (row_true values.now r)) 0 p.now.rows }
+fn first_unmet_row(problem: &Problem, values: &[i64]) -> Option<u32>
+    requires count { length values.now ≡ var_count problem.now }
+    requires within { IsWithin problem.now.bounds values.now }
+    ensures { result ≡ position_from (λ r. not (row_true values.now r)) 0 problem.now.rows }
 {
-    p.recall_well_formed();
-    for (n, row) in p.row_list().iter().enumerate() {
-        if !is_row_true(p, row, values) {
+    problem.recall_well_formed();
+    for (n, row) in problem.row_list().iter().enumerate() {
+        if !is_row_true(problem, row, values) {
             return Some(n as u32);
         }
     }
     None
 }
 
-fn is_atom_true(a: Atom, values: &[i64]) -> bool
-    requires { a.var.0 < length values.now }
-    ensures { result ≡ atom_true values.now a }
+fn is_atom_true(atom: Atom, values: &[i64]) -> bool
+    requires { atom.var.0 < length values.now }
+    ensures { result ≡ atom_true values.now atom }
 {
-    let value = value_at(values, a.var);
-    if a.at_least {
-        a.k <= value
+    let value = value_at(values, atom.var);
+    if atom.at_least {
+        atom.k <= value
     } else {
-        value <= a.k
+        value <= atom.k
     }
 }
 
-fn is_clause_true(c: &Clause, values: &[i64]) -> bool
-    requires { IsClauseOf (length values.now) c.now }
-    ensures { result ≡ clause_true values.now c.now }
+fn is_clause_true(clause: &Clause, values: &[i64]) -> bool
+    requires { IsClauseOf (length values.now) clause.now }
+    ensures { result ≡ clause_true values.now clause.now }
 {
-    for atom in c.atoms.as_slice() {
+    for atom in clause.atoms.as_slice() {
         if is_atom_true(*atom, values) {
             return true;
         }
@@ -119,16 +119,16 @@ fn is_clause_true(c: &Clause, values: &[i64]) -> bool
     false
 }
 
-fn is_row_true(p: &Problem, r: &Row, values: &[i64]) -> bool
-    requires known { IsRowOf p.now.bounds r.now }
-    requires count { length values.now ≡ var_count p.now }
-    requires within { IsWithin p.now.bounds values.now }
-    ensures { result ≡ row_true values.now r.now }
+fn is_row_true(problem: &Problem, row: &Row, values: &[i64]) -> bool
+    requires known { IsRowOf problem.now.bounds row.now }
+    requires count { length values.now ≡ var_count problem.now }
+    requires within { IsWithin problem.now.bounds values.now }
+    ensures { result ≡ row_true values.now row.now }
 {
-    if !is_guard_true(r.guard, values) {
+    if !is_guard_true(row.guard, values) {
         return true;
     }
-    r.least <= activity_of(p, r.terms.as_slice(), values)
+    row.least <= activity_of(problem, row.terms.as_slice(), values)
 }
 
 fn is_guard_true(guard: Option<Atom>, values: &[i64]) -> bool
@@ -142,34 +142,34 @@ fn is_guard_true(guard: Option<Atom>, values: &[i64]) -> bool
 }
 
 // By the row's measure each sum on the way fits.
-fn activity_of(p: &Problem, terms: &[(i64, Var)], values: &[i64]) -> i64
-    requires known { AreTermsOf (var_count p.now) terms.now }
-    requires limit { measure p.now.bounds terms.now ≤ max_measure }
-    requires count { length values.now ≡ var_count p.now }
-    requires within { IsWithin p.now.bounds values.now }
+fn activity_of(problem: &Problem, terms: &[(i64, Var)], values: &[i64]) -> i64
+    requires known { AreTermsOf (var_count problem.now) terms.now }
+    requires limit { measure problem.now.bounds terms.now ≤ max_measure }
+    requires count { length values.now ≡ var_count problem.now }
+    requires within { IsWithin problem.now.bounds values.now }
     ensures { result ≡ activity values.now terms.now }
 {
     let mut sum = 0;
     for (coefficient, v) in terms {
-        sum = sum_of(sum, term_value(p, *coefficient, *v, values));
+        sum = sum_of(sum, term_value(problem, *coefficient, *v, values));
     }
     sum
 }
 
-fn term_value(p: &Problem, coefficient: i64, v: Var, values: &[i64]) -> i64
-    requires known { v.0 < var_count p.now }
-    requires limit { unsigned_abs coefficient * greatest_size p.now.bounds v.0 ≤ max_measure }
-    requires count { length values.now ≡ var_count p.now }
-    requires within { IsWithin p.now.bounds values.now }
-    ensures value { result ≡ coefficient *ℤ value_of values.now v.0 }
-    ensures size { unsigned_abs result ≤ unsigned_abs coefficient * greatest_size p.now.bounds v.0 }
+fn term_value(problem: &Problem, coefficient: i64, variable: Var, values: &[i64]) -> i64
+    requires known { variable.0 < var_count problem.now }
+    requires limit { unsigned_abs coefficient * greatest_size problem.now.bounds variable.0 ≤ max_measure }
+    requires count { length values.now ≡ var_count problem.now }
+    requires within { IsWithin problem.now.bounds values.now }
+    ensures value { result ≡ coefficient *ℤ value_of values.now variable.0 }
+    ensures size { unsigned_abs result ≤ unsigned_abs coefficient * greatest_size problem.now.bounds variable.0 }
 {
-    product(coefficient, value_at(values, v))
+    product(coefficient, value_at(values, variable))
 }
 
-fn value_at(values: &[i64], v: Var) -> i64
-    requires { v.0 < length values.now }
-    ensures { result ≡ value_of values.now v.0 }
+fn value_at(values: &[i64], variable: Var) -> i64
+    requires { variable.0 < length values.now }
+    ensures { result ≡ value_of values.now variable.0 }
 {
-    values[v.0 as usize]
+    values[variable.0 as usize]
 }

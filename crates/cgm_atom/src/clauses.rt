@@ -106,14 +106,14 @@ fn objective_atom(values: &[i64], objective: Var, i: usize, part: usize, parts: 
 }
 
 /// The first atom, from a place on, that isn't false in the box.
-fn first_left(atoms: ClauseAtoms<'_>, b: &BoxState, from: usize) -> Option<usize>
+fn first_left(atoms: ClauseAtoms<'_>, bounds: &BoxState, from: usize) -> Option<usize>
     requires readable { IsReadable atoms }
-    requires known { AreKnown (length b.now.lower) (atoms_of atoms) }
-    ensures first { IsFirstLeft b.now (atoms_of atoms.entry) from result }
+    requires known { AreKnown (length bounds.now.lower) (atoms_of atoms) }
+    ensures first { IsFirstLeft bounds.now (atoms_of atoms.entry) from result }
     ensures next_fits { IfSome result (λ i. i + 1 < 2 ^ 64) }
 {
     for i in from..atoms.count() {
-        if !is_false(b, atoms.atom(i)) {
+        if !is_false(bounds, atoms.atom(i)) {
             return Some(i);
         }
     }
@@ -125,17 +125,17 @@ fn first_left(atoms: ClauseAtoms<'_>, b: &BoxState, from: usize) -> Option<usize
 /// `Conflict` comes where each atom is false in the box, which then is as it was. Where all but one are false,
 /// that one is made true. `Tighter` comes where a bound has changed. Takes no memory.
 /// Condition: the atoms are readable, and each has a variable of the box.
-pub fn narrow_by_atoms(b: &mut BoxState, atoms: ClauseAtoms<'_>) -> Narrowed
+pub fn narrow_by_atoms(bounds: &mut BoxState, atoms: ClauseAtoms<'_>) -> Narrowed
     requires readable { IsReadable atoms }
-    requires known { AreKnown (length b.old.lower) (atoms_of atoms) }
-    ensures exact { IsNarrowing (left_by_clause b.old (record { atoms = atoms_of atoms.entry }))
-        b.old b.new result }
-    ensures within { (limits : Bounds) → IsBoxOf limits b.old → IsBoxOf limits b.new }
+    requires known { AreKnown (length bounds.old.lower) (atoms_of atoms) }
+    ensures exact { IsNarrowing (left_by_clause bounds.old (record { atoms = atoms_of atoms.entry }))
+        bounds.old bounds.new result }
+    ensures within { (limits : Bounds) → IsBoxOf limits bounds.old → IsBoxOf limits bounds.new }
 {
-    match first_left(atoms, b, 0) {
+    match first_left(atoms, bounds, 0) {
         None => Narrowed::Conflict,
-        Some(only) => match first_left(atoms, b, only + 1) {
-            None => make_true(b, atoms.atom(only)),
+        Some(only) => match first_left(atoms, bounds, only + 1) {
+            None => make_true(bounds, atoms.atom(only)),
             Some(_) => Narrowed::Same,
         },
     }

@@ -38,11 +38,11 @@ pub use std::alloc::AllocError as OutOfMemory;
 use std::marker::{Send, Sync};
 
 // A problem, a box and an entry can be moved to a thread, and a problem can be shared between threads.
-fn cross_threads(p: &Problem, b: &BoxState, e: &Entry) {
-    can_be_moved(p);
-    can_be_moved(b);
-    can_be_moved(e);
-    can_be_shared(p);
+fn cross_threads(problem: &Problem, bounds: &BoxState, entry: &Entry) {
+    can_be_moved(problem);
+    can_be_moved(bounds);
+    can_be_moved(entry);
+    can_be_shared(problem);
 }
 
 fn can_be_moved<T: Send>(_: &T) {}

@@ -33,12 +33,12 @@ pub fn negated(x: u32) -> Atom
 /// Adds a clause of these atoms, a later equal one dropped.
 /// Condition: their variables are known, their numbers are at most 2·10^15 in size, and the builder
 /// has fewer than 2^32 - 1 clauses so far. After want of memory the builder is given up.
-pub fn add_clause(alloc: Global, b: &mut ProblemBuilder, atoms: &[Atom]) -> Result<(), OutOfMemory>
-    requires { CanTake b.old (clause atoms.now ∷ []) }
-    ensures { OnOk result (b.new ≡ with_written b.old (clause atoms.now ∷ [])) }
+pub fn add_clause(alloc: Global, builder: &mut ProblemBuilder, atoms: &[Atom]) -> Result<(), OutOfMemory>
+    requires { CanTake builder.old (clause atoms.now ∷ []) }
+    ensures { OnOk result (builder.new ≡ with_written builder.old (clause atoms.now ∷ [])) }
 {
     let atoms = Vec::from_slice(alloc, atoms)?;
-    b.clause(Clause {
+    builder.clause(Clause {
         atoms: Seq::of(atoms),
     })?;
     Ok(())
@@ -47,14 +47,14 @@ pub fn add_clause(alloc: Global, b: &mut ProblemBuilder, atoms: &[Atom]) -> Resu
 /// Adds the clause that the second variable is 1 where the first is, as `add_clause` does.
 pub fn add_implication(
     alloc: Global,
-    b: &mut ProblemBuilder,
+    builder: &mut ProblemBuilder,
     first: u32,
     second: u32,
 ) -> Result<(), OutOfMemory>
-    requires { CanTake b.old (implication first second ∷ []) }
-    ensures { OnOk result (b.new ≡ with_written b.old (implication first second ∷ [])) }
+    requires { CanTake builder.old (implication first second ∷ []) }
+    ensures { OnOk result (builder.new ≡ with_written builder.old (implication first second ∷ [])) }
 {
-    add_clause(alloc, b, &[negated(first), literal(second)])
+    add_clause(alloc, builder, &[negated(first), literal(second)])
 }
 
 /// Pushes the literal of each variable.

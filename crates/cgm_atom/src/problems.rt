@@ -43,12 +43,12 @@ impl Problem {
     }
 
     /// The least and the greatest value of a variable.
-    pub fn bounds(&self, v: Var) -> (i64, i64)
-        requires { v.0 < var_count self.now }
-        ensures bounds { result ≡ (lower_of self.now.bounds v.0, upper_of self.now.bounds v.0) }
+    pub fn bounds(&self, variable: Var) -> (i64, i64)
+        requires { variable.0 < var_count self.now }
+        ensures bounds { result ≡ (lower_of self.now.bounds variable.0, upper_of self.now.bounds variable.0) }
         ensures valid { IsWellFormed self.now }
     {
-        let at = v.0 as usize;
+        let at = variable.0 as usize;
         (self.lower[at], self.upper[at])
     }
 
@@ -172,33 +172,33 @@ impl Problem {
         Ok(())
     }
 
-    pub(crate) fn push_clause(&mut self, c: Clause) -> Result<(), OutOfMemory>
-        requires known { IsClauseOf (var_count self.old) c }
+    pub(crate) fn push_clause(&mut self, clause: Clause) -> Result<(), OutOfMemory>
+        requires known { IsClauseOf (var_count self.old) clause }
         requires room { length self.old.clauses < 2 ^ 32 - 1 }
-        ensures ok { OnOk result (self.new ≡ with_clause self.old c) }
+        ensures ok { OnOk result (self.new ≡ with_clause self.old clause) }
         ensures err { OnErr result (self.new ≡ self.old) }
     {
-        self.clauses.push(c)?;
+        self.clauses.push(clause)?;
         Ok(())
     }
 
-    pub(crate) fn push_row(&mut self, r: Row) -> Result<(), OutOfMemory>
-        requires known { IsRowOf self.old.bounds r }
+    pub(crate) fn push_row(&mut self, row: Row) -> Result<(), OutOfMemory>
+        requires known { IsRowOf self.old.bounds row }
         requires room { length self.old.rows < 2 ^ 32 - 1 }
-        ensures ok { OnOk result (self.new ≡ with_row self.old r) }
+        ensures ok { OnOk result (self.new ≡ with_row self.old row) }
         ensures err { OnErr result (self.new ≡ self.old) }
     {
-        self.rows.push(r)?;
+        self.rows.push(row)?;
         Ok(())
     }
 
-    pub(crate) fn push_objective(&mut self, v: Var) -> Result<(), OutOfMemory>
-        requires known { v.0 < var_count self.old }
+    pub(crate) fn push_objective(&mut self, variable: Var) -> Result<(), OutOfMemory>
+        requires known { variable.0 < var_count self.old }
         requires room { length self.old.objectives < max_objectives }
-        ensures ok { OnOk result (self.new ≡ with_objective self.old v) }
+        ensures ok { OnOk result (self.new ≡ with_objective self.old variable) }
         ensures err { OnErr result (self.new ≡ self.old) }
     {
-        self.objectives.push(v)?;
+        self.objectives.push(variable)?;
         Ok(())
     }
 }

@@ -112,13 +112,13 @@ pub(crate) fn hint_of(word: &[u8]) -> Option<Hint>
     }
 }
 
-pub(crate) fn push_atom(out: &mut Vec<u8>, a: Atom) -> Result<(), OutOfMemory>
-    ensures { OnOk result (out.new.items ≡ out.old.items ++ atom_word a) }
+pub(crate) fn push_atom(out: &mut Vec<u8>, atom: Atom) -> Result<(), OutOfMemory>
+    ensures { OnOk result (out.new.items ≡ out.old.items ++ atom_word atom) }
 {
-    push_number(out, a.var.0 as u64)?;
-    let relation = if a.at_least { b">=" } else { b"<=" };
+    push_number(out, atom.var.0 as u64)?;
+    let relation = if atom.at_least { b">=" } else { b"<=" };
     out.extend_from_slice(relation)?;
-    push_value(out, a.k)
+    push_value(out, atom.k)
 }
 
 /// Adds a letter and a number.
@@ -132,10 +132,10 @@ fn push_numbered(out: &mut Vec<u8>, letter: u8, n: u64) -> Result<(), OutOfMemor
 }
 
 /// Adds the word of a hint; a hint to a lemma that has no place yet has none.
-pub(crate) fn push_hint(out: &mut Vec<u8>, h: Hint) -> Result<(), OutOfMemory>
-    ensures { OnOk result (out.new.items ≡ out.old.items ++ hint_word h) }
+pub(crate) fn push_hint(out: &mut Vec<u8>, hint: Hint) -> Result<(), OutOfMemory>
+    ensures { OnOk result (out.new.items ≡ out.old.items ++ hint_word hint) }
 {
-    match h {
+    match hint {
         Hint::Clause(n) => push_numbered(out, b'c', n as u64),
         Hint::Row(n) => push_numbered(out, b'r', n as u64),
         Hint::Entry(place) => push_numbered(out, b'e', place),

@@ -25,15 +25,15 @@ pub enum Verdict {
 }
 
 /// Checks the entries in their order, each after those before it.
-pub fn check(alloc: Global, p: &Problem, entries: &[Entry]) -> Result<Verdict, OutOfMemory>
-    ensures { IfOk result (λ verdict. IsVerdictOf p.now entries.now verdict) }
+pub fn check(alloc: Global, problem: &Problem, entries: &[Entry]) -> Result<Verdict, OutOfMemory>
+    ensures { IfOk result (λ verdict. IsVerdictOf problem.now entries.now verdict) }
 {
-    p.recall_well_formed();
+    problem.recall_well_formed();
     let mut index = LogIndex::new(alloc);
-    let mut work = BoxState::of(alloc, p)?;
+    let mut work = BoxState::of(alloc, problem)?;
     for (i, entry) in entries.iter().enumerate() {
         let so_far = IndexedLog::of(&entries[..i], &index);
-        match accepts_next(p, &so_far, entry, &mut work) {
+        match accepts_next(problem, &so_far, entry, &mut work) {
             Ok(()) => index.add(entry)?,
             Err(why) => {
                 return Ok(Verdict::Refused {

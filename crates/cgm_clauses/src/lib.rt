@@ -12,8 +12,8 @@ use std::marker::Send;
 pub use stores::ClauseStore;
 
 // A store can be moved to a thread.
-fn cross_threads(s: &ClauseStore) {
-    can_be_moved(s);
+fn cross_threads(store: &ClauseStore) {
+    can_be_moved(store);
 }
 
 fn can_be_moved<T: Send>(_: &T) {}

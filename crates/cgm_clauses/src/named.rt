@@ -14,13 +14,13 @@ pub(crate) struct Named {
 }
 
 /// The problem's clauses by their numbers.
-pub(crate) fn clauses_of(alloc: Global, p: &Problem) -> Result<Vec<Named>, OutOfMemory>
-    ensures { IfOk result (λ clauses. clauses.items ≡ numbered 0 p.now.clauses) }
+pub(crate) fn clauses_of(alloc: Global, problem: &Problem) -> Result<Vec<Named>, OutOfMemory>
+    ensures { IfOk result (λ clauses. clauses.items ≡ numbered 0 problem.now.clauses) }
 {
     let mut clauses = Vec::new(alloc);
-    for number in 0..p.clauses() {
+    for number in 0..problem.clauses() {
         clauses.push(Named {
-            clause: p.clause(number).copy(alloc)?,
+            clause: problem.clause(number).copy(alloc)?,
             name: Hint::Clause(number),
         })?;
     }

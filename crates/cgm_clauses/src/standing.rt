@@ -15,46 +15,46 @@ pub(crate) enum Standing {
     Unit(Atom),
 }
 
-pub(crate) fn standing_in(b: &BoxState, c: &Clause) -> Standing
-    requires { AreKnown (length b.now.lower) c.now.atoms }
-    ensures { IsStanding b.now c.now result }
+pub(crate) fn standing_in(bounds: &BoxState, clause: &Clause) -> Standing
+    requires { AreKnown (length bounds.now.lower) clause.now.atoms }
+    ensures { IsStanding bounds.now clause.now result }
 {
-    standing_of_atoms(b, c.atoms.as_slice())
+    standing_of_atoms(bounds, clause.atoms.as_slice())
 }
 
-fn standing_of_atoms(b: &BoxState, atoms: &[Atom]) -> Standing
-    requires { AreKnown (length b.now.lower) atoms.now }
-    ensures { IsStanding b.now (record { atoms = atoms.now }) result }
+fn standing_of_atoms(bounds: &BoxState, atoms: &[Atom]) -> Standing
+    requires { AreKnown (length bounds.now.lower) atoms.now }
+    ensures { IsStanding bounds.now (record { atoms = atoms.now }) result }
 {
-    match first_left(b, atoms, 0) {
+    match first_left(bounds, atoms, 0) {
         None => Standing::False,
-        Some(place) => standing_from(b, atoms, place),
+        Some(place) => standing_from(bounds, atoms, place),
     }
 }
 
 /// How the clause stands where this is the place of the first atom that isn't false.
-fn standing_from(b: &BoxState, atoms: &[Atom], place: usize) -> Standing
-    requires known { AreKnown (length b.now.lower) atoms.now }
-    requires first { IsFirstLeft b.now atoms.now 0 (Some place) }
-    ensures { IsStanding b.now (record { atoms = atoms.now }) result }
+fn standing_from(bounds: &BoxState, atoms: &[Atom], place: usize) -> Standing
+    requires known { AreKnown (length bounds.now.lower) atoms.now }
+    requires first { IsFirstLeft bounds.now atoms.now 0 (Some place) }
+    ensures { IsStanding bounds.now (record { atoms = atoms.now }) result }
 {
     let first = atoms[place];
-    if is_true(b, first) {
+    if is_true(bounds, first) {
         return Standing::Quiet;
     }
-    match first_left(b, atoms, place + 1) {
+    match first_left(bounds, atoms, place + 1) {
         None => Standing::Unit(first),
         Some(_) => Standing::Quiet,
     }
 }
 
 /// The first atom, from a place on, that isn't false in the box.
-fn first_left(b: &BoxState, atoms: &[Atom], from: usize) -> Option<usize>
-    requires { AreKnown (length b.now.lower) atoms.now }
-    ensures { IsFirstLeft b.now atoms.now from result }
+fn first_left(bounds: &BoxState, atoms: &[Atom], from: usize) -> Option<usize>
+    requires { AreKnown (length bounds.now.lower) atoms.now }
+    ensures { IsFirstLeft bounds.now atoms.now from result }
 {
     for i in from..atoms.len() {
-        if !is_false(b, atoms[i]) {
+        if !is_false(bounds, atoms[i]) {
             return Some(i);
         }
     }

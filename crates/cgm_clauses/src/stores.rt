@@ -35,14 +35,14 @@ impl Model for ClauseStore {
 
 impl ClauseStore {
     /// The problem's clauses, each named by its number.
-    pub fn new(alloc: Global, p: &Problem) -> Result<ClauseStore, OutOfMemory>
-        ensures store { IfOk result (λ s. s ≡ started p.now) }
-        ensures of_problem { IfOk result (λ s. IsStoreOf p.now s) }
+    pub fn new(alloc: Global, problem: &Problem) -> Result<ClauseStore, OutOfMemory>
+        ensures store { IfOk result (λ s. s ≡ started problem.now) }
+        ensures of_problem { IfOk result (λ s. IsStoreOf problem.now s) }
     {
-        p.recall_well_formed();
-        let clauses = clauses_of(alloc, p)?;
+        problem.recall_well_formed();
+        let clauses = clauses_of(alloc, problem)?;
         Ok(ClauseStore {
-            vars: p.vars(),
+            vars: problem.vars(),
             clauses,
             added: Vec::new(alloc),
         })
@@ -50,12 +50,12 @@ impl ClauseStore {
 
     /// Adds a clause at the end, with the hint that names it. Each atom has a variable of the problem.
     /// For want of memory the store stays as it is.
-    pub fn add(&mut self, c: Clause, name: Hint) -> Result<(), OutOfMemory>
-        requires known { AreKnown self.old.vars c.atoms }
-        ensures ok { OnOk result (self.new ≡ with_clause self.old c name) }
+    pub fn add(&mut self, clause: Clause, name: Hint) -> Result<(), OutOfMemory>
+        requires known { AreKnown self.old.vars clause.atoms }
+        ensures ok { OnOk result (self.new ≡ with_clause self.old clause name) }
         ensures err { OnErr result (self.new ≡ self.old) }
     {
-        self.added.push(Named { clause: c, name })?;
+        self.added.push(Named { clause, name })?;
         Ok(())
     }
 
@@ -86,13 +86,13 @@ impl ClauseStore {
     /// at `Spent` a clause is unit and `left` is 0. Memory is wanted only where a clause is unit and
     /// `left` isn't 0; then the tightenings so far stay, and `left` is less by their number.
     /// Store and trail are of the same problem, and the trail's moves with `left` are at most 2^62.
-    pub fn propagate(&mut self, t: &mut Trail, left: &mut u64) -> Result<Swept, OutOfMemory>
-        requires problem { IsStoreOf t.old.problem self.old }
-        requires room { t.old.moves + left.old ≤ 2 ^ 62 }
-        ensures made { IsPropagated (IsNamedIn (all_clauses self.old)) t.old t.new left.old left.new }
-        ensures answer { IsSwept (box_of t.new) (all_clauses self.old) left.new result }
+    pub fn propagate(&mut self, trail: &mut Trail, left: &mut u64) -> Result<Swept, OutOfMemory>
+        requires problem { IsStoreOf trail.old.problem self.old }
+        requires room { trail.old.moves + left.old ≤ 2 ^ 62 }
+        ensures made { IsPropagated (IsNamedIn (all_clauses self.old)) trail.old trail.new left.old left.new }
+        ensures answer { IsSwept (box_of trail.new) (all_clauses self.old) left.new result }
         ensures store { self.new ≡ self.old }
     {
-        propagate_by(self.clauses.as_slice(), self.added.as_slice(), t, left)
+        propagate_by(self.clauses.as_slice(), self.added.as_slice(), trail, left)
     }
 }

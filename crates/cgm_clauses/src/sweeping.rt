@@ -17,18 +17,18 @@ use cgm_trail::{Swept, Trail, step};
 pub(crate) fn propagate_by(
     clauses: &[Named],
     added: &[Named],
-    t: &mut Trail,
+    trail: &mut Trail,
     left: &mut u64,
 ) -> Result<Swept, OutOfMemory>
-    requires clauses { All (IsKnown (var_count t.old.problem)) clauses.now }
-    requires added { All (IsKnown (var_count t.old.problem)) added.now }
-    requires room { t.old.moves + left.old ≤ 2 ^ 62 }
-    ensures made { IsPropagated (IsNamedIn (clauses.now ++ added.now)) t.old t.new left.old left.new }
-    ensures answer { IsSwept (box_of t.new) (clauses.now ++ added.now) left.new result }
+    requires clauses { All (IsKnown (var_count trail.old.problem)) clauses.now }
+    requires added { All (IsKnown (var_count trail.old.problem)) added.now }
+    requires room { trail.old.moves + left.old ≤ 2 ^ 62 }
+    ensures made { IsPropagated (IsNamedIn (clauses.now ++ added.now)) trail.old trail.new left.old left.new }
+    ensures answer { IsSwept (box_of trail.new) (clauses.now ++ added.now) left.new result }
 {
     loop {
         let before = *left;
-        match sweep_both(clauses, added, t, left)? {
+        match sweep_both(clauses, added, trail, left)? {
             Swept::Quiet => {
                 if *left == before {
                     return Ok(Swept::Quiet);
@@ -43,31 +43,31 @@ pub(crate) fn propagate_by(
 fn sweep_both(
     clauses: &[Named],
     added: &[Named],
-    t: &mut Trail,
+    trail: &mut Trail,
     left: &mut u64,
 ) -> Result<Swept, OutOfMemory>
-    requires clauses { All (IsKnown (var_count t.old.problem)) clauses.now }
-    requires added { All (IsKnown (var_count t.old.problem)) added.now }
-    requires room { t.old.moves + left.old ≤ 2 ^ 62 }
-    ensures made { IsPropagated (IsNamedIn (clauses.now ++ added.now)) t.old t.new left.old left.new }
-    ensures answer { IsOneSweep (box_of t.new) (clauses.now ++ added.now) left.old left.new result }
+    requires clauses { All (IsKnown (var_count trail.old.problem)) clauses.now }
+    requires added { All (IsKnown (var_count trail.old.problem)) added.now }
+    requires room { trail.old.moves + left.old ≤ 2 ^ 62 }
+    ensures made { IsPropagated (IsNamedIn (clauses.now ++ added.now)) trail.old trail.new left.old left.new }
+    ensures answer { IsOneSweep (box_of trail.new) (clauses.now ++ added.now) left.old left.new result }
 {
-    match sweep(clauses, t, left)? {
-        Swept::Quiet => sweep(added, t, left),
+    match sweep(clauses, trail, left)? {
+        Swept::Quiet => sweep(added, trail, left),
         Swept::Conflict(h) => Ok(Swept::Conflict(h)),
         Swept::Spent => Ok(Swept::Spent),
     }
 }
 
 /// Looks at each clause once, up to one that stops it.
-fn sweep(clauses: &[Named], t: &mut Trail, left: &mut u64) -> Result<Swept, OutOfMemory>
-    requires known { All (IsKnown (var_count t.old.problem)) clauses.now }
-    requires room { t.old.moves + left.old ≤ 2 ^ 62 }
-    ensures made { IsPropagated (IsNamedIn clauses.now) t.old t.new left.old left.new }
-    ensures answer { IsOneSweep (box_of t.new) clauses.now left.old left.new result }
+fn sweep(clauses: &[Named], trail: &mut Trail, left: &mut u64) -> Result<Swept, OutOfMemory>
+    requires known { All (IsKnown (var_count trail.old.problem)) clauses.now }
+    requires room { trail.old.moves + left.old ≤ 2 ^ 62 }
+    ensures made { IsPropagated (IsNamedIn clauses.now) trail.old trail.new left.old left.new }
+    ensures answer { IsOneSweep (box_of trail.new) clauses.now left.old left.new result }
 {
     for named in clauses {
-        match look_at(named, t, left)? {
+        match look_at(named, trail, left)? {
             Swept::Quiet => {}
             Swept::Conflict(h) => return Ok(Swept::Conflict(h)),
             Swept::Spent => return Ok(Swept::Spent),
@@ -77,21 +77,21 @@ fn sweep(clauses: &[Named], t: &mut Trail, left: &mut u64) -> Result<Swept, OutO
 }
 
 /// Makes the open atom of the clause true, if the clause is unit.
-fn look_at(named: &Named, t: &mut Trail, left: &mut u64) -> Result<Swept, OutOfMemory>
-    requires known { IsKnown (var_count t.old.problem) named.now }
-    requires room { t.old.moves + left.old ≤ 2 ^ 62 }
-    ensures made { IsPropagated (IsOnly named.now.name (of_clause named.now.clause)) t.old t.new
+fn look_at(named: &Named, trail: &mut Trail, left: &mut u64) -> Result<Swept, OutOfMemory>
+    requires known { IsKnown (var_count trail.old.problem) named.now }
+    requires room { trail.old.moves + left.old ≤ 2 ^ 62 }
+    ensures made { IsPropagated (IsOnly named.now.name (of_clause named.now.clause)) trail.old trail.new
         left.old left.new }
-    ensures answer { IsOneSweep (box_of t.new) (named.now ∷ []) left.old left.new result }
+    ensures answer { IsOneSweep (box_of trail.new) (named.now ∷ []) left.old left.new result }
 {
-    match standing_in(t.state(), &named.clause) {
+    match standing_in(trail.state(), &named.clause) {
         Standing::Quiet => Ok(Swept::Quiet),
         Standing::False => Ok(Swept::Conflict(named.name)),
         Standing::Unit(only) => {
             if *left == 0 {
                 return Ok(Swept::Spent);
             }
-            step(t, only, named.name, left)?;
+            step(trail, only, named.name, left)?;
             Ok(Swept::Quiet)
         }
     }

@@ -10,10 +10,10 @@ use cgm_text::print;
 use std::alloc::Global;
 
 /// Prints the canonical text of a model.
-pub(crate) fn show<O: Sink>(alloc: Global, m: &Model, out: &mut O) -> Status
-    ensures { HasShowOutcome (O.state out.old) (O.state out.new) (lists_of m.now) result }
+pub(crate) fn show<O: Sink>(alloc: Global, model: &Model, out: &mut O) -> Status
+    ensures { HasShowOutcome (O.state out.old) (O.state out.new) (lists_of model.now) result }
 {
-    match print(alloc, m) {
+    match print(alloc, model) {
         Ok(text) => print_report(out, text.as_slice(), Status::Done),
         Err(_) => tell_memory(out),
     }

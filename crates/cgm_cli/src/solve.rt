@@ -61,21 +61,21 @@ pub(crate) fn solve<F: Shelf, O: Sink>(
 /// the report.
 fn deliver<F: Shelf, O: Sink>(
     alloc: Global,
-    m: &Model,
+    model: &Model,
     answer: &Answer,
     cert: Option<&str>,
     shelf: &mut F,
     out: &mut O,
 ) -> Status
-    requires report { IsReportable (lists_of m.now) answer.now }
+    requires report { IsReportable (lists_of model.now) answer.now }
     requires entries { All IsPrintable (entries_of answer.now) }
     ensures outcome { IsDelivered (option_map (λ file. file.now) cert.entry) (entries_of answer.now)
-        (report_of (lists_of m.now) answer.now) (answer_status answer.now)
+        (report_of (lists_of model.now) answer.now) (answer_status answer.now)
         (outside (F.state shelf.old) (O.state out.old))
         (outside (F.state shelf.new) (O.state out.new)) result }
     ensures reads { (F.state shelf.new).read_faults ≡ (F.state shelf.old).read_faults }
 {
-    match report(alloc, m, answer) {
+    match report(alloc, model, answer) {
         Ok(text) => {
             let report = text.as_slice();
             match cert {

@@ -17,103 +17,103 @@ use std::alloc::Global;
 /// A variable that is true exactly where all literals are.
 pub(crate) fn define_all(
     alloc: Global,
-    b: &mut ProblemBuilder,
+    builder: &mut ProblemBuilder,
     literals: &[Literal],
 ) -> Result<Literal, OutOfMemory>
-    requires known { All (λ l. l.variable < var_count b.old) literals.now }
-    requires room { HasRoomFor b.old (definition_part (var_count b.old) (all_of literals.now)) }
-    ensures literal { IfOk result (λ l. l ≡ positive_of (var_count b.old)) }
-    ensures added { OnOk result (b.new ≡ with_part b.old (definition_part (var_count b.old) (all_of literals.now))) }
+    requires known { All (λ l. l.variable < var_count builder.old) literals.now }
+    requires room { HasRoomFor builder.old (definition_part (var_count builder.old) (all_of literals.now)) }
+    ensures literal { IfOk result (λ l. l ≡ positive_of (var_count builder.old)) }
+    ensures added { OnOk result (builder.new ≡ with_part builder.old (definition_part (var_count builder.old) (all_of literals.now))) }
 {
-    let p = new_name(b)?;
+    let p = new_name(builder)?;
     let opposites = opposites(alloc, literals)?;
-    add_pairs(alloc, b, negated(p), literals)?;
-    add_one_of(alloc, b, literal(p), opposites.as_slice())?;
+    add_pairs(alloc, builder, negated(p), literals)?;
+    add_one_of(alloc, builder, literal(p), opposites.as_slice())?;
     Ok(positive(p))
 }
 
 /// A variable that is true exactly where one of the literals is.
 pub(crate) fn define_any(
     alloc: Global,
-    b: &mut ProblemBuilder,
+    builder: &mut ProblemBuilder,
     literals: &[Literal],
 ) -> Result<Literal, OutOfMemory>
-    requires known { All (λ l. l.variable < var_count b.old) literals.now }
-    requires room { HasRoomFor b.old (definition_part (var_count b.old) (any_of literals.now)) }
-    ensures literal { IfOk result (λ l. l ≡ positive_of (var_count b.old)) }
-    ensures added { OnOk result (b.new ≡ with_part b.old (definition_part (var_count b.old) (any_of literals.now))) }
+    requires known { All (λ l. l.variable < var_count builder.old) literals.now }
+    requires room { HasRoomFor builder.old (definition_part (var_count builder.old) (any_of literals.now)) }
+    ensures literal { IfOk result (λ l. l ≡ positive_of (var_count builder.old)) }
+    ensures added { OnOk result (builder.new ≡ with_part builder.old (definition_part (var_count builder.old) (any_of literals.now))) }
 {
-    let p = new_name(b)?;
+    let p = new_name(builder)?;
     let opposites = opposites(alloc, literals)?;
-    add_pairs(alloc, b, literal(p), opposites.as_slice())?;
-    add_one_of(alloc, b, negated(p), literals)?;
+    add_pairs(alloc, builder, literal(p), opposites.as_slice())?;
+    add_one_of(alloc, builder, negated(p), literals)?;
     Ok(positive(p))
 }
 
 /// A variable that is true exactly where both literals are true or both are false.
 pub(crate) fn define_same(
     alloc: Global,
-    b: &mut ProblemBuilder,
+    builder: &mut ProblemBuilder,
     one: Literal,
     other: Literal,
 ) -> Result<Literal, OutOfMemory>
-    requires one { one.variable < var_count b.old }
-    requires other { other.variable < var_count b.old }
-    requires room { HasRoomFor b.old (definition_part (var_count b.old) (same_as one other)) }
-    ensures literal { IfOk result (λ l. l ≡ positive_of (var_count b.old)) }
-    ensures added { OnOk result (b.new ≡ with_part b.old (definition_part (var_count b.old) (same_as one other))) }
+    requires one { one.variable < var_count builder.old }
+    requires other { other.variable < var_count builder.old }
+    requires room { HasRoomFor builder.old (definition_part (var_count builder.old) (same_as one other)) }
+    ensures literal { IfOk result (λ l. l ≡ positive_of (var_count builder.old)) }
+    ensures added { OnOk result (builder.new ≡ with_part builder.old (definition_part (var_count builder.old) (same_as one other))) }
 {
-    let p = new_name(b)?;
+    let p = new_name(builder)?;
     let not_one = opposite(one);
     let not_other = opposite(other);
-    add_clause(alloc, b, &[negated(p), atom(not_one), atom(other)])?;
-    add_clause(alloc, b, &[negated(p), atom(one), atom(not_other)])?;
-    add_clause(alloc, b, &[literal(p), atom(one), atom(other)])?;
-    add_clause(alloc, b, &[literal(p), atom(not_one), atom(not_other)])?;
+    add_clause(alloc, builder, &[negated(p), atom(not_one), atom(other)])?;
+    add_clause(alloc, builder, &[negated(p), atom(one), atom(not_other)])?;
+    add_clause(alloc, builder, &[literal(p), atom(one), atom(other)])?;
+    add_clause(alloc, builder, &[literal(p), atom(not_one), atom(not_other)])?;
     Ok(positive(p))
 }
 
 /// A variable that is true exactly where the sum of the terms is at most the number.
 pub(crate) fn define_at_most(
     alloc: Global,
-    b: &mut ProblemBuilder,
+    builder: &mut ProblemBuilder,
     terms: &[(i64, Var)],
     k: i64,
 ) -> Result<Literal, OutOfMemory>
-    requires known { AreTermsOf (var_count b.old) terms.now }
+    requires known { AreTermsOf (var_count builder.old) terms.now }
     requires coefficients { All (λ t. unsigned_abs t.0 < 2 ^ 63) terms.now }
     requires number { unsigned_abs k ≤ max_measure }
-    requires room { HasRoomFor b.old (definition_part (var_count b.old) (at_most terms.now k)) }
-    ensures literal { IfOk result (λ l. l ≡ positive_of (var_count b.old)) }
-    ensures added { OnOk result (b.new ≡ with_part b.old (definition_part (var_count b.old) (at_most terms.now k))) }
+    requires room { HasRoomFor builder.old (definition_part (var_count builder.old) (at_most terms.now k)) }
+    ensures literal { IfOk result (λ l. l ≡ positive_of (var_count builder.old)) }
+    ensures added { OnOk result (builder.new ≡ with_part builder.old (definition_part (var_count builder.old) (at_most terms.now k))) }
 {
-    let p = new_name(b)?;
+    let p = new_name(builder)?;
     let negative_terms = negative(alloc, terms)?;
-    add_row(b, literal(p), negative_terms, negated_number(k))?;
+    add_row(builder, literal(p), negative_terms, negated_number(k))?;
     let same_terms = Vec::from_slice(alloc, terms)?;
-    add_row(b, negated(p), same_terms, next_number(k))?;
+    add_row(builder, negated(p), same_terms, next_number(k))?;
     Ok(positive(p))
 }
 
 /// A variable that is true exactly where the sum of the terms is at least the number.
 pub(crate) fn define_at_least(
     alloc: Global,
-    b: &mut ProblemBuilder,
+    builder: &mut ProblemBuilder,
     terms: &[(i64, Var)],
     k: i64,
 ) -> Result<Literal, OutOfMemory>
-    requires known { AreTermsOf (var_count b.old) terms.now }
+    requires known { AreTermsOf (var_count builder.old) terms.now }
     requires coefficients { All (λ t. unsigned_abs t.0 < 2 ^ 63) terms.now }
     requires number { unsigned_abs k ≤ max_measure }
-    requires room { HasRoomFor b.old (definition_part (var_count b.old) (at_least terms.now k)) }
-    ensures literal { IfOk result (λ l. l ≡ positive_of (var_count b.old)) }
-    ensures added { OnOk result (b.new ≡ with_part b.old (definition_part (var_count b.old) (at_least terms.now k))) }
+    requires room { HasRoomFor builder.old (definition_part (var_count builder.old) (at_least terms.now k)) }
+    ensures literal { IfOk result (λ l. l ≡ positive_of (var_count builder.old)) }
+    ensures added { OnOk result (builder.new ≡ with_part builder.old (definition_part (var_count builder.old) (at_least terms.now k))) }
 {
-    let p = new_name(b)?;
+    let p = new_name(builder)?;
     let same_terms = Vec::from_slice(alloc, terms)?;
-    add_row(b, literal(p), same_terms, k)?;
+    add_row(builder, literal(p), same_terms, k)?;
     let negative_terms = negative(alloc, terms)?;
-    add_row(b, negated(p), negative_terms, 1 - k)?;
+    add_row(builder, negated(p), negative_terms, 1 - k)?;
     Ok(positive(p))
 }
 
@@ -132,12 +132,12 @@ fn next_number(k: i64) -> i64
 }
 
 /// A new variable of 0 or 1.
-fn new_name(b: &mut ProblemBuilder) -> Result<u32, OutOfMemory>
-    requires { var_count b.old < 2 ^ 32 - 1 }
-    ensures number { IfOk result (λ p. p ≡ var_count b.old) }
-    ensures added { OnOk result (b.new ≡ with_var b.old (pos 0) (pos 1)) }
+fn new_name(builder: &mut ProblemBuilder) -> Result<u32, OutOfMemory>
+    requires { var_count builder.old < 2 ^ 32 - 1 }
+    ensures number { IfOk result (λ p. p ≡ var_count builder.old) }
+    ensures added { OnOk result (builder.new ≡ with_var builder.old (pos 0) (pos 1)) }
 {
-    match b.var(0, 1) {
+    match builder.var(0, 1) {
         Ok(v) => Ok(v.0),
         Err(BuildStop::Memory) => Err(OutOfMemory),
         // Both bounds are within their limit.
@@ -159,15 +159,15 @@ fn opposites(alloc: Global, literals: &[Literal]) -> Result<Vec<Literal>, OutOfM
 /// For each literal a clause of the atom and the literal.
 fn add_pairs(
     alloc: Global,
-    b: &mut ProblemBuilder,
-    a: Atom,
+    builder: &mut ProblemBuilder,
+    first: Atom,
     literals: &[Literal],
 ) -> Result<(), OutOfMemory>
-    requires { CanTake b.old (pairs a literals.now) }
-    ensures { OnOk result (b.new ≡ with_written b.old (pairs a literals.now)) }
+    requires { CanTake builder.old (pairs first literals.now) }
+    ensures { OnOk result (builder.new ≡ with_written builder.old (pairs first literals.now)) }
 {
     for l in literals {
-        add_clause(alloc, b, &[a, atom(*l)])?;
+        add_clause(alloc, builder, &[first, atom(*l)])?;
     }
     Ok(())
 }
@@ -175,40 +175,40 @@ fn add_pairs(
 /// A clause of the atom and the literals.
 fn add_one_of(
     alloc: Global,
-    b: &mut ProblemBuilder,
-    a: Atom,
+    builder: &mut ProblemBuilder,
+    first: Atom,
     literals: &[Literal],
 ) -> Result<(), OutOfMemory>
-    requires { CanTake b.old (one_of_clause a literals.now ∷ []) }
-    ensures { OnOk result (b.new ≡ with_written b.old (one_of_clause a literals.now ∷ [])) }
+    requires { CanTake builder.old (one_of_clause first literals.now ∷ []) }
+    ensures { OnOk result (builder.new ≡ with_written builder.old (one_of_clause first literals.now ∷ [])) }
 {
     let mut atoms = Vec::new(alloc);
-    atoms.push(a)?;
+    atoms.push(first)?;
     for l in literals {
         atoms.push(atom(*l))?;
     }
-    add_clause(alloc, b, atoms.as_slice())
+    add_clause(alloc, builder, atoms.as_slice())
 }
 
 /// Adds a row with a guard. Where the row's measure passes its limit, which can't be for comparisons
 /// that were measured before, the answer is as for want of memory.
 fn add_row(
-    b: &mut ProblemBuilder,
+    builder: &mut ProblemBuilder,
     guard: Atom,
     terms: Vec<(i64, Var)>,
     least: i64,
 ) -> Result<(), OutOfMemory>
-    requires guard { guard.var.0 < var_count b.old }
-    requires terms { AreTermsOf (var_count b.old) terms.items }
-    requires room { length b.old.rows < 2 ^ 32 - 1 }
-    ensures { OnOk result (b.new ≡ with_row b.old (row_where guard terms.items least)) }
+    requires guard { guard.var.0 < var_count builder.old }
+    requires terms { AreTermsOf (var_count builder.old) terms.items }
+    requires room { length builder.old.rows < 2 ^ 32 - 1 }
+    ensures { OnOk result (builder.new ≡ with_row builder.old (row_where guard terms.items least)) }
 {
     let row = Row {
         guard: Some(guard),
         terms: Seq::of(terms),
         least,
     };
-    match b.row(row) {
+    match builder.row(row) {
         Ok(_) => Ok(()),
         Err(_) => Err(OutOfMemory),
     }

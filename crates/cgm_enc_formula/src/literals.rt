@@ -20,28 +20,28 @@ pub(crate) fn positive(variable: u32) -> Literal
     }
 }
 
-pub(crate) fn opposite(l: Literal) -> Literal
-    ensures { result ≡ opposite_of l }
+pub(crate) fn opposite(literal: Literal) -> Literal
+    ensures { result ≡ opposite_of literal }
 {
     Literal {
-        variable: l.variable,
-        is_positive: !l.is_positive,
+        variable: literal.variable,
+        is_positive: !literal.is_positive,
     }
 }
 
 /// `x >= 1`, or `x <= 0`.
-pub(crate) fn atom(l: Literal) -> Atom
-    ensures { result ≡ atom_of l }
+pub(crate) fn atom(literal: Literal) -> Atom
+    ensures { result ≡ atom_of literal }
 {
-    if l.is_positive {
+    if literal.is_positive {
         Atom {
-            var: Var(l.variable),
+            var: Var(literal.variable),
             at_least: true,
             k: 1,
         }
     } else {
         Atom {
-            var: Var(l.variable),
+            var: Var(literal.variable),
             at_least: false,
             k: 0,
         }

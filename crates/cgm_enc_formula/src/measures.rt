@@ -15,69 +15,69 @@ use cgm_formula::{Formula, Linear, Number};
 use cgm_model::{Model, Rule};
 
 /// The first rule with a comparison whose measure passes the limit, by its number.
-pub(crate) fn first_past(m: &Model, b: &ProblemBuilder, rules: &[Rule]) -> Option<u32>
-    requires variables { model_variables (lists_of m.now) ≤ var_count b.now }
-    requires known { All (λ r. HasKnownNumbers (lists_of m.now) (formula_of r)) rules.now }
+pub(crate) fn first_past(model: &Model, builder: &ProblemBuilder, rules: &[Rule]) -> Option<u32>
+    requires variables { model_variables (lists_of model.now) ≤ var_count builder.now }
+    requires known { All (λ r. HasKnownNumbers (lists_of model.now) (formula_of r)) rules.now }
     requires few { length rules.now ≤ 2 ^ 32 }
     ensures { MatchOption result
-        (Each (IsWithinMeasure (lists_of m.now) b.now.bounds) rules.now)
-        (FirstFails (IsWithinMeasure (lists_of m.now) b.now.bounds) rules.now) }
+        (Each (IsWithinMeasure (lists_of model.now) builder.now.bounds) rules.now)
+        (FirstFails (IsWithinMeasure (lists_of model.now) builder.now.bounds) rules.now) }
 {
     for (number, rule) in rules.iter().enumerate() {
-        if !is_within(m, b, rule) {
+        if !is_within(model, builder, rule) {
             return Some(number as u32);
         }
     }
     None
 }
 
-fn is_within(m: &Model, b: &ProblemBuilder, rule: &Rule) -> bool
-    requires variables { model_variables (lists_of m.now) ≤ var_count b.now }
-    requires known { HasKnownNumbers (lists_of m.now) (formula_of rule.now) }
-    ensures { result ≡ has_small_measures_in (lists_of m.now) b.now.bounds (formula_of rule.now) }
+fn is_within(model: &Model, builder: &ProblemBuilder, rule: &Rule) -> bool
+    requires variables { model_variables (lists_of model.now) ≤ var_count builder.now }
+    requires known { HasKnownNumbers (lists_of model.now) (formula_of rule.now) }
+    ensures { result ≡ has_small_measures_in (lists_of model.now) builder.now.bounds (formula_of rule.now) }
 {
     match rule {
-        Rule::Positive(_, formula) => has_small_measures(m, b, formula),
-        Rule::Negative(_, formula) => has_small_measures(m, b, formula),
-        Rule::Require(formula) => has_small_measures(m, b, formula),
+        Rule::Positive(_, formula) => has_small_measures(model, builder, formula),
+        Rule::Negative(_, formula) => has_small_measures(model, builder, formula),
+        Rule::Require(formula) => has_small_measures(model, builder, formula),
     }
 }
 
 #[cycle(measures)]
-fn has_small_measures(m: &Model, b: &ProblemBuilder, formula: &Formula) -> bool
-    requires variables { model_variables (lists_of m.now) ≤ var_count b.now }
-    requires known { HasKnownNumbers (lists_of m.now) formula.now }
-    ensures { result ≡ has_small_measures_in (lists_of m.now) b.now.bounds formula.now }
+fn has_small_measures(model: &Model, builder: &ProblemBuilder, formula: &Formula) -> bool
+    requires variables { model_variables (lists_of model.now) ≤ var_count builder.now }
+    requires known { HasKnownNumbers (lists_of model.now) formula.now }
+    ensures { result ≡ has_small_measures_in (lists_of model.now) builder.now.bounds formula.now }
 {
     match formula {
         Formula::Name(_) => true,
-        Formula::Not(part) => has_small_measures(m, b, part.get()),
-        Formula::And(parts) => have_small_measures(m, b, parts.as_slice()),
-        Formula::Or(parts) => have_small_measures(m, b, parts.as_slice()),
+        Formula::Not(part) => has_small_measures(model, builder, part.get()),
+        Formula::And(parts) => have_small_measures(model, builder, parts.as_slice()),
+        Formula::Or(parts) => have_small_measures(model, builder, parts.as_slice()),
         Formula::Implies(premise, conclusion) => {
-            let premise = has_small_measures(m, b, premise.get());
-            let conclusion = has_small_measures(m, b, conclusion.get());
+            let premise = has_small_measures(model, builder, premise.get());
+            let conclusion = has_small_measures(model, builder, conclusion.get());
             both(premise, conclusion)
         }
         Formula::Iff(one, other) => {
-            let one = has_small_measures(m, b, one.get());
-            let other = has_small_measures(m, b, other.get());
+            let one = has_small_measures(model, builder, one.get());
+            let other = has_small_measures(model, builder, other.get());
             both(one, other)
         }
-        Formula::AtMost(linear, k) => is_small(m, b, linear, *k),
-        Formula::AtLeast(linear, k) => is_small(m, b, linear, *k),
-        Formula::Equal(linear, k) => is_small(m, b, linear, *k),
+        Formula::AtMost(linear, k) => is_small(model, builder, linear, *k),
+        Formula::AtLeast(linear, k) => is_small(model, builder, linear, *k),
+        Formula::Equal(linear, k) => is_small(model, builder, linear, *k),
     }
 }
 
 #[cycle(measures)]
-fn have_small_measures(m: &Model, b: &ProblemBuilder, parts: &[Formula]) -> bool
-    requires variables { model_variables (lists_of m.now) ≤ var_count b.now }
-    requires known { All (HasKnownNumbers (lists_of m.now)) parts.now }
-    ensures { result ≡ list_all (has_small_measures_in (lists_of m.now) b.now.bounds) parts.now }
+fn have_small_measures(model: &Model, builder: &ProblemBuilder, parts: &[Formula]) -> bool
+    requires variables { model_variables (lists_of model.now) ≤ var_count builder.now }
+    requires known { All (HasKnownNumbers (lists_of model.now)) parts.now }
+    ensures { result ≡ list_all (has_small_measures_in (lists_of model.now) builder.now.bounds) parts.now }
 {
     for part in parts {
-        if !has_small_measures(m, b, part) {
+        if !has_small_measures(model, builder, part) {
             return false;
         }
     }
@@ -91,27 +91,27 @@ fn both(one: bool, other: bool) -> bool
 }
 
 /// Whether a comparison's measure is within the limit.
-fn is_small(m: &Model, b: &ProblemBuilder, l: &Linear, k: i64) -> bool
-    requires variables { model_variables (lists_of m.now) ≤ var_count b.now }
-    requires known { All (λ t. IsKnownNumber (lists_of m.now) t.1) l.now.terms }
-    ensures { result ≡ nat_le (comparison_measure (lists_of m.now) b.now.bounds (l.now, k)) max_measure }
+fn is_small(model: &Model, builder: &ProblemBuilder, linear: &Linear, k: i64) -> bool
+    requires variables { model_variables (lists_of model.now) ≤ var_count builder.now }
+    requires known { All (λ t. IsKnownNumber (lists_of model.now) t.1) linear.now.terms }
+    ensures { result ≡ nat_le (comparison_measure (lists_of model.now) builder.now.bounds (linear.now, k)) max_measure }
 {
     let size = k.unsigned_abs();
     if size > MAX_MEASURE {
         return false;
     }
-    are_within(m, b, l.terms.as_slice(), MAX_MEASURE - size)
+    are_within(model, builder, linear.terms.as_slice(), MAX_MEASURE - size)
 }
 
 /// Stops at the first term that passes what is left, since the whole measure may not fit.
-fn are_within(m: &Model, b: &ProblemBuilder, terms: &[(i64, Number)], most: u64) -> bool
-    requires variables { model_variables (lists_of m.now) ≤ var_count b.now }
-    requires known { All (λ t. IsKnownNumber (lists_of m.now) t.1) terms.now }
-    ensures { IsTrue result ↔ (measure b.now.bounds (variable_terms (lists_of m.now) terms.now) ≤ most) }
+fn are_within(model: &Model, builder: &ProblemBuilder, terms: &[(i64, Number)], most: u64) -> bool
+    requires variables { model_variables (lists_of model.now) ≤ var_count builder.now }
+    requires known { All (λ t. IsKnownNumber (lists_of model.now) t.1) terms.now }
+    ensures { IsTrue result ↔ (measure builder.now.bounds (variable_terms (lists_of model.now) terms.now) ≤ most) }
 {
     let mut room = most;
     for term in terms {
-        let share = term_measure(m, b, term);
+        let share = term_measure(model, builder, term);
         if share > u128::from(room) {
             return false;
         }
@@ -120,12 +120,12 @@ fn are_within(m: &Model, b: &ProblemBuilder, terms: &[(i64, Number)], most: u64)
     true
 }
 
-fn term_measure(m: &Model, b: &ProblemBuilder, term: &(i64, Number)) -> u128
-    requires variables { model_variables (lists_of m.now) ≤ var_count b.now }
-    requires known { IsKnownNumber (lists_of m.now) term.now.1 }
-    ensures { result ≡ unsigned_abs term.now.0 * greatest_size b.now.bounds (variable_in (lists_of m.now) term.now.1) }
+fn term_measure(model: &Model, builder: &ProblemBuilder, term: &(i64, Number)) -> u128
+    requires variables { model_variables (lists_of model.now) ≤ var_count builder.now }
+    requires known { IsKnownNumber (lists_of model.now) term.now.1 }
+    ensures { result ≡ unsigned_abs term.now.0 * greatest_size builder.now.bounds (variable_in (lists_of model.now) term.now.1) }
 {
-    let (lo, hi) = b.bounds(Var(number_variable(m, term.1)));
+    let (lo, hi) = builder.bounds(Var(number_variable(model, term.1)));
     product(
         term.0.unsigned_abs(),
         lo.unsigned_abs().max(hi.unsigned_abs()),

@@ -23,43 +23,43 @@ use std::alloc::Global;
 #[cycle(naming)]
 pub(crate) fn name_formula(
     alloc: Global,
-    m: &Model,
-    b: &mut ProblemBuilder,
-    f: &Formula,
+    model: &Model,
+    builder: &mut ProblemBuilder,
+    formula: &Formula,
 ) -> Result<Literal, OutOfMemory>
-    requires formula { IsEncodableFormula (lists_of m.now) f.now }
-    requires variables { model_variables (lists_of m.now) ≤ var_count b.old }
-    requires room { HasRoomFor b.old (definitions_part (var_count b.old) (naming (lists_of m.now) f.now (var_count b.old)).definitions) }
-    ensures literal { IfOk result (λ l. l ≡ (naming (lists_of m.now) f.now (var_count b.old)).literal) }
-    ensures added { OnOk result (b.new ≡ with_part b.old (definitions_part (var_count b.old) (naming (lists_of m.now) f.now (var_count b.old)).definitions)) }
+    requires formula { IsEncodableFormula (lists_of model.now) formula.now }
+    requires variables { model_variables (lists_of model.now) ≤ var_count builder.old }
+    requires room { HasRoomFor builder.old (definitions_part (var_count builder.old) (naming (lists_of model.now) formula.now (var_count builder.old)).definitions) }
+    ensures literal { IfOk result (λ l. l ≡ (naming (lists_of model.now) formula.now (var_count builder.old)).literal) }
+    ensures added { OnOk result (builder.new ≡ with_part builder.old (definitions_part (var_count builder.old) (naming (lists_of model.now) formula.now (var_count builder.old)).definitions)) }
 {
-    match f {
-        Formula::Name(name) => Ok(positive(truth_variable(m, *name))),
+    match formula {
+        Formula::Name(name) => Ok(positive(truth_variable(model, *name))),
         Formula::Not(part) => {
-            let l = name_formula(alloc, m, b, part.get())?;
+            let l = name_formula(alloc, model, builder, part.get())?;
             Ok(opposite(l))
         }
         Formula::And(parts) => {
-            let literals = name_each(alloc, m, b, parts.as_slice())?;
-            define_all(alloc, b, literals.as_slice())
+            let literals = name_each(alloc, model, builder, parts.as_slice())?;
+            define_all(alloc, builder, literals.as_slice())
         }
         Formula::Or(parts) => {
-            let literals = name_each(alloc, m, b, parts.as_slice())?;
-            define_any(alloc, b, literals.as_slice())
+            let literals = name_each(alloc, model, builder, parts.as_slice())?;
+            define_any(alloc, builder, literals.as_slice())
         }
         Formula::Implies(premise, conclusion) => {
-            let premise = name_formula(alloc, m, b, premise.get())?;
-            let conclusion = name_formula(alloc, m, b, conclusion.get())?;
-            define_any(alloc, b, &[opposite(premise), conclusion])
+            let premise = name_formula(alloc, model, builder, premise.get())?;
+            let conclusion = name_formula(alloc, model, builder, conclusion.get())?;
+            define_any(alloc, builder, &[opposite(premise), conclusion])
         }
         Formula::Iff(one, other) => {
-            let one = name_formula(alloc, m, b, one.get())?;
-            let other = name_formula(alloc, m, b, other.get())?;
-            define_same(alloc, b, one, other)
+            let one = name_formula(alloc, model, builder, one.get())?;
+            let other = name_formula(alloc, model, builder, other.get())?;
+            define_same(alloc, builder, one, other)
         }
-        Formula::AtMost(linear, k) => name_at_most(alloc, m, b, linear, *k),
-        Formula::AtLeast(linear, k) => name_at_least(alloc, m, b, linear, *k),
-        Formula::Equal(linear, k) => name_equal(alloc, m, b, linear, *k),
+        Formula::AtMost(linear, k) => name_at_most(alloc, model, builder, linear, *k),
+        Formula::AtLeast(linear, k) => name_at_least(alloc, model, builder, linear, *k),
+        Formula::Equal(linear, k) => name_equal(alloc, model, builder, linear, *k),
     }
 }
 
@@ -67,19 +67,19 @@ pub(crate) fn name_formula(
 #[cycle(naming)]
 fn name_each(
     alloc: Global,
-    m: &Model,
-    b: &mut ProblemBuilder,
+    model: &Model,
+    builder: &mut ProblemBuilder,
     parts: &[Formula],
 ) -> Result<Vec<Literal>, OutOfMemory>
-    requires formulas { All (IsEncodableFormula (lists_of m.now)) parts.now }
-    requires variables { model_variables (lists_of m.now) ≤ var_count b.old }
-    requires room { HasRoomFor b.old (definitions_part (var_count b.old) (parts_named (map (naming (lists_of m.now)) parts.now) (var_count b.old)).definitions) }
-    ensures literals { IfOk result (λ ls. ls.items ≡ (parts_named (map (naming (lists_of m.now)) parts.now) (var_count b.old)).literals) }
-    ensures added { OnOk result (b.new ≡ with_part b.old (definitions_part (var_count b.old) (parts_named (map (naming (lists_of m.now)) parts.now) (var_count b.old)).definitions)) }
+    requires formulas { All (IsEncodableFormula (lists_of model.now)) parts.now }
+    requires variables { model_variables (lists_of model.now) ≤ var_count builder.old }
+    requires room { HasRoomFor builder.old (definitions_part (var_count builder.old) (parts_named (map (naming (lists_of model.now)) parts.now) (var_count builder.old)).definitions) }
+    ensures literals { IfOk result (λ ls. ls.items ≡ (parts_named (map (naming (lists_of model.now)) parts.now) (var_count builder.old)).literals) }
+    ensures added { OnOk result (builder.new ≡ with_part builder.old (definitions_part (var_count builder.old) (parts_named (map (naming (lists_of model.now)) parts.now) (var_count builder.old)).definitions)) }
 {
     let mut literals = Vec::new(alloc);
     for part in parts {
-        literals.push(name_formula(alloc, m, b, part)?)?;
+        literals.push(name_formula(alloc, model, builder, part)?)?;
     }
     Ok(literals)
 }
@@ -87,65 +87,65 @@ fn name_each(
 /// The variable of `<=`.
 fn name_at_most(
     alloc: Global,
-    m: &Model,
-    b: &mut ProblemBuilder,
-    l: &Linear,
+    model: &Model,
+    builder: &mut ProblemBuilder,
+    linear: &Linear,
     k: i64,
 ) -> Result<Literal, OutOfMemory>
-    requires comparison { IsEncodable (lists_of m.now) (l.now, k) }
-    requires variables { model_variables (lists_of m.now) ≤ var_count b.old }
-    requires room { HasRoomFor b.old (definition_part (var_count b.old) (at_most (row_terms_of (lists_of m.now) l.now) k)) }
-    ensures literal { IfOk result (λ l. l ≡ positive_of (var_count b.old)) }
-    ensures added { OnOk result (b.new ≡ with_part b.old (definition_part (var_count b.old) (at_most (row_terms_of (lists_of m.now) l.now) k))) }
+    requires comparison { IsEncodable (lists_of model.now) (linear.now, k) }
+    requires variables { model_variables (lists_of model.now) ≤ var_count builder.old }
+    requires room { HasRoomFor builder.old (definition_part (var_count builder.old) (at_most (row_terms_of (lists_of model.now) linear.now) k)) }
+    ensures literal { IfOk result (λ linear. linear ≡ positive_of (var_count builder.old)) }
+    ensures added { OnOk result (builder.new ≡ with_part builder.old (definition_part (var_count builder.old) (at_most (row_terms_of (lists_of model.now) linear.now) k))) }
 {
-    let terms = row_terms(alloc, m, l)?;
-    define_at_most(alloc, b, terms.as_slice(), k)
+    let terms = row_terms(alloc, model, linear)?;
+    define_at_most(alloc, builder, terms.as_slice(), k)
 }
 
 /// The variable of `>=`.
 fn name_at_least(
     alloc: Global,
-    m: &Model,
-    b: &mut ProblemBuilder,
-    l: &Linear,
+    model: &Model,
+    builder: &mut ProblemBuilder,
+    linear: &Linear,
     k: i64,
 ) -> Result<Literal, OutOfMemory>
-    requires comparison { IsEncodable (lists_of m.now) (l.now, k) }
-    requires variables { model_variables (lists_of m.now) ≤ var_count b.old }
-    requires room { HasRoomFor b.old (definition_part (var_count b.old) (at_least (row_terms_of (lists_of m.now) l.now) k)) }
-    ensures literal { IfOk result (λ l. l ≡ positive_of (var_count b.old)) }
-    ensures added { OnOk result (b.new ≡ with_part b.old (definition_part (var_count b.old) (at_least (row_terms_of (lists_of m.now) l.now) k))) }
+    requires comparison { IsEncodable (lists_of model.now) (linear.now, k) }
+    requires variables { model_variables (lists_of model.now) ≤ var_count builder.old }
+    requires room { HasRoomFor builder.old (definition_part (var_count builder.old) (at_least (row_terms_of (lists_of model.now) linear.now) k)) }
+    ensures literal { IfOk result (λ linear. linear ≡ positive_of (var_count builder.old)) }
+    ensures added { OnOk result (builder.new ≡ with_part builder.old (definition_part (var_count builder.old) (at_least (row_terms_of (lists_of model.now) linear.now) k))) }
 {
-    let terms = row_terms(alloc, m, l)?;
-    define_at_least(alloc, b, terms.as_slice(), k)
+    let terms = row_terms(alloc, model, linear)?;
+    define_at_least(alloc, builder, terms.as_slice(), k)
 }
 
 /// The variables of `=`: that of `<=`, that of `>=`, and one that is true where both are.
 fn name_equal(
     alloc: Global,
-    m: &Model,
-    b: &mut ProblemBuilder,
-    l: &Linear,
+    model: &Model,
+    builder: &mut ProblemBuilder,
+    linear: &Linear,
     k: i64,
 ) -> Result<Literal, OutOfMemory>
-    requires comparison { IsEncodable (lists_of m.now) (l.now, k) }
-    requires variables { model_variables (lists_of m.now) ≤ var_count b.old }
-    requires room { HasRoomFor b.old (definitions_part (var_count b.old) (equal_definitions (lists_of m.now) l.now k (var_count b.old))) }
-    ensures literal { IfOk result (λ l. l ≡ positive_of (var_count b.old + 2)) }
-    ensures added { OnOk result (b.new ≡ with_part b.old (definitions_part (var_count b.old) (equal_definitions (lists_of m.now) l.now k (var_count b.old)))) }
+    requires comparison { IsEncodable (lists_of model.now) (linear.now, k) }
+    requires variables { model_variables (lists_of model.now) ≤ var_count builder.old }
+    requires room { HasRoomFor builder.old (definitions_part (var_count builder.old) (equal_definitions (lists_of model.now) linear.now k (var_count builder.old))) }
+    ensures literal { IfOk result (λ linear. linear ≡ positive_of (var_count builder.old + 2)) }
+    ensures added { OnOk result (builder.new ≡ with_part builder.old (definitions_part (var_count builder.old) (equal_definitions (lists_of model.now) linear.now k (var_count builder.old)))) }
 {
-    let most = name_at_most(alloc, m, b, l, k)?;
-    let least = name_at_least(alloc, m, b, l, k)?;
-    define_all(alloc, b, &[most, least])
+    let most = name_at_most(alloc, model, builder, linear, k)?;
+    let least = name_at_least(alloc, model, builder, linear, k)?;
+    define_all(alloc, builder, &[most, least])
 }
 
 /// The problem's variable of an element or a refinement.
-pub(crate) fn truth_variable(m: &Model, name: Truth) -> u32
-    requires { IsKnownTruth (lists_of m.now) name }
-    ensures { result ≡ variable_of (lists_of m.now) name }
+pub(crate) fn truth_variable(model: &Model, name: Truth) -> u32
+    requires { IsKnownTruth (lists_of model.now) name }
+    ensures { result ≡ variable_of (lists_of model.now) name }
 {
     match name {
         Truth::Element(k) => k,
-        Truth::Refinement(k) => m.elements.as_slice().len() as u32 + k,
+        Truth::Refinement(k) => model.elements.as_slice().len() as u32 + k,
     }
 }

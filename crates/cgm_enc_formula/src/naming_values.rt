@@ -18,15 +18,15 @@ use std::alloc::Global;
 pub fn push_rules(
     alloc: Global,
     out: &mut Vec<i64>,
-    a: &Assignment,
+    assignment: &Assignment,
     sums: &[i64],
     rules: &[Rule],
 ) -> Result<(), OutOfMemory>
-    requires { All (λ r. AreSmallIn (number_in a.now sums.now) (formula_of_rule r)) rules.now }
-    ensures { OnOk result (out.new.items ≡ out.old.items ++ map bit_of (rule_truths (name_in a.now) (number_in a.now sums.now) rules.now)) }
+    requires { All (λ r. AreSmallIn (number_in assignment.now sums.now) (formula_of_rule r)) rules.now }
+    ensures { OnOk result (out.new.items ≡ out.old.items ++ map bit_of (rule_truths (name_in assignment.now) (number_in assignment.now sums.now) rules.now)) }
 {
     for rule in rules {
-        push_formula(alloc, out, a, sums, formula_of(rule))?;
+        push_formula(alloc, out, assignment, sums, formula_of(rule))?;
     }
     Ok(())
 }
@@ -46,44 +46,44 @@ fn formula_of(rule: &Rule) -> &Formula
 fn push_formula(
     alloc: Global,
     out: &mut Vec<i64>,
-    a: &Assignment,
+    assignment: &Assignment,
     sums: &[i64],
-    f: &Formula,
+    formula: &Formula,
 ) -> Result<bool, OutOfMemory>
-    requires { AreSmallIn (number_in a.now sums.now) f.now }
-    ensures says { IfOk result (λ t. t ≡ (told (name_in a.now) (number_in a.now sums.now) f.now).says) }
-    ensures added { OnOk result (out.new.items ≡ out.old.items ++ map bit_of (told (name_in a.now) (number_in a.now sums.now) f.now).truths) }
+    requires { AreSmallIn (number_in assignment.now sums.now) formula.now }
+    ensures says { IfOk result (λ t. t ≡ (told (name_in assignment.now) (number_in assignment.now sums.now) formula.now).says) }
+    ensures added { OnOk result (out.new.items ≡ out.old.items ++ map bit_of (told (name_in assignment.now) (number_in assignment.now sums.now) formula.now).truths) }
 {
-    match f {
-        Formula::Name(name) => Ok(is_true(a, *name)),
+    match formula {
+        Formula::Name(name) => Ok(is_true(assignment, *name)),
         Formula::Not(part) => {
-            let holds = push_formula(alloc, out, a, sums, part.get())?;
+            let holds = push_formula(alloc, out, assignment, sums, part.get())?;
             Ok(!holds)
         }
         Formula::And(parts) => {
-            let truths = push_each(alloc, out, a, sums, parts.as_slice())?;
+            let truths = push_each(alloc, out, assignment, sums, parts.as_slice())?;
             push_all(out, truths)
         }
         Formula::Or(parts) => {
-            let truths = push_each(alloc, out, a, sums, parts.as_slice())?;
+            let truths = push_each(alloc, out, assignment, sums, parts.as_slice())?;
             push_any(out, truths)
         }
         Formula::Implies(premise, conclusion) => {
-            let first = push_formula(alloc, out, a, sums, premise.get())?;
-            let second = push_formula(alloc, out, a, sums, conclusion.get())?;
+            let first = push_formula(alloc, out, assignment, sums, premise.get())?;
+            let second = push_formula(alloc, out, assignment, sums, conclusion.get())?;
             push_implication(out, first, second)
         }
         Formula::Iff(one, other) => {
-            let first = push_formula(alloc, out, a, sums, one.get())?;
-            let second = push_formula(alloc, out, a, sums, other.get())?;
+            let first = push_formula(alloc, out, assignment, sums, one.get())?;
+            let second = push_formula(alloc, out, assignment, sums, other.get())?;
             push_equivalence(out, first, second)
         }
-        Formula::AtMost(linear, k) => push_bit(out, is_at_most(linear, a, sums, *k)),
-        Formula::AtLeast(linear, k) => push_bit(out, is_at_least(linear, a, sums, *k)),
+        Formula::AtMost(linear, k) => push_bit(out, is_at_most(linear, assignment, sums, *k)),
+        Formula::AtLeast(linear, k) => push_bit(out, is_at_least(linear, assignment, sums, *k)),
         Formula::Equal(linear, k) => push_equality(
             out,
-            is_at_most(linear, a, sums, *k),
-            is_at_least(linear, a, sums, *k),
+            is_at_most(linear, assignment, sums, *k),
+            is_at_least(linear, assignment, sums, *k),
         ),
     }
 }
@@ -93,17 +93,17 @@ fn push_formula(
 fn push_each(
     alloc: Global,
     out: &mut Vec<i64>,
-    a: &Assignment,
+    assignment: &Assignment,
     sums: &[i64],
     parts: &[Formula],
 ) -> Result<Vec<bool>, OutOfMemory>
-    requires { All (AreSmallIn (number_in a.now sums.now)) parts.now }
-    ensures says { IfOk result (λ truths. truths.items ≡ map (λ part. part.says) (map (told (name_in a.now) (number_in a.now sums.now)) parts.now)) }
-    ensures added { OnOk result (out.new.items ≡ out.old.items ++ map bit_of (all_truths (map (told (name_in a.now) (number_in a.now sums.now)) parts.now))) }
+    requires { All (AreSmallIn (number_in assignment.now sums.now)) parts.now }
+    ensures says { IfOk result (λ truths. truths.items ≡ map (λ part. part.says) (map (told (name_in assignment.now) (number_in assignment.now sums.now)) parts.now)) }
+    ensures added { OnOk result (out.new.items ≡ out.old.items ++ map bit_of (all_truths (map (told (name_in assignment.now) (number_in assignment.now sums.now)) parts.now))) }
 {
     let mut truths = Vec::new(alloc);
     for part in parts {
-        let holds = push_formula(alloc, out, a, sums, part)?;
+        let holds = push_formula(alloc, out, assignment, sums, part)?;
         truths.push(holds)?;
     }
     Ok(truths)
@@ -196,16 +196,16 @@ fn is_one_true(truths: &[bool]) -> bool
     truths.iter().any(|t| *t)
 }
 
-fn is_at_most(linear: &Linear, a: &Assignment, sums: &[i64], k: i64) -> bool
-    requires { IsSmall (number_in a.now sums.now) linear.now }
-    ensures { result ≡ int_le (linear_value (number_in a.now sums.now) linear.now) k }
+fn is_at_most(linear: &Linear, assignment: &Assignment, sums: &[i64], k: i64) -> bool
+    requires { IsSmall (number_in assignment.now sums.now) linear.now }
+    ensures { result ≡ int_le (linear_value (number_in assignment.now sums.now) linear.now) k }
 {
-    value(linear, a, sums) <= i128::from(k)
+    value(linear, assignment, sums) <= i128::from(k)
 }
 
-fn is_at_least(linear: &Linear, a: &Assignment, sums: &[i64], k: i64) -> bool
-    requires { IsSmall (number_in a.now sums.now) linear.now }
-    ensures { result ≡ int_le k (linear_value (number_in a.now sums.now) linear.now) }
+fn is_at_least(linear: &Linear, assignment: &Assignment, sums: &[i64], k: i64) -> bool
+    requires { IsSmall (number_in assignment.now sums.now) linear.now }
+    ensures { result ≡ int_le k (linear_value (number_in assignment.now sums.now) linear.now) }
 {
-    i128::from(k) <= value(linear, a, sums)
+    i128::from(k) <= value(linear, assignment, sums)
 }

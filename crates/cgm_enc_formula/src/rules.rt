@@ -37,17 +37,17 @@ use std::alloc::Global;
 /// Condition: the builder has the variables of elements, refinements, variables and sums, in this
 /// order, and not more than 2^31 variables, clauses and rows so far. The rules add less than 2^20 of
 /// each.
-pub fn add_rules(alloc: Global, m: &Model, b: &mut ProblemBuilder) -> Result<(), EncodeStop>
-    requires variables { model_variables (lists_of m.now) ≤ var_count b.old }
-    requires few_variables { var_count b.old ≤ 2 ^ 31 }
-    requires few_clauses { length b.old.clauses ≤ 2 ^ 31 + 2 ^ 28 }
-    requires few_rows { length b.old.rows ≤ 2 ^ 31 }
-    ensures { IsRulesAnswer (lists_of m.now) b.old b.new result }
+pub fn add_rules(alloc: Global, model: &Model, builder: &mut ProblemBuilder) -> Result<(), EncodeStop>
+    requires variables { model_variables (lists_of model.now) ≤ var_count builder.old }
+    requires few_variables { var_count builder.old ≤ 2 ^ 31 }
+    requires few_clauses { length builder.old.clauses ≤ 2 ^ 31 + 2 ^ 28 }
+    requires few_rows { length builder.old.rows ≤ 2 ^ 31 }
+    ensures { IsRulesAnswer (lists_of model.now) builder.old builder.new result }
 {
-    let rules = m.rules.as_slice();
-    match first_past(m, b, rules) {
+    let rules = model.rules.as_slice();
+    match first_past(model, builder, rules) {
         Some(rule) => Err(EncodeStop::Row { rule }),
-        None => match add_each(alloc, m, b, rules) {
+        None => match add_each(alloc, model, builder, rules) {
             Ok(()) => Ok(()),
             Err(_) => Err(EncodeStop::Memory),
         },
@@ -56,44 +56,44 @@ pub fn add_rules(alloc: Global, m: &Model, b: &mut ProblemBuilder) -> Result<(),
 
 fn add_each(
     alloc: Global,
-    m: &Model,
-    b: &mut ProblemBuilder,
+    model: &Model,
+    builder: &mut ProblemBuilder,
     rules: &[Rule],
 ) -> Result<(), OutOfMemory>
-    requires encodable { All (IsEncodableRule (lists_of m.now)) rules.now }
-    requires variables { model_variables (lists_of m.now) ≤ var_count b.old }
-    requires room { HasRoomFor b.old (rules_part (lists_of m.now) (var_count b.old) rules.now) }
-    ensures { OnOk result (b.new ≡ with_part b.old (rules_part (lists_of m.now) (var_count b.old) rules.now)) }
+    requires encodable { All (IsEncodableRule (lists_of model.now)) rules.now }
+    requires variables { model_variables (lists_of model.now) ≤ var_count builder.old }
+    requires room { HasRoomFor builder.old (rules_part (lists_of model.now) (var_count builder.old) rules.now) }
+    ensures { OnOk result (builder.new ≡ with_part builder.old (rules_part (lists_of model.now) (var_count builder.old) rules.now)) }
 {
     for rule in rules {
-        add_rule(alloc, m, b, rule)?;
+        add_rule(alloc, model, builder, rule)?;
     }
     Ok(())
 }
 
 fn add_rule(
     alloc: Global,
-    m: &Model,
-    b: &mut ProblemBuilder,
+    model: &Model,
+    builder: &mut ProblemBuilder,
     rule: &Rule,
 ) -> Result<(), OutOfMemory>
-    requires encodable { IsEncodableRule (lists_of m.now) rule.now }
-    requires variables { model_variables (lists_of m.now) ≤ var_count b.old }
-    requires room { HasRoomFor b.old (rule_part (lists_of m.now) (var_count b.old) rule.now) }
-    ensures { OnOk result (b.new ≡ with_part b.old (rule_part (lists_of m.now) (var_count b.old) rule.now)) }
+    requires encodable { IsEncodableRule (lists_of model.now) rule.now }
+    requires variables { model_variables (lists_of model.now) ≤ var_count builder.old }
+    requires room { HasRoomFor builder.old (rule_part (lists_of model.now) (var_count builder.old) rule.now) }
+    ensures { OnOk result (builder.new ≡ with_part builder.old (rule_part (lists_of model.now) (var_count builder.old) rule.now)) }
 {
     match rule {
         Rule::Positive(name, formula) => {
-            let l = name_formula(alloc, m, b, formula)?;
-            add_clause(alloc, b, &[negated(truth_variable(m, *name)), atom(l)])
+            let l = name_formula(alloc, model, builder, formula)?;
+            add_clause(alloc, builder, &[negated(truth_variable(model, *name)), atom(l)])
         }
         Rule::Negative(name, formula) => {
-            let l = name_formula(alloc, m, b, formula)?;
-            add_clause(alloc, b, &[literal(truth_variable(m, *name)), atom(l)])
+            let l = name_formula(alloc, model, builder, formula)?;
+            add_clause(alloc, builder, &[literal(truth_variable(model, *name)), atom(l)])
         }
         Rule::Require(formula) => {
-            let l = name_formula(alloc, m, b, formula)?;
-            add_clause(alloc, b, &[atom(l)])
+            let l = name_formula(alloc, model, builder, formula)?;
+            add_clause(alloc, builder, &[atom(l)])
         }
     }
 }

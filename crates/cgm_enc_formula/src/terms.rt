@@ -14,13 +14,13 @@ use std::collections::BTreeMap;
 /// The terms of a linear expression that have a coefficient other than 0, by ascending variable.
 pub(crate) fn row_terms(
     alloc: Global,
-    m: &Model,
-    l: &Linear,
+    model: &Model,
+    linear: &Linear,
 ) -> Result<Vec<(i64, Var)>, OutOfMemory>
-    requires { AreTermsOf (model_variables (lists_of m.now)) (nonzero (variable_terms (lists_of m.now) l.now.terms)) }
-    ensures { IfOk result (λ terms. terms.items ≡ row_terms_of (lists_of m.now) l.now) }
+    requires { AreTermsOf (model_variables (lists_of model.now)) (nonzero (variable_terms (lists_of model.now) linear.now.terms)) }
+    ensures { IfOk result (λ terms. terms.items ≡ row_terms_of (lists_of model.now) linear.now) }
 {
-    let coefficients = by_variable(alloc, m, l.terms.as_slice())?;
+    let coefficients = by_variable(alloc, model, linear.terms.as_slice())?;
     table_terms(alloc, &coefficients)
 }
 
@@ -41,44 +41,44 @@ fn table_terms(
 /// The coefficients other than 0, each at its variable.
 fn by_variable(
     alloc: Global,
-    m: &Model,
+    model: &Model,
     terms: &[(i64, Number)],
 ) -> Result<BTreeMap<u32, i64>, OutOfMemory>
-    requires { AreTermsOf (model_variables (lists_of m.now)) (nonzero (variable_terms (lists_of m.now) terms.now)) }
-    ensures { IfOk result (λ coefficients. as_terms coefficients.entries ≡ all_placed [] (nonzero (variable_terms (lists_of m.now) terms.now))) }
+    requires { AreTermsOf (model_variables (lists_of model.now)) (nonzero (variable_terms (lists_of model.now) terms.now)) }
+    ensures { IfOk result (λ coefficients. as_terms coefficients.entries ≡ all_placed [] (nonzero (variable_terms (lists_of model.now) terms.now))) }
 {
     let mut coefficients = BTreeMap::new(alloc);
     for term in terms {
-        insert_term(m, &mut coefficients, term)?;
+        insert_term(model, &mut coefficients, term)?;
     }
     Ok(coefficients)
 }
 
 fn insert_term(
-    m: &Model,
+    model: &Model,
     coefficients: &mut BTreeMap<u32, i64>,
     term: &(i64, Number),
 ) -> Result<(), OutOfMemory>
-    requires known { AreTermsOf (model_variables (lists_of m.now)) (nonzero (variable_terms (lists_of m.now) (term.now ∷ []))) }
-    requires new { AreApart (as_terms coefficients.old.entries) (nonzero (variable_terms (lists_of m.now) (term.now ∷ []))) }
-    ensures { OnOk result (as_terms coefficients.new.entries ≡ all_placed (as_terms coefficients.old.entries) (nonzero (variable_terms (lists_of m.now) (term.now ∷ [])))) }
+    requires known { AreTermsOf (model_variables (lists_of model.now)) (nonzero (variable_terms (lists_of model.now) (term.now ∷ []))) }
+    requires new { AreApart (as_terms coefficients.old.entries) (nonzero (variable_terms (lists_of model.now) (term.now ∷ []))) }
+    ensures { OnOk result (as_terms coefficients.new.entries ≡ all_placed (as_terms coefficients.old.entries) (nonzero (variable_terms (lists_of model.now) (term.now ∷ [])))) }
 {
     if term.0 == 0 {
         return Ok(());
     }
-    coefficients.insert(number_variable(m, term.1), term.0)?;
+    coefficients.insert(number_variable(model, term.1), term.0)?;
     Ok(())
 }
 
 /// The problem's variable of a variable or a sum of the model.
-pub(crate) fn number_variable(m: &Model, number: Number) -> u32
-    requires { variable_in (lists_of m.now) number < model_variables (lists_of m.now) }
-    ensures { result ≡ variable_in (lists_of m.now) number }
+pub(crate) fn number_variable(model: &Model, number: Number) -> u32
+    requires { variable_in (lists_of model.now) number < model_variables (lists_of model.now) }
+    ensures { result ≡ variable_in (lists_of model.now) number }
 {
-    let truths = m.elements.as_slice().len() as u32 + m.refinements.as_slice().len() as u32;
+    let truths = model.elements.as_slice().len() as u32 + model.refinements.as_slice().len() as u32;
     match number {
         Number::Var(k) => truths + k,
-        Number::Sum(k) => truths + m.vars.as_slice().len() as u32 + k,
+        Number::Sum(k) => truths + model.vars.as_slice().len() as u32 + k,
     }
 }
 

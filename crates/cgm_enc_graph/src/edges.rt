@@ -15,14 +15,14 @@ use std::alloc::Global;
 /// Where the first element is true, so is the second.
 pub(crate) fn add_contribs(
     alloc: Global,
-    b: &mut ProblemBuilder,
+    builder: &mut ProblemBuilder,
     contribs: &[Edge],
 ) -> Result<(), OutOfMemory>
-    requires { CanTake b.old (map contrib_clause contribs.now) }
-    ensures { OnOk result (b.new ≡ with_written b.old (map contrib_clause contribs.now)) }
+    requires { CanTake builder.old (map contrib_clause contribs.now) }
+    ensures { OnOk result (builder.new ≡ with_written builder.old (map contrib_clause contribs.now)) }
 {
     for e in contribs {
-        add_implication(alloc, b, e.from, e.to)?;
+        add_implication(alloc, builder, e.from, e.to)?;
     }
     Ok(())
 }
@@ -30,73 +30,73 @@ pub(crate) fn add_contribs(
 /// The two elements aren't both true.
 pub(crate) fn add_conflicts(
     alloc: Global,
-    b: &mut ProblemBuilder,
+    builder: &mut ProblemBuilder,
     conflicts: &[Edge],
 ) -> Result<(), OutOfMemory>
-    requires { CanTake b.old (map conflict_clause conflicts.now) }
-    ensures { OnOk result (b.new ≡ with_written b.old (map conflict_clause conflicts.now)) }
+    requires { CanTake builder.old (map conflict_clause conflicts.now) }
+    ensures { OnOk result (builder.new ≡ with_written builder.old (map conflict_clause conflicts.now)) }
 {
     for e in conflicts {
-        add_conflict(alloc, b, e)?;
+        add_conflict(alloc, builder, e)?;
     }
     Ok(())
 }
 
-fn add_conflict(alloc: Global, b: &mut ProblemBuilder, e: &Edge) -> Result<(), OutOfMemory>
-    requires { CanTake b.old (conflict_clause e.now ∷ []) }
-    ensures { OnOk result (b.new ≡ with_written b.old (conflict_clause e.now ∷ [])) }
+fn add_conflict(alloc: Global, builder: &mut ProblemBuilder, edge: &Edge) -> Result<(), OutOfMemory>
+    requires { CanTake builder.old (conflict_clause edge.now ∷ []) }
+    ensures { OnOk result (builder.new ≡ with_written builder.old (conflict_clause edge.now ∷ [])) }
 {
-    add_clause(alloc, b, &[negated(e.from), negated(e.to)])
+    add_clause(alloc, builder, &[negated(edge.from), negated(edge.to)])
 }
 
 /// Where both targets are true, both refinements are true or neither is.
 pub(crate) fn add_binds(
     alloc: Global,
-    b: &mut ProblemBuilder,
-    m: &Model,
+    builder: &mut ProblemBuilder,
+    model: &Model,
     binds: &[Edge],
 ) -> Result<(), OutOfMemory>
-    requires room { CanTake b.old (flat_map (bind_clauses (lists_of m.now)) binds.now) }
-    requires known { All (IsEdgeOf (length m.now.refinements)) binds.now }
-    ensures { OnOk result (b.new ≡ with_written b.old (flat_map (bind_clauses (lists_of m.now)) binds.now)) }
+    requires room { CanTake builder.old (flat_map (bind_clauses (lists_of model.now)) binds.now) }
+    requires known { All (IsEdgeOf (length model.now.refinements)) binds.now }
+    ensures { OnOk result (builder.new ≡ with_written builder.old (flat_map (bind_clauses (lists_of model.now)) binds.now)) }
 {
     for e in binds {
-        add_bind(alloc, b, m, e)?;
+        add_bind(alloc, builder, model, e)?;
     }
     Ok(())
 }
 
-fn add_bind(alloc: Global, b: &mut ProblemBuilder, m: &Model, e: &Edge) -> Result<(), OutOfMemory>
-    requires room { CanTake b.old (bind_clauses (lists_of m.now) e.now) }
-    requires known { IsEdgeOf (length m.now.refinements) e.now }
-    ensures { OnOk result (b.new ≡ with_written b.old (bind_clauses (lists_of m.now) e.now)) }
+fn add_bind(alloc: Global, builder: &mut ProblemBuilder, model: &Model, edge: &Edge) -> Result<(), OutOfMemory>
+    requires room { CanTake builder.old (bind_clauses (lists_of model.now) edge.now) }
+    requires known { IsEdgeOf (length model.now.refinements) edge.now }
+    ensures { OnOk result (builder.new ≡ with_written builder.old (bind_clauses (lists_of model.now) edge.now)) }
 {
-    let one = target_of(m, e.from);
-    let other = target_of(m, e.to);
-    let from = refinement_variable(m, e.from);
-    let to = refinement_variable(m, e.to);
+    let one = target_of(model, edge.from);
+    let other = target_of(model, edge.to);
+    let from = refinement_variable(model, edge.from);
+    let to = refinement_variable(model, edge.to);
     add_clause(
         alloc,
-        b,
+        builder,
         &[negated(one), negated(other), negated(from), literal(to)],
     )?;
     add_clause(
         alloc,
-        b,
+        builder,
         &[negated(one), negated(other), literal(from), negated(to)],
     )
 }
 
-fn target_of(m: &Model, number: u32) -> u32
-    requires { number < length m.now.refinements }
-    ensures { result ≡ target_in (lists_of m.now) number }
+fn target_of(model: &Model, number: u32) -> u32
+    requires { number < length model.now.refinements }
+    ensures { result ≡ target_in (lists_of model.now) number }
 {
-    m.refinements.as_slice()[number as usize].target
+    model.refinements.as_slice()[number as usize].target
 }
 
-fn refinement_variable(m: &Model, number: u32) -> u32
-    requires { number < length m.now.refinements }
-    ensures { result ≡ variable_of (lists_of m.now) (truth.Refinement number) }
+fn refinement_variable(model: &Model, number: u32) -> u32
+    requires { number < length model.now.refinements }
+    ensures { result ≡ variable_of (lists_of model.now) (truth.Refinement number) }
 {
-    m.elements.as_slice().len() as u32 + number
+    model.elements.as_slice().len() as u32 + number
 }

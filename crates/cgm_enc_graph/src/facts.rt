@@ -12,56 +12,56 @@ use std::alloc::Global;
 /// Each goal with `must` is true.
 pub(crate) fn add_musts(
     alloc: Global,
-    b: &mut ProblemBuilder,
+    builder: &mut ProblemBuilder,
     elements: &[Element],
 ) -> Result<(), OutOfMemory>
-    requires room { CanTake b.old (flat_map must_clauses (enumerate_from 0 elements.now)) }
+    requires room { CanTake builder.old (flat_map must_clauses (enumerate_from 0 elements.now)) }
     requires few { length elements.now ≤ 2 ^ 32 }
-    ensures { OnOk result (b.new ≡ with_written b.old (flat_map must_clauses (enumerate_from 0 elements.now))) }
+    ensures { OnOk result (builder.new ≡ with_written builder.old (flat_map must_clauses (enumerate_from 0 elements.now))) }
 {
     for (number, e) in elements.iter().enumerate() {
-        add_must(alloc, b, number as u32, e)?;
+        add_must(alloc, builder, number as u32, e)?;
     }
     Ok(())
 }
 
 fn add_must(
     alloc: Global,
-    b: &mut ProblemBuilder,
+    builder: &mut ProblemBuilder,
     number: u32,
-    e: &Element,
+    element: &Element,
 ) -> Result<(), OutOfMemory>
-    requires { CanTake b.old (must_clauses (number, e.now)) }
-    ensures { OnOk result (b.new ≡ with_written b.old (must_clauses (number, e.now))) }
+    requires { CanTake builder.old (must_clauses (number, element.now)) }
+    ensures { OnOk result (builder.new ≡ with_written builder.old (must_clauses (number, element.now))) }
 {
-    if !e.must {
+    if !element.must {
         return Ok(());
     }
-    add_clause(alloc, b, &[literal(number)])
+    add_clause(alloc, builder, &[literal(number)])
 }
 
 /// An element has the truth that is asserted.
 pub(crate) fn add_asserts(
     alloc: Global,
-    b: &mut ProblemBuilder,
+    builder: &mut ProblemBuilder,
     asserts: &[Assertion],
 ) -> Result<(), OutOfMemory>
-    requires { CanTake b.old (map assertion_clause asserts.now) }
-    ensures { OnOk result (b.new ≡ with_written b.old (map assertion_clause asserts.now)) }
+    requires { CanTake builder.old (map assertion_clause asserts.now) }
+    ensures { OnOk result (builder.new ≡ with_written builder.old (map assertion_clause asserts.now)) }
 {
     for a in asserts {
-        add_assertion(alloc, b, a)?;
+        add_assertion(alloc, builder, a)?;
     }
     Ok(())
 }
 
-fn add_assertion(alloc: Global, b: &mut ProblemBuilder, a: &Assertion) -> Result<(), OutOfMemory>
-    requires { CanTake b.old (assertion_clause a.now ∷ []) }
-    ensures { OnOk result (b.new ≡ with_written b.old (assertion_clause a.now ∷ [])) }
+fn add_assertion(alloc: Global, builder: &mut ProblemBuilder, assertion: &Assertion) -> Result<(), OutOfMemory>
+    requires { CanTake builder.old (assertion_clause assertion.now ∷ []) }
+    ensures { OnOk result (builder.new ≡ with_written builder.old (assertion_clause assertion.now ∷ [])) }
 {
-    if a.truth {
-        add_clause(alloc, b, &[literal(a.element)])
+    if assertion.truth {
+        add_clause(alloc, builder, &[literal(assertion.element)])
     } else {
-        add_clause(alloc, b, &[negated(a.element)])
+        add_clause(alloc, builder, &[negated(assertion.element)])
     }
 }

@@ -28,44 +28,44 @@ use std::alloc::Global;
 /// A later equal atom of a clause is dropped. After want of memory the builder is given up.
 /// Condition: the builder has a variable for each element and refinement, and at most 2^31 clauses
 /// so far. The graph has less than 2^28 clauses.
-pub fn add_graph(alloc: Global, m: &Model, b: &mut ProblemBuilder) -> Result<(), OutOfMemory>
-    requires variables { truth_variables (lists_of m.now) ≤ var_count b.old }
-    requires room { length b.old.clauses ≤ 2 ^ 31 }
-    ensures { OnOk result (b.new ≡ with_clauses b.old (graph_clauses (lists_of m.now))) }
+pub fn add_graph(alloc: Global, model: &Model, builder: &mut ProblemBuilder) -> Result<(), OutOfMemory>
+    requires variables { truth_variables (lists_of model.now) ≤ var_count builder.old }
+    requires room { length builder.old.clauses ≤ 2 ^ 31 }
+    ensures { OnOk result (builder.new ≡ with_clauses builder.old (graph_clauses (lists_of model.now))) }
 {
-    add_refinement_group(alloc, b, m)?;
-    add_edge_group(alloc, b, m)?;
-    add_fact_group(alloc, b, m)
+    add_refinement_group(alloc, builder, model)?;
+    add_edge_group(alloc, builder, model)?;
+    add_fact_group(alloc, builder, model)
 }
 
 /// The clauses of refinements and of refined elements.
-fn add_refinement_group(alloc: Global, b: &mut ProblemBuilder, m: &Model) -> Result<(), OutOfMemory>
-    requires { CanTake b.old (refinement_group (lists_of m.now)) }
-    ensures { OnOk result (b.new ≡ with_written b.old (refinement_group (lists_of m.now))) }
+fn add_refinement_group(alloc: Global, builder: &mut ProblemBuilder, model: &Model) -> Result<(), OutOfMemory>
+    requires { CanTake builder.old (refinement_group (lists_of model.now)) }
+    ensures { OnOk result (builder.new ≡ with_written builder.old (refinement_group (lists_of model.now))) }
 {
-    let refinements = m.refinements.as_slice();
-    let count = m.elements.as_slice().len();
+    let refinements = model.refinements.as_slice();
+    let count = model.elements.as_slice().len();
     let first = count as u32;
-    add_refinements(alloc, b, first, refinements)?;
+    add_refinements(alloc, builder, first, refinements)?;
     let lists = by_target(alloc, count, first, refinements)?;
-    add_elements(alloc, b, lists.as_slice())
+    add_elements(alloc, builder, lists.as_slice())
 }
 
 /// The clauses of contributions, conflicts and bindings.
-fn add_edge_group(alloc: Global, b: &mut ProblemBuilder, m: &Model) -> Result<(), OutOfMemory>
-    requires { CanTake b.old (edge_group (lists_of m.now)) }
-    ensures { OnOk result (b.new ≡ with_written b.old (edge_group (lists_of m.now))) }
+fn add_edge_group(alloc: Global, builder: &mut ProblemBuilder, model: &Model) -> Result<(), OutOfMemory>
+    requires { CanTake builder.old (edge_group (lists_of model.now)) }
+    ensures { OnOk result (builder.new ≡ with_written builder.old (edge_group (lists_of model.now))) }
 {
-    add_contribs(alloc, b, m.contribs.as_slice())?;
-    add_conflicts(alloc, b, m.conflicts.as_slice())?;
-    add_binds(alloc, b, m, m.binds.as_slice())
+    add_contribs(alloc, builder, model.contribs.as_slice())?;
+    add_conflicts(alloc, builder, model.conflicts.as_slice())?;
+    add_binds(alloc, builder, model, model.binds.as_slice())
 }
 
 /// The clauses of goals with `must` and of assertions.
-fn add_fact_group(alloc: Global, b: &mut ProblemBuilder, m: &Model) -> Result<(), OutOfMemory>
-    requires { CanTake b.old (fact_group (lists_of m.now)) }
-    ensures { OnOk result (b.new ≡ with_written b.old (fact_group (lists_of m.now))) }
+fn add_fact_group(alloc: Global, builder: &mut ProblemBuilder, model: &Model) -> Result<(), OutOfMemory>
+    requires { CanTake builder.old (fact_group (lists_of model.now)) }
+    ensures { OnOk result (builder.new ≡ with_written builder.old (fact_group (lists_of model.now))) }
 {
-    add_musts(alloc, b, m.elements.as_slice())?;
-    add_asserts(alloc, b, m.asserts.as_slice())
+    add_musts(alloc, builder, model.elements.as_slice())?;
+    add_asserts(alloc, builder, model.asserts.as_slice())
 }

@@ -16,47 +16,47 @@ use std::alloc::Global;
 /// Adds the clauses of each refinement. The first refinement has this variable.
 pub(crate) fn add_refinements(
     alloc: Global,
-    b: &mut ProblemBuilder,
+    builder: &mut ProblemBuilder,
     first: u32,
     refinements: &[Refinement],
 ) -> Result<(), OutOfMemory>
-    requires room { CanTake b.old (flat_map refinement_clauses (enumerate_from first refinements.now)) }
+    requires room { CanTake builder.old (flat_map refinement_clauses (enumerate_from first refinements.now)) }
     requires few { first + length refinements.now ≤ 2 ^ 32 }
-    ensures { OnOk result (b.new ≡ with_written b.old (flat_map refinement_clauses (enumerate_from first refinements.now))) }
+    ensures { OnOk result (builder.new ≡ with_written builder.old (flat_map refinement_clauses (enumerate_from first refinements.now))) }
 {
     for (number, r) in refinements.iter().enumerate() {
-        add_refinement(alloc, b, first + number as u32, r)?;
+        add_refinement(alloc, builder, first + number as u32, r)?;
     }
     Ok(())
 }
 
 fn add_refinement(
     alloc: Global,
-    b: &mut ProblemBuilder,
+    builder: &mut ProblemBuilder,
     x: u32,
-    r: &Refinement,
+    refinement: &Refinement,
 ) -> Result<(), OutOfMemory>
-    requires { CanTake b.old (refinement_clauses (x, r.now)) }
-    ensures { OnOk result (b.new ≡ with_written b.old (refinement_clauses (x, r.now))) }
+    requires { CanTake builder.old (refinement_clauses (x, refinement.now)) }
+    ensures { OnOk result (builder.new ≡ with_written builder.old (refinement_clauses (x, refinement.now))) }
 {
-    let sources = r.sources.as_slice();
-    add_sources(alloc, b, x, sources)?;
-    add_converse(alloc, b, x, sources)?;
-    add_implication(alloc, b, x, r.target)
+    let sources = refinement.sources.as_slice();
+    add_sources(alloc, builder, x, sources)?;
+    add_converse(alloc, builder, x, sources)?;
+    add_implication(alloc, builder, x, refinement.target)
 }
 
 /// Where the refinement is true, so is each source.
 fn add_sources(
     alloc: Global,
-    b: &mut ProblemBuilder,
+    builder: &mut ProblemBuilder,
     x: u32,
     sources: &[u32],
 ) -> Result<(), OutOfMemory>
-    requires { CanTake b.old (map (implication x) sources.now) }
-    ensures { OnOk result (b.new ≡ with_written b.old (map (implication x) sources.now)) }
+    requires { CanTake builder.old (map (implication x) sources.now) }
+    ensures { OnOk result (builder.new ≡ with_written builder.old (map (implication x) sources.now)) }
 {
     for source in sources {
-        add_implication(alloc, b, x, *source)?;
+        add_implication(alloc, builder, x, *source)?;
     }
     Ok(())
 }
@@ -64,32 +64,32 @@ fn add_sources(
 /// Where all sources are true, so is the refinement.
 fn add_converse(
     alloc: Global,
-    b: &mut ProblemBuilder,
+    builder: &mut ProblemBuilder,
     x: u32,
     sources: &[u32],
 ) -> Result<(), OutOfMemory>
-    requires { CanTake b.old (clause (map negated_of sources.now ++ literal_of x ∷ []) ∷ []) }
-    ensures { OnOk result (b.new ≡ with_written b.old (clause (map negated_of sources.now ++ literal_of x ∷ []) ∷ [])) }
+    requires { CanTake builder.old (clause (map negated_of sources.now ++ literal_of x ∷ []) ∷ []) }
+    ensures { OnOk result (builder.new ≡ with_written builder.old (clause (map negated_of sources.now ++ literal_of x ∷ []) ∷ [])) }
 {
     let mut atoms = Vec::new(alloc);
     push_negated(&mut atoms, sources)?;
     atoms.push(literal(x))?;
-    add_clause(alloc, b, atoms.as_slice())
+    add_clause(alloc, builder, atoms.as_slice())
 }
 
 /// Adds the clause of each element that has refinements. The list has the variables of the
 /// refinements of each element.
 pub(crate) fn add_elements(
     alloc: Global,
-    b: &mut ProblemBuilder,
+    builder: &mut ProblemBuilder,
     refinements: &[Parts<u32>],
 ) -> Result<(), OutOfMemory>
-    requires room { CanTake b.old (flat_map (λ e. element_clauses e.0 e.1) (enumerate_from 0 refinements.now)) }
+    requires room { CanTake builder.old (flat_map (λ e. element_clauses e.0 e.1) (enumerate_from 0 refinements.now)) }
     requires few { length refinements.now ≤ 2 ^ 32 }
-    ensures { OnOk result (b.new ≡ with_written b.old (flat_map (λ e. element_clauses e.0 e.1) (enumerate_from 0 refinements.now))) }
+    ensures { OnOk result (builder.new ≡ with_written builder.old (flat_map (λ e. element_clauses e.0 e.1) (enumerate_from 0 refinements.now))) }
 {
     for (element, own) in refinements.iter().enumerate() {
-        add_element(alloc, b, element as u32, own.as_slice())?;
+        add_element(alloc, builder, element as u32, own.as_slice())?;
     }
     Ok(())
 }
@@ -97,12 +97,12 @@ pub(crate) fn add_elements(
 /// Where the element is true and has refinements, so is one of them.
 fn add_element(
     alloc: Global,
-    b: &mut ProblemBuilder,
+    builder: &mut ProblemBuilder,
     element: u32,
     refinements: &[u32],
 ) -> Result<(), OutOfMemory>
-    requires { CanTake b.old (element_clauses element refinements.now) }
-    ensures { OnOk result (b.new ≡ with_written b.old (element_clauses element refinements.now)) }
+    requires { CanTake builder.old (element_clauses element refinements.now) }
+    ensures { OnOk result (builder.new ≡ with_written builder.old (element_clauses element refinements.now)) }
 {
     if refinements.is_empty() {
         return Ok(());
@@ -110,5 +110,5 @@ fn add_element(
     let mut atoms = Vec::new(alloc);
     atoms.push(negated(element))?;
     push_literals(&mut atoms, refinements)?;
-    add_clause(alloc, b, atoms.as_slice())
+    add_clause(alloc, builder, atoms.as_slice())
 }

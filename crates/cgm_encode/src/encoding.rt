@@ -41,37 +41,37 @@ use std::alloc::Global;
 /// for `max`.
 ///
 /// `Row` is the first rule with a comparison whose measure passes 4·10^18.
-pub fn encode(alloc: Global, m: &Model, e: &Earlier) -> Result<Encoded, EncodeStop>
-    ensures { IsEncodeAnswer (lists_of m.now) e.now.pairs result }
+pub fn encode(alloc: Global, model: &Model, earlier: &Earlier) -> Result<Encoded, EncodeStop>
+    ensures { IsEncodeAnswer (lists_of model.now) earlier.now.pairs result }
 {
     let mut b = ProblemBuilder::new(alloc);
-    build(alloc, &mut b, m, e)?;
+    build(alloc, &mut b, model, earlier)?;
     Ok(Encoded {
         problem: b.finish(),
-        elements: element_count(m),
-        refinements: refinement_count(m),
-        vars: var_count(m),
+        elements: element_count(model),
+        refinements: refinement_count(model),
+        vars: var_count(model),
     })
 }
 
 /// Adds all of the problem.
-fn build(alloc: Global, b: &mut ProblemBuilder, m: &Model, e: &Earlier) -> Result<(), EncodeStop>
-    requires { b.old ≡ empty_instance }
-    ensures { IsBuildAnswer (lists_of m.now) e.now.pairs b.new result }
+fn build(alloc: Global, builder: &mut ProblemBuilder, model: &Model, earlier: &Earlier) -> Result<(), EncodeStop>
+    requires { builder.old ≡ empty_instance }
+    ensures { IsBuildAnswer (lists_of model.now) earlier.now.pairs builder.new result }
 {
-    match add_numbers(alloc, b, m) {
+    match add_numbers(alloc, builder, model) {
         Err(_) => Err(EncodeStop::Memory),
-        Ok(()) => add_rest(alloc, b, m, e),
+        Ok(()) => add_rest(alloc, builder, model, earlier),
     }
 }
 
 /// Adds what stands behind the sums.
-fn add_rest(alloc: Global, b: &mut ProblemBuilder, m: &Model, e: &Earlier) -> Result<(), EncodeStop>
-    requires { b.old ≡ numbers_instance (lists_of m.now) }
-    ensures { IsBuildAnswer (lists_of m.now) e.now.pairs b.new result }
+fn add_rest(alloc: Global, builder: &mut ProblemBuilder, model: &Model, earlier: &Earlier) -> Result<(), EncodeStop>
+    requires { builder.old ≡ numbers_instance (lists_of model.now) }
+    ensures { IsBuildAnswer (lists_of model.now) earlier.now.pairs builder.new result }
 {
-    add_rules(alloc, m, b)?;
-    match add_choices(alloc, b, m, e) {
+    add_rules(alloc, model, builder)?;
+    match add_choices(alloc, builder, model, earlier) {
         Err(_) => Err(EncodeStop::Memory),
         Ok(()) => Ok(()),
     }
@@ -79,80 +79,80 @@ fn add_rest(alloc: Global, b: &mut ProblemBuilder, m: &Model, e: &Earlier) -> Re
 
 /// The variables of elements, refinements, variables and sums, the clauses of the goal graph and the
 /// rows of the sums.
-fn add_numbers(alloc: Global, b: &mut ProblemBuilder, m: &Model) -> Result<(), OutOfMemory>
-    requires { b.old ≡ empty_instance }
-    ensures { OnOk result (b.new ≡ numbers_instance (lists_of m.now)) }
+fn add_numbers(alloc: Global, builder: &mut ProblemBuilder, model: &Model) -> Result<(), OutOfMemory>
+    requires { builder.old ≡ empty_instance }
+    ensures { OnOk result (builder.new ≡ numbers_instance (lists_of model.now)) }
 {
-    add_own_variables(alloc, b, m)?;
-    add_graph(alloc, m, b)?;
-    add_sums(alloc, b, m)
+    add_own_variables(alloc, builder, model)?;
+    add_graph(alloc, model, builder)?;
+    add_sums(alloc, builder, model)
 }
 
 /// The variables of elements, refinements and variables.
-fn add_own_variables(alloc: Global, b: &mut ProblemBuilder, m: &Model) -> Result<(), OutOfMemory>
-    requires { b.old ≡ empty_instance }
-    ensures { OnOk result (b.new ≡ own_instance (lists_of m.now)) }
+fn add_own_variables(alloc: Global, builder: &mut ProblemBuilder, model: &Model) -> Result<(), OutOfMemory>
+    requires { builder.old ≡ empty_instance }
+    ensures { OnOk result (builder.new ≡ own_instance (lists_of model.now)) }
 {
-    add_bits(alloc, b, truth_count(m) as usize)?;
-    add_own(b, m.vars.as_slice())?;
+    add_bits(alloc, builder, truth_count(model) as usize)?;
+    add_own(builder, model.vars.as_slice())?;
     Ok(())
 }
 
 /// The variables and rows of the sums.
-fn add_sums(alloc: Global, b: &mut ProblemBuilder, m: &Model) -> Result<(), OutOfMemory>
-    requires { b.old ≡ graph_instance (lists_of m.now) }
-    ensures { OnOk result (b.new ≡ numbers_instance (lists_of m.now)) }
+fn add_sums(alloc: Global, builder: &mut ProblemBuilder, model: &Model) -> Result<(), OutOfMemory>
+    requires { builder.old ≡ graph_instance (lists_of model.now) }
+    ensures { OnOk result (builder.new ≡ numbers_instance (lists_of model.now)) }
 {
-    let sums = sum_expressions(alloc, m)?;
-    define(alloc, b, sums.as_slice())?;
+    let sums = sum_expressions(alloc, model)?;
+    define(alloc, builder, sums.as_slice())?;
     Ok(())
 }
 
 /// The variables and clauses of preferences, and the variables, rows and objectives of objectives.
 fn add_choices(
     alloc: Global,
-    b: &mut ProblemBuilder,
-    m: &Model,
-    e: &Earlier,
+    builder: &mut ProblemBuilder,
+    model: &Model,
+    earlier: &Earlier,
 ) -> Result<(), OutOfMemory>
-    requires { b.old ≡ rules_instance (lists_of m.now) }
-    ensures { OnOk result (b.new ≡ problem_of (lists_of m.now) e.now.pairs) }
+    requires { builder.old ≡ rules_instance (lists_of model.now) }
+    ensures { OnOk result (builder.new ≡ problem_of (lists_of model.now) earlier.now.pairs) }
 {
-    let preferences = add_preference_part(alloc, b, m)?;
-    add_objective_part(alloc, b, m, e, preferences.as_slice())
+    let preferences = add_preference_part(alloc, builder, model)?;
+    add_objective_part(alloc, builder, model, earlier, preferences.as_slice())
 }
 
 /// The variables, rows and objectives of objectives, by the variables of the preferences.
 fn add_objective_part(
     alloc: Global,
-    b: &mut ProblemBuilder,
-    m: &Model,
-    e: &Earlier,
+    builder: &mut ProblemBuilder,
+    model: &Model,
+    earlier: &Earlier,
     preferences: &[u32],
 ) -> Result<(), OutOfMemory>
-    requires stage { b.old ≡ choices_instance (lists_of m.now) }
-    requires preferences { AreVariablesOfPreferences (lists_of m.now) preferences.now }
-    ensures { OnOk result (b.new ≡ problem_of (lists_of m.now) e.now.pairs) }
+    requires stage { builder.old ≡ choices_instance (lists_of model.now) }
+    requires preferences { AreVariablesOfPreferences (lists_of model.now) preferences.now }
+    ensures { OnOk result (builder.new ≡ problem_of (lists_of model.now) earlier.now.pairs) }
 {
-    let objectives = objective_expressions(alloc, m, e, preferences)?;
-    let variables = define(alloc, b, objectives.as_slice())?;
-    add_objectives(b, variables.as_slice())?;
+    let objectives = objective_expressions(alloc, model, earlier, preferences)?;
+    let variables = define(alloc, builder, objectives.as_slice())?;
+    add_objectives(builder, variables.as_slice())?;
     Ok(())
 }
 
 /// The variables and clauses of preferences; answers the variables.
 fn add_preference_part(
     alloc: Global,
-    b: &mut ProblemBuilder,
-    m: &Model,
+    builder: &mut ProblemBuilder,
+    model: &Model,
 ) -> Result<Vec<u32>, OutOfMemory>
-    requires { b.old ≡ rules_instance (lists_of m.now) }
-    ensures added { OnOk result (b.new ≡ choices_instance (lists_of m.now)) }
-    ensures variables { IfOk result (λ variables. AreVariablesOfPreferences (lists_of m.now) variables.items) }
+    requires { builder.old ≡ rules_instance (lists_of model.now) }
+    ensures added { OnOk result (builder.new ≡ choices_instance (lists_of model.now)) }
+    ensures variables { IfOk result (λ variables. AreVariablesOfPreferences (lists_of model.now) variables.items) }
 {
-    let prefers = m.prefers.as_slice();
-    let variables = add_bits(alloc, b, prefers.len())?;
-    add_preferences(alloc, b, m, variables.as_slice(), prefers)?;
+    let prefers = model.prefers.as_slice();
+    let variables = add_bits(alloc, builder, prefers.len())?;
+    add_preferences(alloc, builder, model, variables.as_slice(), prefers)?;
     Ok(variables)
 }
 
@@ -160,29 +160,29 @@ fn add_preference_part(
 /// expression's value; answers the variables.
 fn define(
     alloc: Global,
-    b: &mut ProblemBuilder,
+    builder: &mut ProblemBuilder,
     expressions: &[Expression],
 ) -> Result<Vec<u32>, OutOfMemory>
-    requires measured { All (IsMeasured b.old) expressions.now }
-    requires room { count_of b.old + length expressions.now ≤ 2 ^ 32 - 1 }
-    requires row_room { length b.old.rows + 2 * length expressions.now ≤ 2 ^ 32 - 1 }
-    ensures added { OnOk result (b.new ≡ with_defined b.old expressions.now) }
-    ensures variables { IfOk result (λ variables. variables.items ≡ range_with_len (count_of b.old) (length expressions.now)) }
+    requires measured { All (IsMeasured builder.old) expressions.now }
+    requires room { count_of builder.old + length expressions.now ≤ 2 ^ 32 - 1 }
+    requires row_room { length builder.old.rows + 2 * length expressions.now ≤ 2 ^ 32 - 1 }
+    ensures added { OnOk result (builder.new ≡ with_defined builder.old expressions.now) }
+    ensures variables { IfOk result (λ variables. variables.items ≡ range_with_len (count_of builder.old) (length expressions.now)) }
 {
-    b.recall_well_formed();
-    let ranges = ranges_of(alloc, b, expressions)?;
-    let variables = add_variables(alloc, b, ranges.as_slice())?;
-    add_defining_rows(alloc, b, variables.as_slice(), expressions)?;
+    builder.recall_well_formed();
+    let ranges = ranges_of(alloc, builder, expressions)?;
+    let variables = add_variables(alloc, builder, ranges.as_slice())?;
+    add_defining_rows(alloc, builder, variables.as_slice(), expressions)?;
     Ok(variables)
 }
 
-fn add_objectives(b: &mut ProblemBuilder, variables: &[u32]) -> Result<(), OutOfMemory>
-    requires known { All (λ v. v < count_of b.old) variables.now }
-    requires room { length b.old.objectives + length variables.now ≤ max_objectives }
-    ensures { OnOk result (b.new ≡ with_objectives b.old variables.now) }
+fn add_objectives(builder: &mut ProblemBuilder, variables: &[u32]) -> Result<(), OutOfMemory>
+    requires known { All (λ v. v < count_of builder.old) variables.now }
+    requires room { length builder.old.objectives + length variables.now ≤ max_objectives }
+    ensures { OnOk result (builder.new ≡ with_objectives builder.old variables.now) }
 {
     for v in variables {
-        b.objective(Var(*v))?;
+        builder.objective(Var(*v))?;
     }
     Ok(())
 }

@@ -14,43 +14,43 @@ use cgm_obj::is_free_requirement;
 use std::alloc::Global;
 
 /// The leaf tasks, by number.
-pub(crate) fn leaf_tasks(alloc: Global, m: &Model) -> Result<Vec<u32>, OutOfMemory>
-    ensures { IfOk result (λ tasks. tasks.items ≡ leaves.leaf_tasks (lists_of m.now)) }
+pub(crate) fn leaf_tasks(alloc: Global, model: &Model) -> Result<Vec<u32>, OutOfMemory>
+    ensures { IfOk result (λ tasks. tasks.items ≡ leaves.leaf_tasks (lists_of model.now)) }
 {
     let mut tasks = Vec::new(alloc);
-    for element in 0..element_count(m) {
-        push_leaf_task(&mut tasks, m, element)?;
+    for element in 0..element_count(model) {
+        push_leaf_task(&mut tasks, model, element)?;
     }
     Ok(tasks)
 }
 
-fn push_leaf_task(tasks: &mut Vec<u32>, m: &Model, element: u32) -> Result<(), OutOfMemory>
-    ensures { OnOk result (tasks.new.items ≡ tasks.old.items ++ filter (leaves.is_leaf_task (lists_of m.now)) (element ∷ [])) }
+fn push_leaf_task(tasks: &mut Vec<u32>, model: &Model, element: u32) -> Result<(), OutOfMemory>
+    ensures { OnOk result (tasks.new.items ≡ tasks.old.items ++ filter (leaves.is_leaf_task (lists_of model.now)) (element ∷ [])) }
 {
-    if m.is_leaf_task(element) {
+    if model.is_leaf_task(element) {
         tasks.push(element)?;
     }
     Ok(())
 }
 
 /// The elements on interest lines, or the leaf tasks where there is no such line.
-pub(crate) fn elements_of_interest(alloc: Global, m: &Model) -> Result<Vec<u32>, OutOfMemory>
-    ensures { IfOk result (λ elements. elements.items ≡ costs.elements_of_interest (lists_of m.now)) }
+pub(crate) fn elements_of_interest(alloc: Global, model: &Model) -> Result<Vec<u32>, OutOfMemory>
+    ensures { IfOk result (λ elements. elements.items ≡ costs.elements_of_interest (lists_of model.now)) }
 {
-    let interests = m.interests.as_slice();
+    let interests = model.interests.as_slice();
     if interests.is_empty() {
-        return leaf_tasks(alloc, m);
+        return leaf_tasks(alloc, model);
     }
     Vec::from_slice(alloc, interests)
 }
 
 /// Whether the element was true in the earlier realization.
-pub(crate) fn was_true_before(m: &Model, e: &Earlier, element: u32) -> bool
-    ensures { result ≡ quantities.was_true_before (lists_of m.now) e.now.pairs element }
+pub(crate) fn was_true_before(model: &Model, earlier: &Earlier, element: u32) -> bool
+    ensures { result ≡ quantities.was_true_before (lists_of model.now) earlier.now.pairs element }
 {
-    match m.elements.as_slice().get(element as usize) {
-        None => was_true(e.truth_of(b"")),
-        Some(own) => was_true(e.truth_of(own.name.as_slice())),
+    match model.elements.as_slice().get(element as usize) {
+        None => was_true(earlier.truth_of(b"")),
+        Some(own) => was_true(earlier.truth_of(own.name.as_slice())),
     }
 }
 
@@ -64,69 +64,69 @@ fn was_true(earlier: Option<bool>) -> bool
 }
 
 /// The leaf tasks of interest that weren't true.
-pub(crate) fn possible_work(alloc: Global, m: &Model, e: &Earlier) -> Result<Vec<u32>, OutOfMemory>
-    ensures { IfOk result (λ tasks. tasks.items ≡ quantities.possible_work (lists_of m.now) e.now.pairs) }
+pub(crate) fn possible_work(alloc: Global, model: &Model, earlier: &Earlier) -> Result<Vec<u32>, OutOfMemory>
+    ensures { IfOk result (λ tasks. tasks.items ≡ quantities.possible_work (lists_of model.now) earlier.now.pairs) }
 {
-    let interest = elements_of_interest(alloc, m)?;
-    let tasks = work_among(alloc, m, e, interest.as_slice())?;
+    let interest = elements_of_interest(alloc, model)?;
+    let tasks = work_among(alloc, model, earlier, interest.as_slice())?;
     Ok(tasks)
 }
 
 /// The leaf tasks among these elements that weren't true.
 fn work_among(
     alloc: Global,
-    m: &Model,
-    e: &Earlier,
+    model: &Model,
+    earlier: &Earlier,
     elements: &[u32],
 ) -> Result<Vec<u32>, OutOfMemory>
-    ensures { IfOk result (λ tasks. tasks.items ≡ filter (λ k. leaves.is_leaf_task (lists_of m.now) k && not (quantities.was_true_before (lists_of m.now) e.now.pairs k)) elements.now) }
+    ensures { IfOk result (λ tasks. tasks.items ≡ filter (λ k. leaves.is_leaf_task (lists_of model.now) k && not (quantities.was_true_before (lists_of model.now) earlier.now.pairs k)) elements.now) }
 {
     let mut tasks = Vec::new(alloc);
     for element in elements {
-        push_possible_work(&mut tasks, m, e, *element)?;
+        push_possible_work(&mut tasks, model, earlier, *element)?;
     }
     Ok(tasks)
 }
 
 fn push_possible_work(
     tasks: &mut Vec<u32>,
-    m: &Model,
-    e: &Earlier,
+    model: &Model,
+    earlier: &Earlier,
     element: u32,
 ) -> Result<(), OutOfMemory>
-    ensures { OnOk result (tasks.new.items ≡ tasks.old.items ++ filter (λ k. leaves.is_leaf_task (lists_of m.now) k && not (quantities.was_true_before (lists_of m.now) e.now.pairs k)) (element ∷ [])) }
+    ensures { OnOk result (tasks.new.items ≡ tasks.old.items ++ filter (λ k. leaves.is_leaf_task (lists_of model.now) k && not (quantities.was_true_before (lists_of model.now) earlier.now.pairs k)) (element ∷ [])) }
 {
-    if is_possible_work(m, e, element) {
+    if is_possible_work(model, earlier, element) {
         tasks.push(element)?;
     }
     Ok(())
 }
 
-fn is_possible_work(m: &Model, e: &Earlier, element: u32) -> bool
-    ensures { result ≡ (leaves.is_leaf_task (lists_of m.now) element && not (quantities.was_true_before (lists_of m.now) e.now.pairs element)) }
+fn is_possible_work(model: &Model, earlier: &Earlier, element: u32) -> bool
+    ensures { result ≡ (leaves.is_leaf_task (lists_of model.now) element && not (quantities.was_true_before (lists_of model.now) earlier.now.pairs element)) }
 {
-    m.is_leaf_task(element) && !was_true_before(m, e, element)
+    model.is_leaf_task(element) && !was_true_before(model, earlier, element)
 }
 
 /// The requirements without `must`, by number.
-pub(crate) fn free_requirements(alloc: Global, m: &Model) -> Result<Vec<u32>, OutOfMemory>
-    ensures { IfOk result (λ elements. elements.items ≡ quantities.free_requirements (lists_of m.now)) }
+pub(crate) fn free_requirements(alloc: Global, model: &Model) -> Result<Vec<u32>, OutOfMemory>
+    ensures { IfOk result (λ elements. elements.items ≡ quantities.free_requirements (lists_of model.now)) }
 {
     let mut requirements = Vec::new(alloc);
-    for element in 0..element_count(m) {
-        push_free_requirement(&mut requirements, m, element)?;
+    for element in 0..element_count(model) {
+        push_free_requirement(&mut requirements, model, element)?;
     }
     Ok(requirements)
 }
 
 fn push_free_requirement(
     requirements: &mut Vec<u32>,
-    m: &Model,
+    model: &Model,
     element: u32,
 ) -> Result<(), OutOfMemory>
-    ensures { OnOk result (requirements.new.items ≡ requirements.old.items ++ filter (counts.is_free_requirement (lists_of m.now)) (element ∷ [])) }
+    ensures { OnOk result (requirements.new.items ≡ requirements.old.items ++ filter (counts.is_free_requirement (lists_of model.now)) (element ∷ [])) }
 {
-    if is_free_requirement(m, element) {
+    if is_free_requirement(model, element) {
         requirements.push(element)?;
     }
     Ok(())

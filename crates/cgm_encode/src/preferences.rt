@@ -15,18 +15,18 @@ use std::alloc::Global;
 /// Adds the clauses of each preference, of which each has the variable at its place.
 pub(crate) fn add_preferences(
     alloc: Global,
-    b: &mut ProblemBuilder,
-    m: &Model,
+    builder: &mut ProblemBuilder,
+    model: &Model,
     variables: &[u32],
     prefers: &[Preference],
 ) -> Result<(), OutOfMemory>
     requires count { length variables.now ≡ length prefers.now }
-    requires room { CanTake b.old (flat_map (preference_clauses (lists_of m.now)) (zip variables.now prefers.now)) }
-    requires known { All (IsPreference (lists_of m.now)) prefers.now }
-    ensures { OnOk result (b.new ≡ with_written b.old (flat_map (preference_clauses (lists_of m.now)) (zip variables.now prefers.now))) }
+    requires room { CanTake builder.old (flat_map (preference_clauses (lists_of model.now)) (zip variables.now prefers.now)) }
+    requires known { All (IsPreference (lists_of model.now)) prefers.now }
+    ensures { OnOk result (builder.new ≡ with_written builder.old (flat_map (preference_clauses (lists_of model.now)) (zip variables.now prefers.now))) }
 {
     for (place, p) in prefers.iter().enumerate() {
-        add_preference(alloc, b, m, variable_at(variables, place), p)?;
+        add_preference(alloc, builder, model, variable_at(variables, place), p)?;
     }
     Ok(())
 }
@@ -41,18 +41,18 @@ fn variable_at(variables: &[u32], place: usize) -> u32
 /// Of a preference A B with variable u: `~u ~A`, `~u B`, `u A ~B`.
 fn add_preference(
     alloc: Global,
-    b: &mut ProblemBuilder,
-    m: &Model,
+    builder: &mut ProblemBuilder,
+    model: &Model,
     u: u32,
-    p: &Preference,
+    preference: &Preference,
 ) -> Result<(), OutOfMemory>
-    requires room { CanTake b.old (preference_clauses (lists_of m.now) (u, p.now)) }
-    requires known { IsPreference (lists_of m.now) p.now }
-    ensures { OnOk result (b.new ≡ with_written b.old (preference_clauses (lists_of m.now) (u, p.now))) }
+    requires room { CanTake builder.old (preference_clauses (lists_of model.now) (u, preference.now)) }
+    requires known { IsPreference (lists_of model.now) preference.now }
+    ensures { OnOk result (builder.new ≡ with_written builder.old (preference_clauses (lists_of model.now) (u, preference.now))) }
 {
-    let better = truth_variable(m, p.better);
-    let worse = truth_variable(m, p.worse);
-    add_clause(alloc, b, &[negated(u), negated(better)])?;
-    add_clause(alloc, b, &[negated(u), literal(worse)])?;
-    add_clause(alloc, b, &[literal(u), literal(better), negated(worse)])
+    let better = truth_variable(model, preference.better);
+    let worse = truth_variable(model, preference.worse);
+    add_clause(alloc, builder, &[negated(u), negated(better)])?;
+    add_clause(alloc, builder, &[negated(u), literal(worse)])?;
+    add_clause(alloc, builder, &[literal(u), literal(better), negated(worse)])
 }

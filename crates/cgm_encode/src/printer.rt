@@ -13,31 +13,31 @@ use std::alloc::Global;
 /// for each clause, `row R GUARD LEAST` and its terms for each row, and `objective V` for each
 /// objective, each by number. An atom is `V>=k` or `V<=k`, a guard is an atom or `-`, and a term is
 /// `c*V`. There is one space between two words, and one line feed behind each line.
-pub fn print_problem(alloc: Global, p: &Problem) -> Result<Vec<u8>, OutOfMemory>
-    ensures { IfOk result (λ out. out.items ≡ problem_text p.now) }
+pub fn print_problem(alloc: Global, problem: &Problem) -> Result<Vec<u8>, OutOfMemory>
+    ensures { IfOk result (λ out. out.items ≡ problem_text problem.now) }
 {
     let mut out = Vec::from_slice(alloc, b"cgm-problem 1\n")?;
-    push_vars(&mut out, p)?;
-    push_clauses(&mut out, p)?;
-    push_rows(&mut out, p)?;
-    push_objectives(&mut out, p.objectives())?;
+    push_vars(&mut out, problem)?;
+    push_clauses(&mut out, problem)?;
+    push_rows(&mut out, problem)?;
+    push_objectives(&mut out, problem.objectives())?;
     Ok(out)
 }
 
-fn push_vars(out: &mut Vec<u8>, p: &Problem) -> Result<(), OutOfMemory>
-    ensures { OnOk result (out.new.items ≡ out.old.items ++ lines_of_variables p.now) }
+fn push_vars(out: &mut Vec<u8>, problem: &Problem) -> Result<(), OutOfMemory>
+    ensures { OnOk result (out.new.items ≡ out.old.items ++ lines_of_variables problem.now) }
 {
-    for v in 0..p.vars() {
-        push_var(out, p, v)?;
+    for v in 0..problem.vars() {
+        push_var(out, problem, v)?;
     }
     Ok(())
 }
 
-fn push_var(out: &mut Vec<u8>, p: &Problem, v: u32) -> Result<(), OutOfMemory>
-    requires { v < var_count p.now }
-    ensures { OnOk result (out.new.items ≡ out.old.items ++ var_line p.now.bounds v) }
+fn push_var(out: &mut Vec<u8>, problem: &Problem, v: u32) -> Result<(), OutOfMemory>
+    requires { v < var_count problem.now }
+    ensures { OnOk result (out.new.items ≡ out.old.items ++ var_line problem.now.bounds v) }
 {
-    let (lo, hi) = p.bounds(Var(v));
+    let (lo, hi) = problem.bounds(Var(v));
     push_range(out, v, lo, hi)
 }
 
@@ -52,21 +52,21 @@ fn push_range(out: &mut Vec<u8>, v: u32, lo: i64, hi: i64) -> Result<(), OutOfMe
     Ok(())
 }
 
-fn push_clauses(out: &mut Vec<u8>, p: &Problem) -> Result<(), OutOfMemory>
-    ensures { OnOk result (out.new.items ≡ out.old.items ++ lines_of_clauses p.now) }
+fn push_clauses(out: &mut Vec<u8>, problem: &Problem) -> Result<(), OutOfMemory>
+    ensures { OnOk result (out.new.items ≡ out.old.items ++ lines_of_clauses problem.now) }
 {
-    for n in 0..p.clauses() {
-        push_clause(out, n, p.clause(n))?;
+    for n in 0..problem.clauses() {
+        push_clause(out, n, problem.clause(n))?;
     }
     Ok(())
 }
 
-fn push_clause(out: &mut Vec<u8>, n: u32, c: &Clause) -> Result<(), OutOfMemory>
-    ensures { OnOk result (out.new.items ≡ out.old.items ++ clause_line (n, c.now)) }
+fn push_clause(out: &mut Vec<u8>, n: u32, clause: &Clause) -> Result<(), OutOfMemory>
+    ensures { OnOk result (out.new.items ≡ out.old.items ++ clause_line (n, clause.now)) }
 {
     out.extend_from_slice(b"clause")?;
     push_number(out, n)?;
-    push_atoms(out, c.atoms.as_slice())?;
+    push_atoms(out, clause.atoms.as_slice())?;
     out.push(b'\n')?;
     Ok(())
 }
@@ -80,23 +80,23 @@ fn push_atoms(out: &mut Vec<u8>, atoms: &[Atom]) -> Result<(), OutOfMemory>
     Ok(())
 }
 
-fn push_rows(out: &mut Vec<u8>, p: &Problem) -> Result<(), OutOfMemory>
-    ensures { OnOk result (out.new.items ≡ out.old.items ++ lines_of_rows p.now) }
+fn push_rows(out: &mut Vec<u8>, problem: &Problem) -> Result<(), OutOfMemory>
+    ensures { OnOk result (out.new.items ≡ out.old.items ++ lines_of_rows problem.now) }
 {
-    for n in 0..p.rows() {
-        push_row(out, n, p.row(n))?;
+    for n in 0..problem.rows() {
+        push_row(out, n, problem.row(n))?;
     }
     Ok(())
 }
 
-fn push_row(out: &mut Vec<u8>, n: u32, r: &Row) -> Result<(), OutOfMemory>
-    ensures { OnOk result (out.new.items ≡ out.old.items ++ row_line (n, r.now)) }
+fn push_row(out: &mut Vec<u8>, n: u32, row: &Row) -> Result<(), OutOfMemory>
+    ensures { OnOk result (out.new.items ≡ out.old.items ++ row_line (n, row.now)) }
 {
     out.extend_from_slice(b"row")?;
     push_number(out, n)?;
-    push_guard(out, &r.guard)?;
-    push_value(out, r.least)?;
-    push_terms(out, r.terms.as_slice())?;
+    push_guard(out, &row.guard)?;
+    push_value(out, row.least)?;
+    push_terms(out, row.terms.as_slice())?;
     out.push(b'\n')?;
     Ok(())
 }
@@ -119,11 +119,11 @@ fn push_objectives(out: &mut Vec<u8>, objectives: &[Var]) -> Result<(), OutOfMem
     Ok(())
 }
 
-fn push_objective(out: &mut Vec<u8>, v: Var) -> Result<(), OutOfMemory>
-    ensures { OnOk result (out.new.items ≡ out.old.items ++ objective_line v) }
+fn push_objective(out: &mut Vec<u8>, variable: Var) -> Result<(), OutOfMemory>
+    ensures { OnOk result (out.new.items ≡ out.old.items ++ objective_line variable) }
 {
     out.extend_from_slice(b"objective")?;
-    push_number(out, v.0)?;
+    push_number(out, variable.0)?;
     out.push(b'\n')?;
     Ok(())
 }

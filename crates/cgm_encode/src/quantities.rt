@@ -30,42 +30,42 @@ pub(crate) struct Summands {
 /// What each objective is over the variables before the objectives, by the variables of the preferences.
 pub(crate) fn objective_expressions(
     alloc: Global,
-    m: &Model,
-    e: &Earlier,
+    model: &Model,
+    earlier: &Earlier,
     preferences: &[u32],
 ) -> Result<Vec<Expression>, OutOfMemory>
-    requires { AreVariablesOfPreferences (lists_of m.now) preferences.now }
-    ensures { IfOk result (λ es. es.items ≡ map (λ o. expression_of (first_objective (lists_of m.now)) (objective_total (lists_of m.now) e.now.pairs o)) m.now.objectives) }
+    requires { AreVariablesOfPreferences (lists_of model.now) preferences.now }
+    ensures { IfOk result (λ es. es.items ≡ map (λ o. expression_of (first_objective (lists_of model.now)) (objective_total (lists_of model.now) earlier.now.pairs o)) model.now.objectives) }
 {
-    let objectives = objectives(m, e);
+    let objectives = objectives(model, earlier);
     let mut expressions = Vec::with_capacity(alloc, objectives.len())?;
     for o in objectives {
-        expressions.push(objective_expression(alloc, m, e, preferences, *o)?)?;
+        expressions.push(objective_expression(alloc, model, earlier, preferences, *o)?)?;
     }
     Ok(expressions)
 }
 
 /// The objectives, whose numbers fit.
-fn objectives<'m>(m: &'m Model, e: &Earlier) -> &'m [Objective]
-    ensures items { result.now ≡ m.now.objectives }
-    ensures fitting { All (IsFitting (lists_of m.now) e.now.pairs) result.now }
+fn objectives<'m>(model: &'m Model, earlier: &Earlier) -> &'m [Objective]
+    ensures items { result.now ≡ model.now.objectives }
+    ensures fitting { All (IsFitting (lists_of model.now) earlier.now.pairs) result.now }
 {
-    m.objectives.as_slice()
+    model.objectives.as_slice()
 }
 
 /// The quantity for `min`, and with its sign changed for `max`.
 fn objective_expression(
     alloc: Global,
-    m: &Model,
-    e: &Earlier,
+    model: &Model,
+    earlier: &Earlier,
     preferences: &[u32],
-    o: Objective,
+    objective: Objective,
 ) -> Result<Expression, OutOfMemory>
-    requires preferences { AreVariablesOfPreferences (lists_of m.now) preferences.now }
-    requires fitting { IsFitting (lists_of m.now) e.now.pairs o }
-    ensures { IfOk result (λ x. x ≡ expression_of (first_objective (lists_of m.now)) (objective_total (lists_of m.now) e.now.pairs o)) }
+    requires preferences { AreVariablesOfPreferences (lists_of model.now) preferences.now }
+    requires fitting { IsFitting (lists_of model.now) earlier.now.pairs objective }
+    ensures { IfOk result (λ x. x ≡ expression_of (first_objective (lists_of model.now)) (objective_total (lists_of model.now) earlier.now.pairs objective)) }
 {
-    let summands = objective_summands(alloc, m, e, preferences, o)?;
+    let summands = objective_summands(alloc, model, earlier, preferences, objective)?;
     let terms = combined_terms(alloc, summands.shares.as_slice())?;
     Ok(Expression {
         terms: Seq::of(terms),
@@ -75,17 +75,17 @@ fn objective_expression(
 
 fn objective_summands(
     alloc: Global,
-    m: &Model,
-    e: &Earlier,
+    model: &Model,
+    earlier: &Earlier,
     preferences: &[u32],
-    o: Objective,
+    objective: Objective,
 ) -> Result<Summands, OutOfMemory>
-    requires preferences { AreVariablesOfPreferences (lists_of m.now) preferences.now }
-    requires fitting { IsFitting (lists_of m.now) e.now.pairs o }
-    ensures { IfOk result (λ s. AreSummandsOf s (objective_total (lists_of m.now) e.now.pairs o)) }
+    requires preferences { AreVariablesOfPreferences (lists_of model.now) preferences.now }
+    requires fitting { IsFitting (lists_of model.now) earlier.now.pairs objective }
+    ensures { IfOk result (λ s. AreSummandsOf s (objective_total (lists_of model.now) earlier.now.pairs objective)) }
 {
-    let summands = summands_of(alloc, m, e, preferences, o.of)?;
-    if o.max {
+    let summands = summands_of(alloc, model, earlier, preferences, objective.of)?;
+    if objective.max {
         return opposite(alloc, &summands);
     }
     Ok(summands)
@@ -124,24 +124,24 @@ fn opposite_share(share: &(i64, u32)) -> (i64, u32)
 
 fn summands_of(
     alloc: Global,
-    m: &Model,
-    e: &Earlier,
+    model: &Model,
+    earlier: &Earlier,
     preferences: &[u32],
-    q: Quantity,
+    quantity: Quantity,
 ) -> Result<Summands, OutOfMemory>
-    requires preferences { AreVariablesOfPreferences (lists_of m.now) preferences.now }
-    requires known { IsKnownQuantity (lists_of m.now) q }
-    ensures { IfOk result (λ s. AreSummandsOf s (quantity_total (lists_of m.now) e.now.pairs q)) }
+    requires preferences { AreVariablesOfPreferences (lists_of model.now) preferences.now }
+    requires known { IsKnownQuantity (lists_of model.now) quantity }
+    ensures { IfOk result (λ s. AreSummandsOf s (quantity_total (lists_of model.now) earlier.now.pairs quantity)) }
 {
-    match q {
-        Quantity::Var(k) => ones(alloc, &[own_variable(m, k)]),
-        Quantity::Sum(k) => ones(alloc, &[sum_variable(m, k)]),
-        Quantity::Weight => weights(alloc, m),
+    match quantity {
+        Quantity::Var(k) => ones(alloc, &[own_variable(model, k)]),
+        Quantity::Sum(k) => ones(alloc, &[sum_variable(model, k)]),
+        Quantity::Weight => weights(alloc, model),
         Quantity::UnsatPrefs => ones(alloc, preferences),
-        Quantity::UnsatReqs => missed(alloc, free_requirements(alloc, m)?.as_slice()),
-        Quantity::SatTasks => ones(alloc, leaf_tasks(alloc, m)?.as_slice()),
-        Quantity::Familiarity => familiarity(alloc, m, e),
-        Quantity::Effort => ones(alloc, possible_work(alloc, m, e)?.as_slice()),
+        Quantity::UnsatReqs => missed(alloc, free_requirements(alloc, model)?.as_slice()),
+        Quantity::SatTasks => ones(alloc, leaf_tasks(alloc, model)?.as_slice()),
+        Quantity::Familiarity => familiarity(alloc, model, earlier),
+        Quantity::Effort => ones(alloc, possible_work(alloc, model, earlier)?.as_slice()),
     }
 }
 
@@ -175,23 +175,23 @@ fn missed(alloc: Global, variables: &[u32]) -> Result<Summands, OutOfMemory>
 }
 
 /// The number of each penalty, and that of each reward with its sign changed, for its element.
-fn weights(alloc: Global, m: &Model) -> Result<Summands, OutOfMemory>
-    ensures { IfOk result (λ s. AreSummandsOf s (quantities.plain (map (λ w. (w.k, w.element)) m.now.penalties ++ map (λ w. (neg_ℤ w.k, w.element)) m.now.rewards))) }
+fn weights(alloc: Global, model: &Model) -> Result<Summands, OutOfMemory>
+    ensures { IfOk result (λ s. AreSummandsOf s (quantities.plain (map (λ w. (w.k, w.element)) model.now.penalties ++ map (λ w. (neg_ℤ w.k, w.element)) model.now.rewards))) }
 {
     let mut shares = Vec::new(alloc);
-    push_penalties(&mut shares, m.penalties.as_slice())?;
-    push_rewards(&mut shares, rewards(m))?;
+    push_penalties(&mut shares, model.penalties.as_slice())?;
+    push_rewards(&mut shares, rewards(model))?;
     Ok(Summands {
         shares: Seq::of(shares),
         constant: 0,
     })
 }
 
-fn rewards(m: &Model) -> &[Weighing]
-    ensures items { result.now ≡ m.now.rewards }
+fn rewards(model: &Model) -> &[Weighing]
+    ensures items { result.now ≡ model.now.rewards }
     ensures small { All (λ w. unsigned_abs w.k ≤ 1000000) result.now }
 {
-    m.rewards.as_slice()
+    model.rewards.as_slice()
 }
 
 fn push_penalties(shares: &mut Vec<(i64, u32)>, penalties: &[Weighing]) -> Result<(), OutOfMemory>
@@ -213,44 +213,44 @@ fn push_rewards(shares: &mut Vec<(i64, u32)>, rewards: &[Weighing]) -> Result<()
     Ok(())
 }
 
-fn reward_share(w: &Weighing) -> (i64, u32)
-    requires { unsigned_abs w.now.k ≤ 1000000 }
-    ensures { result ≡ (neg_ℤ w.now.k, w.now.element) }
+fn reward_share(weighing: &Weighing) -> (i64, u32)
+    requires { unsigned_abs weighing.now.k ≤ 1000000 }
+    ensures { result ≡ (neg_ℤ weighing.now.k, weighing.now.element) }
 {
-    (-w.k, w.element)
+    (-w.k, weighing.element)
 }
 
 /// For each element of interest -1 where it was true, which the constant counts, else 1.
-fn familiarity(alloc: Global, m: &Model, e: &Earlier) -> Result<Summands, OutOfMemory>
-    ensures { IfOk result (λ s. AreSummandsOf s (quantities.familiarity_total (lists_of m.now) e.now.pairs)) }
+fn familiarity(alloc: Global, model: &Model, earlier: &Earlier) -> Result<Summands, OutOfMemory>
+    ensures { IfOk result (λ s. AreSummandsOf s (quantities.familiarity_total (lists_of model.now) earlier.now.pairs)) }
 {
-    let interest = elements_of_interest(alloc, m)?;
-    let shares = changes(alloc, m, e, interest.as_slice())?;
+    let interest = elements_of_interest(alloc, model)?;
+    let shares = changes(alloc, model, earlier, interest.as_slice())?;
     Ok(Summands {
         shares: Seq::of(shares),
-        constant: true_before(m, e, interest.as_slice()) as i64,
+        constant: true_before(model, earlier, interest.as_slice()) as i64,
     })
 }
 
 fn changes(
     alloc: Global,
-    m: &Model,
-    e: &Earlier,
+    model: &Model,
+    earlier: &Earlier,
     elements: &[u32],
 ) -> Result<Vec<(i64, u32)>, OutOfMemory>
-    ensures { IfOk result (λ shares. shares.items ≡ map (λ x. (cond (quantities.was_true_before (lists_of m.now) e.now.pairs x) (negsuc 0) (pos 1), x)) elements.now) }
+    ensures { IfOk result (λ shares. shares.items ≡ map (λ x. (cond (quantities.was_true_before (lists_of model.now) earlier.now.pairs x) (negsuc 0) (pos 1), x)) elements.now) }
 {
     let mut shares = Vec::with_capacity(alloc, elements.len())?;
     for element in elements {
-        shares.push(change(m, e, *element))?;
+        shares.push(change(model, earlier, *element))?;
     }
     Ok(shares)
 }
 
-fn change(m: &Model, e: &Earlier, element: u32) -> (i64, u32)
-    ensures { result ≡ (cond (quantities.was_true_before (lists_of m.now) e.now.pairs element) (negsuc 0) (pos 1), element) }
+fn change(model: &Model, earlier: &Earlier, element: u32) -> (i64, u32)
+    ensures { result ≡ (cond (quantities.was_true_before (lists_of model.now) earlier.now.pairs element) (negsuc 0) (pos 1), element) }
 {
-    if was_true_before(m, e, element) {
+    if was_true_before(model, earlier, element) {
         (-1, element)
     } else {
         (1, element)
@@ -258,11 +258,11 @@ fn change(m: &Model, e: &Earlier, element: u32) -> (i64, u32)
 }
 
 /// How many of these elements were true.
-fn true_before(m: &Model, e: &Earlier, elements: &[u32]) -> usize
-    ensures count { result ≡ count_by (quantities.was_true_before (lists_of m.now) e.now.pairs) elements.now }
+fn true_before(model: &Model, earlier: &Earlier, elements: &[u32]) -> usize
+    ensures count { result ≡ count_by (quantities.was_true_before (lists_of model.now) earlier.now.pairs) elements.now }
 {
     elements
         .iter()
-        .filter(|element| was_true_before(m, e, **element))
+        .filter(|element| was_true_before(model, earlier, **element))
         .count()
 }

@@ -14,62 +14,62 @@ use std::alloc::Global;
 /// The range of each expression.
 pub(crate) fn ranges_of(
     alloc: Global,
-    b: &ProblemBuilder,
+    builder: &ProblemBuilder,
     expressions: &[Expression],
 ) -> Result<Vec<(i64, i64)>, OutOfMemory>
-    requires { All (IsMeasured b.now) expressions.now }
-    ensures ranges { IfOk result (λ ranges. ranges.items ≡ map (expression_range b.now.bounds) expressions.now) }
+    requires { All (IsMeasured builder.now) expressions.now }
+    ensures ranges { IfOk result (λ ranges. ranges.items ≡ map (expression_range builder.now.bounds) expressions.now) }
 {
     let mut ranges = Vec::with_capacity(alloc, expressions.len())?;
     for e in expressions {
-        ranges.push(range_of(b, e))?;
+        ranges.push(range_of(builder, e))?;
     }
     Ok(ranges)
 }
 
-fn range_of(b: &ProblemBuilder, e: &Expression) -> (i64, i64)
-    requires { IsMeasured b.now e.now }
-    ensures { result ≡ expression_range b.now.bounds e.now }
+fn range_of(builder: &ProblemBuilder, expression: &Expression) -> (i64, i64)
+    requires { IsMeasured builder.now expression.now }
+    ensures { result ≡ expression_range builder.now.bounds expression.now }
 {
-    let terms = e.terms.as_slice();
-    let least = plus(least_activity(b, terms), e.constant);
-    let greatest = plus(greatest_activity(b, terms), e.constant);
+    let terms = expression.terms.as_slice();
+    let least = plus(least_activity(builder, terms), expression.constant);
+    let greatest = plus(greatest_activity(builder, terms), expression.constant);
     (least, greatest)
 }
 
-fn least_activity(b: &ProblemBuilder, terms: &[(i64, Var)]) -> i64
-    requires known { AreTermsOf (var_count b.now) terms.now }
-    requires limit { measure b.now.bounds terms.now ≤ max_measure }
-    ensures value { result ≡ least_in b.now.bounds terms.now }
+fn least_activity(builder: &ProblemBuilder, terms: &[(i64, Var)]) -> i64
+    requires known { AreTermsOf (var_count builder.now) terms.now }
+    requires limit { measure builder.now.bounds terms.now ≤ max_measure }
+    ensures value { result ≡ least_in builder.now.bounds terms.now }
     ensures size { unsigned_abs result ≤ max_measure }
 {
     let mut sum = 0;
     for term in terms {
-        sum = plus(sum, least_term(b, term));
+        sum = plus(sum, least_term(builder, term));
     }
     sum
 }
 
-fn greatest_activity(b: &ProblemBuilder, terms: &[(i64, Var)]) -> i64
-    requires known { AreTermsOf (var_count b.now) terms.now }
-    requires limit { measure b.now.bounds terms.now ≤ max_measure }
-    ensures value { result ≡ greatest_in b.now.bounds terms.now }
+fn greatest_activity(builder: &ProblemBuilder, terms: &[(i64, Var)]) -> i64
+    requires known { AreTermsOf (var_count builder.now) terms.now }
+    requires limit { measure builder.now.bounds terms.now ≤ max_measure }
+    ensures value { result ≡ greatest_in builder.now.bounds terms.now }
     ensures size { unsigned_abs result ≤ max_measure }
 {
     let mut sum = 0;
     for term in terms {
-        sum = plus(sum, greatest_term(b, term));
+        sum = plus(sum, greatest_term(builder, term));
     }
     sum
 }
 
-fn least_term(b: &ProblemBuilder, term: &(i64, Var)) -> i64
-    requires known { term.now.1.0 < var_count b.now }
-    requires limit { unsigned_abs term.now.0 * greatest_size b.now.bounds term.now.1.0 ≤ max_measure }
-    ensures value { result ≡ least_term_in b.now.bounds term.now.0 term.now.1.0 }
-    ensures size { unsigned_abs result ≤ unsigned_abs term.now.0 * greatest_size b.now.bounds term.now.1.0 }
+fn least_term(builder: &ProblemBuilder, term: &(i64, Var)) -> i64
+    requires known { term.now.1.0 < var_count builder.now }
+    requires limit { unsigned_abs term.now.0 * greatest_size builder.now.bounds term.now.1.0 ≤ max_measure }
+    ensures value { result ≡ least_term_in builder.now.bounds term.now.0 term.now.1.0 }
+    ensures size { unsigned_abs result ≤ unsigned_abs term.now.0 * greatest_size builder.now.bounds term.now.1.0 }
 {
-    let (lo, hi) = b.bounds(term.1);
+    let (lo, hi) = builder.bounds(term.1);
     if term.0 < 0 {
         product(term.0, hi)
     } else {
@@ -77,13 +77,13 @@ fn least_term(b: &ProblemBuilder, term: &(i64, Var)) -> i64
     }
 }
 
-fn greatest_term(b: &ProblemBuilder, term: &(i64, Var)) -> i64
-    requires known { term.now.1.0 < var_count b.now }
-    requires limit { unsigned_abs term.now.0 * greatest_size b.now.bounds term.now.1.0 ≤ max_measure }
-    ensures value { result ≡ greatest_term_in b.now.bounds term.now.0 term.now.1.0 }
-    ensures size { unsigned_abs result ≤ unsigned_abs term.now.0 * greatest_size b.now.bounds term.now.1.0 }
+fn greatest_term(builder: &ProblemBuilder, term: &(i64, Var)) -> i64
+    requires known { term.now.1.0 < var_count builder.now }
+    requires limit { unsigned_abs term.now.0 * greatest_size builder.now.bounds term.now.1.0 ≤ max_measure }
+    ensures value { result ≡ greatest_term_in builder.now.bounds term.now.0 term.now.1.0 }
+    ensures size { unsigned_abs result ≤ unsigned_abs term.now.0 * greatest_size builder.now.bounds term.now.1.0 }
 {
-    let (lo, hi) = b.bounds(term.1);
+    let (lo, hi) = builder.bounds(term.1);
     if term.0 < 0 {
         product(term.0, lo)
     } else {

@@ -14,19 +14,19 @@ use std::alloc::Global;
 /// Adds the rows by which each variable is the value of the expression at its place.
 pub(crate) fn add_defining_rows(
     alloc: Global,
-    b: &mut ProblemBuilder,
+    builder: &mut ProblemBuilder,
     variables: &[u32],
     expressions: &[Expression],
 ) -> Result<(), OutOfMemory>
     requires count { length variables.now ≡ length expressions.now }
-    requires known { All (λ v. v < var_count b.old) variables.now }
+    requires known { All (λ v. v < var_count builder.old) variables.now }
     requires expressions { All (λ v. All (IsDefining v) expressions.now) variables.now }
-    requires sizes { All (HasBoundSize b.old.bounds) expressions.now }
-    requires room { length b.old.rows + 2 * length expressions.now ≤ 2 ^ 32 - 1 }
-    ensures { OnOk result (b.new ≡ with_rows b.old (flat_map defining_rows (zip variables.now expressions.now))) }
+    requires sizes { All (HasBoundSize builder.old.bounds) expressions.now }
+    requires room { length builder.old.rows + 2 * length expressions.now ≤ 2 ^ 32 - 1 }
+    ensures { OnOk result (builder.new ≡ with_rows builder.old (flat_map defining_rows (zip variables.now expressions.now))) }
 {
     for (place, e) in expressions.iter().enumerate() {
-        add_two_rows(alloc, b, variables[place], e)?;
+        add_two_rows(alloc, builder, variables[place], e)?;
     }
     Ok(())
 }
@@ -34,22 +34,22 @@ pub(crate) fn add_defining_rows(
 /// Of the variable v and the expression L + d: `v - L >= d`, then `-v + L >= -d`.
 fn add_two_rows(
     alloc: Global,
-    b: &mut ProblemBuilder,
+    builder: &mut ProblemBuilder,
     v: u32,
-    e: &Expression,
+    expression: &Expression,
 ) -> Result<(), OutOfMemory>
-    requires expression { IsDefining v e.now }
-    requires size { HasBoundSize b.old.bounds e.now }
-    requires known { v < var_count b.old }
-    requires room { length b.old.rows + 2 ≤ 2 ^ 32 - 1 }
-    ensures { OnOk result (b.new ≡ with_rows b.old (defining_rows (v, e.now))) }
+    requires expression { IsDefining v expression.now }
+    requires size { HasBoundSize builder.old.bounds expression.now }
+    requires known { v < var_count builder.old }
+    requires room { length builder.old.rows + 2 ≤ 2 ^ 32 - 1 }
+    ensures { OnOk result (builder.new ≡ with_rows builder.old (defining_rows (v, expression.now))) }
 {
-    b.recall_well_formed();
-    let negative_terms = negative(alloc, e.terms.as_slice())?;
+    builder.recall_well_formed();
+    let negative_terms = negative(alloc, expression.terms.as_slice())?;
     let terms = with_first(alloc, 1, v, negative_terms.as_slice())?;
-    add_row(b, terms, e.constant)?;
-    let terms = with_first(alloc, -1, v, e.terms.as_slice())?;
-    add_row(b, terms, -e.constant)
+    add_row(builder, terms, expression.constant)?;
+    let terms = with_first(alloc, -1, v, expression.terms.as_slice())?;
+    add_row(builder, terms, -e.constant)
 }
 
 /// The term of the variable before the others.
@@ -68,18 +68,18 @@ fn with_first(
 }
 
 /// Adds a row without a guard.
-fn add_row(b: &mut ProblemBuilder, terms: Vec<(i64, Var)>, least: i64) -> Result<(), OutOfMemory>
-    requires terms { AreTermsOf (var_count b.old) terms.items }
-    requires size { IsRowSize b.old.bounds (row_of terms.items least) }
-    requires room { length b.old.rows < 2 ^ 32 - 1 }
-    ensures { OnOk result (b.new ≡ with_row b.old (row_of terms.items least)) }
+fn add_row(builder: &mut ProblemBuilder, terms: Vec<(i64, Var)>, least: i64) -> Result<(), OutOfMemory>
+    requires terms { AreTermsOf (var_count builder.old) terms.items }
+    requires size { IsRowSize builder.old.bounds (row_of terms.items least) }
+    requires room { length builder.old.rows < 2 ^ 32 - 1 }
+    ensures { OnOk result (builder.new ≡ with_row builder.old (row_of terms.items least)) }
 {
     let row = Row {
         guard: None,
         terms: Seq::of(terms),
         least,
     };
-    match b.row(row) {
+    match builder.row(row) {
         Ok(_) => Ok(()),
         Err(BuildStop::Memory) => Err(OutOfMemory),
         // The row's measure and its least value are within their limits.

@@ -39,8 +39,8 @@ fn objective_values(
 }
 
 /// The value of a variable; 0 where it has none.
-fn value_at(values: &[i64], v: Var) -> i64
-    ensures { result ≡ value_of values.now v.0 }
+fn value_at(values: &[i64], variable: Var) -> i64
+    ensures { result ≡ value_of values.now variable.0 }
 {
-    number_at(values, v.0)
+    number_at(values, variable.0)
 }

@@ -14,21 +14,21 @@ use cgm_model::Model;
 use std::alloc::Global;
 
 /// What each sum is over the elements and refinements.
-pub(crate) fn sum_expressions(alloc: Global, m: &Model) -> Result<Vec<Expression>, OutOfMemory>
-    ensures { IfOk result (λ es. es.items ≡ map (λ sum. expression_of (truth_variables (lists_of m.now)) (sum_total (lists_of m.now) sum)) (range_with_len 0 (length m.now.sums))) }
+pub(crate) fn sum_expressions(alloc: Global, model: &Model) -> Result<Vec<Expression>, OutOfMemory>
+    ensures { IfOk result (λ es. es.items ≡ map (λ sum. expression_of (truth_variables (lists_of model.now)) (sum_total (lists_of model.now) sum)) (range_with_len 0 (length model.now.sums))) }
 {
-    let lists = shares_by_sum(alloc, m)?;
-    let expressions = expressions_of(alloc, m, lists.as_slice())?;
+    let lists = shares_by_sum(alloc, model)?;
+    let expressions = expressions_of(alloc, model, lists.as_slice())?;
     Ok(expressions)
 }
 
 /// The numbers of each sum for elements and refinements, in one pass over all value lines.
-fn shares_by_sum(alloc: Global, m: &Model) -> Result<Vec<Parts<(i64, u32)>>, OutOfMemory>
-    ensures { IfOk result (λ lists. lists.items ≡ map (λ sum. (sum_total (lists_of m.now) sum).shares) (range_with_len 0 (length m.now.sums))) }
+fn shares_by_sum(alloc: Global, model: &Model) -> Result<Vec<Parts<(i64, u32)>>, OutOfMemory>
+    ensures { IfOk result (λ lists. lists.items ≡ map (λ sum. (sum_total (lists_of model.now) sum).shares) (range_with_len 0 (length model.now.sums))) }
 {
-    let mut lists = empty_lists(alloc, m.sums.as_slice().len())?;
-    for v in m.values.as_slice() {
-        lists[v.sum as usize].push((v.k, truth_variable(m, v.of)))?;
+    let mut lists = empty_lists(alloc, model.sums.as_slice().len())?;
+    for v in model.values.as_slice() {
+        lists[v.sum as usize].push((v.k, truth_variable(model, v.of)))?;
     }
     Ok(lists)
 }
@@ -46,24 +46,24 @@ fn empty_lists(alloc: Global, count: usize) -> Result<Vec<Parts<(i64, u32)>>, Ou
 
 fn expressions_of(
     alloc: Global,
-    m: &Model,
+    model: &Model,
     lists: &[Parts<(i64, u32)>],
 ) -> Result<Vec<Expression>, OutOfMemory>
-    requires known { All (λ shares. All (λ s. s.1 < truth_variables (lists_of m.now)) shares) lists.now }
+    requires known { All (λ shares. All (λ s. s.1 < truth_variables (lists_of model.now)) shares) lists.now }
     requires small { All (λ shares. share_size shares < 2 ^ 63) lists.now }
-    ensures { IfOk result (λ es. es.items ≡ map (λ shares. expression_of (truth_variables (lists_of m.now)) (plain shares)) lists.now) }
+    ensures { IfOk result (λ es. es.items ≡ map (λ shares. expression_of (truth_variables (lists_of model.now)) (plain shares)) lists.now) }
 {
     let mut expressions = Vec::with_capacity(alloc, lists.len())?;
     for shares in lists {
-        expressions.push(expression(alloc, m, shares.as_slice())?)?;
+        expressions.push(expression(alloc, model, shares.as_slice())?)?;
     }
     Ok(expressions)
 }
 
-fn expression(alloc: Global, m: &Model, shares: &[(i64, u32)]) -> Result<Expression, OutOfMemory>
-    requires known { All (λ s. s.1 < truth_variables (lists_of m.now)) shares.now }
+fn expression(alloc: Global, model: &Model, shares: &[(i64, u32)]) -> Result<Expression, OutOfMemory>
+    requires known { All (λ s. s.1 < truth_variables (lists_of model.now)) shares.now }
     requires small { share_size shares.now < 2 ^ 63 }
-    ensures { IfOk result (λ e. e ≡ expression_of (truth_variables (lists_of m.now)) (plain shares.now)) }
+    ensures { IfOk result (λ e. e ≡ expression_of (truth_variables (lists_of model.now)) (plain shares.now)) }
 {
     let terms = combined_terms(alloc, shares)?;
     Ok(Expression {

@@ -27,34 +27,34 @@ use std::alloc::Global;
 /// values of the objectives are its vector.
 pub fn extend(
     alloc: Global,
-    m: &Model,
-    e: &Earlier,
+    model: &Model,
+    earlier: &Earlier,
     enc: &Encoded,
-    a: &Assignment,
+    assignment: &Assignment,
 ) -> Result<Vec<i64>, OutOfMemory>
-    requires realizes { Realizes (lists_of m.now) a.now }
-    requires encoding { IsEncodingOf (lists_of m.now) e.now.pairs enc.now }
-    ensures { IfOk result (λ values. IsExtended (lists_of m.now) e.now.pairs enc.now a.now values.items) }
+    requires realizes { Realizes (lists_of model.now) assignment.now }
+    requires encoding { IsEncodingOf (lists_of model.now) earlier.now.pairs enc.now }
+    ensures { IfOk result (λ values. IsExtended (lists_of model.now) earlier.now.pairs enc.now assignment.now values.items) }
 {
     let mut values = Vec::with_capacity(alloc, enc.problem.vars() as usize)?;
-    push_values(alloc, &mut values, m, e, a)?;
+    push_values(alloc, &mut values, model, earlier, assignment)?;
     Ok(values)
 }
 
 fn push_values(
     alloc: Global,
     out: &mut Vec<i64>,
-    m: &Model,
-    e: &Earlier,
-    a: &Assignment,
+    model: &Model,
+    earlier: &Earlier,
+    assignment: &Assignment,
 ) -> Result<(), OutOfMemory>
-    requires fits { Fits (lists_of m.now) a.now }
+    requires fits { Fits (lists_of model.now) assignment.now }
     requires empty { out.old.items ≡ [] }
-    ensures { OnOk result (out.new.items ≡ extension_of (lists_of m.now) e.now.pairs a.now) }
+    ensures { OnOk result (out.new.items ≡ extension_of (lists_of model.now) earlier.now.pairs assignment.now) }
 {
-    let sums = sums(alloc, m, a)?;
-    push_choices(alloc, out, m, a, sums.as_slice())?;
-    push_vector(alloc, out, m, e, a, sums.as_slice())?;
+    let sums = sums(alloc, model, assignment)?;
+    push_choices(alloc, out, model, assignment, sums.as_slice())?;
+    push_vector(alloc, out, model, earlier, assignment, sums.as_slice())?;
     Ok(())
 }
 
@@ -62,53 +62,53 @@ fn push_values(
 fn push_choices(
     alloc: Global,
     out: &mut Vec<i64>,
-    m: &Model,
-    a: &Assignment,
+    model: &Model,
+    assignment: &Assignment,
     sums: &[i64],
 ) -> Result<(), OutOfMemory>
-    requires fits { Fits (lists_of m.now) a.now }
-    requires sums { sums.now ≡ sums_of (lists_of m.now) a.now }
+    requires fits { Fits (lists_of model.now) assignment.now }
+    requires sums { sums.now ≡ sums_of (lists_of model.now) assignment.now }
     requires empty { out.old.items ≡ [] }
-    ensures { OnOk result (out.new.items ≡ choice_values (lists_of m.now) a.now) }
+    ensures { OnOk result (out.new.items ≡ choice_values (lists_of model.now) assignment.now) }
 {
-    push_numbers(out, a, sums)?;
-    push_rules(alloc, out, a, sums, rules(m, a, sums))?;
-    push_preferences(out, a, m.prefers.as_slice())?;
+    push_numbers(out, assignment, sums)?;
+    push_rules(alloc, out, assignment, sums, rules(model, assignment, sums))?;
+    push_preferences(out, assignment, model.prefers.as_slice())?;
     Ok(())
 }
 
 fn push_vector(
     alloc: Global,
     out: &mut Vec<i64>,
-    m: &Model,
-    e: &Earlier,
-    a: &Assignment,
+    model: &Model,
+    earlier: &Earlier,
+    assignment: &Assignment,
     sums: &[i64],
 ) -> Result<(), OutOfMemory>
-    requires fits { Fits (lists_of m.now) a.now }
-    requires sums { sums.now ≡ sums_of (lists_of m.now) a.now }
-    ensures { OnOk result (out.new.items ≡ out.old.items ++ vector_of (lists_of m.now) e.now.pairs a.now) }
+    requires fits { Fits (lists_of model.now) assignment.now }
+    requires sums { sums.now ≡ sums_of (lists_of model.now) assignment.now }
+    ensures { OnOk result (out.new.items ≡ out.old.items ++ vector_of (lists_of model.now) earlier.now.pairs assignment.now) }
 {
-    let numbers = vector(alloc, m, e, a, sums)?;
+    let numbers = vector(alloc, model, earlier, assignment, sums)?;
     out.extend_from_slice(numbers.as_slice())
 }
 
-fn rules<'m>(m: &'m Model, a: &Assignment, sums: &[i64]) -> &'m [Rule]
-    requires fits { Fits (lists_of m.now) a.now }
-    requires sums { sums.now ≡ sums_of (lists_of m.now) a.now }
-    ensures items { result.now ≡ m.now.rules }
-    ensures small { All (λ r. AreSmallIn (number_in a.now sums.now) (formula_of r)) result.now }
+fn rules<'m>(model: &'m Model, assignment: &Assignment, sums: &[i64]) -> &'m [Rule]
+    requires fits { Fits (lists_of model.now) assignment.now }
+    requires sums { sums.now ≡ sums_of (lists_of model.now) assignment.now }
+    ensures items { result.now ≡ model.now.rules }
+    ensures small { All (λ r. AreSmallIn (number_in assignment.now sums.now) (formula_of r)) result.now }
 {
-    m.rules.as_slice()
+    model.rules.as_slice()
 }
 
 /// The values of elements, refinements, variables and sums.
-fn push_numbers(out: &mut Vec<i64>, a: &Assignment, sums: &[i64]) -> Result<(), OutOfMemory>
-    ensures { OnOk result (out.new.items ≡ out.old.items ++ (((map bit_of a.now.elements ++ map bit_of a.now.refinements) ++ a.now.vars) ++ sums.now)) }
+fn push_numbers(out: &mut Vec<i64>, assignment: &Assignment, sums: &[i64]) -> Result<(), OutOfMemory>
+    ensures { OnOk result (out.new.items ≡ out.old.items ++ (((map bit_of assignment.now.elements ++ map bit_of assignment.now.refinements) ++ assignment.now.vars) ++ sums.now)) }
 {
-    push_bits(out, a.elements.as_slice())?;
-    push_bits(out, a.refinements.as_slice())?;
-    out.extend_from_slice(a.vars.as_slice())?;
+    push_bits(out, assignment.elements.as_slice())?;
+    push_bits(out, assignment.refinements.as_slice())?;
+    out.extend_from_slice(assignment.vars.as_slice())?;
     out.extend_from_slice(sums)
 }
 
@@ -124,19 +124,19 @@ fn push_bits(out: &mut Vec<i64>, truths: &[bool]) -> Result<(), OutOfMemory>
 /// For each preference 1 where it isn't met, else 0.
 fn push_preferences(
     out: &mut Vec<i64>,
-    a: &Assignment,
+    assignment: &Assignment,
     prefers: &[Preference],
 ) -> Result<(), OutOfMemory>
-    ensures { OnOk result (out.new.items ≡ out.old.items ++ map (λ p. bit_of (not (is_met_by a.now p))) prefers.now) }
+    ensures { OnOk result (out.new.items ≡ out.old.items ++ map (λ p. bit_of (not (is_met_by assignment.now p))) prefers.now) }
 {
     for p in prefers {
-        push_bit(out, !is_met(a, p))?;
+        push_bit(out, !is_met(assignment, p))?;
     }
     Ok(())
 }
 
-fn is_met(a: &Assignment, p: &Preference) -> bool
-    ensures { result ≡ is_met_by a.now p.now }
+fn is_met(assignment: &Assignment, preference: &Preference) -> bool
+    ensures { result ≡ is_met_by assignment.now preference.now }
 {
-    is_true(a, p.better) || !is_true(a, p.worse)
+    is_true(assignment, preference.better) || !is_true(assignment, preference.worse)
 }

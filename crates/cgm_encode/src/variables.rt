@@ -13,71 +13,71 @@ use std::alloc::Global;
 /// Adds so many variables of 0 or 1, and answers them.
 pub(crate) fn add_bits(
     alloc: Global,
-    b: &mut ProblemBuilder,
+    builder: &mut ProblemBuilder,
     count: usize,
 ) -> Result<Vec<u32>, OutOfMemory>
-    requires { var_count b.old + count ≤ 2 ^ 32 - 1 }
-    ensures added { OnOk result (b.new ≡ with_ranges b.old (bits count)) }
-    ensures variables { IfOk result (λ variables. variables.items ≡ range_with_len (var_count b.old) count) }
+    requires { var_count builder.old + count ≤ 2 ^ 32 - 1 }
+    ensures added { OnOk result (builder.new ≡ with_ranges builder.old (bits count)) }
+    ensures variables { IfOk result (λ variables. variables.items ≡ range_with_len (var_count builder.old) count) }
 {
     let mut variables = Vec::new(alloc);
     for _ in 0..count {
-        variables.push(add_variable(b, &(0, 1))?)?;
+        variables.push(add_variable(builder, &(0, 1))?)?;
     }
     Ok(variables)
 }
 
 /// Adds the variables of a model, each with its bounds.
-pub(crate) fn add_own(b: &mut ProblemBuilder, vars: &[Variable]) -> Result<(), OutOfMemory>
+pub(crate) fn add_own(builder: &mut ProblemBuilder, vars: &[Variable]) -> Result<(), OutOfMemory>
     requires ordered { All (λ v. v.lo ≤ℤ v.hi) vars.now }
     requires bounds { All (λ v. AreBounds (own_range v)) vars.now }
-    requires room { var_count b.old + length vars.now ≤ 2 ^ 32 - 1 }
-    ensures { OnOk result (b.new ≡ with_ranges b.old (map own_range vars.now)) }
+    requires room { var_count builder.old + length vars.now ≤ 2 ^ 32 - 1 }
+    ensures { OnOk result (builder.new ≡ with_ranges builder.old (map own_range vars.now)) }
 {
     for v in vars {
-        add_one_own(b, v)?;
+        add_one_own(builder, v)?;
     }
     Ok(())
 }
 
-fn add_one_own(b: &mut ProblemBuilder, v: &Variable) -> Result<(), OutOfMemory>
-    requires ordered { v.now.lo ≤ℤ v.now.hi }
-    requires bounds { AreBounds (own_range v.now) }
-    requires room { var_count b.old < 2 ^ 32 - 1 }
-    ensures { OnOk result (b.new ≡ with_var b.old v.now.lo v.now.hi) }
+fn add_one_own(builder: &mut ProblemBuilder, variable: &Variable) -> Result<(), OutOfMemory>
+    requires ordered { variable.now.lo ≤ℤ variable.now.hi }
+    requires bounds { AreBounds (own_range variable.now) }
+    requires room { var_count builder.old < 2 ^ 32 - 1 }
+    ensures { OnOk result (builder.new ≡ with_var builder.old variable.now.lo variable.now.hi) }
 {
-    add_variable(b, &(v.lo, v.hi))?;
+    add_variable(builder, &(variable.lo, variable.hi))?;
     Ok(())
 }
 
 /// Adds a variable for each range, and answers the variables.
 pub(crate) fn add_variables(
     alloc: Global,
-    b: &mut ProblemBuilder,
+    builder: &mut ProblemBuilder,
     ranges: &[(i64, i64)],
 ) -> Result<Vec<u32>, OutOfMemory>
     requires ordered { All (λ r. r.0 ≤ℤ r.1) ranges.now }
     requires bounds { All AreBounds ranges.now }
-    requires room { var_count b.old + length ranges.now ≤ 2 ^ 32 - 1 }
-    ensures added { OnOk result (b.new ≡ with_ranges b.old ranges.now) }
-    ensures variables { IfOk result (λ variables. variables.items ≡ range_with_len (var_count b.old) (length ranges.now)) }
+    requires room { var_count builder.old + length ranges.now ≤ 2 ^ 32 - 1 }
+    ensures added { OnOk result (builder.new ≡ with_ranges builder.old ranges.now) }
+    ensures variables { IfOk result (λ variables. variables.items ≡ range_with_len (var_count builder.old) (length ranges.now)) }
 {
     let mut variables = Vec::new(alloc);
     for range in ranges {
-        variables.push(add_variable(b, range)?)?;
+        variables.push(add_variable(builder, range)?)?;
     }
     Ok(variables)
 }
 
 /// Adds a variable with its least and its greatest value, and answers it.
-fn add_variable(b: &mut ProblemBuilder, range: &(i64, i64)) -> Result<u32, OutOfMemory>
+fn add_variable(builder: &mut ProblemBuilder, range: &(i64, i64)) -> Result<u32, OutOfMemory>
     requires ordered { range.now.0 ≤ℤ range.now.1 }
     requires bounds { AreBounds range.now }
-    requires room { var_count b.old < 2 ^ 32 - 1 }
-    ensures added { OnOk result (b.new ≡ with_var b.old range.now.0 range.now.1) }
-    ensures variable { IfOk result (λ x. x ≡ var_count b.old) }
+    requires room { var_count builder.old < 2 ^ 32 - 1 }
+    ensures added { OnOk result (builder.new ≡ with_var builder.old range.now.0 range.now.1) }
+    ensures variable { IfOk result (λ x. x ≡ var_count builder.old) }
 {
-    match b.var(range.0, range.1) {
+    match builder.var(range.0, range.1) {
         Ok(v) => Ok(v.0),
         Err(BuildStop::Memory) => Err(OutOfMemory),
         // Both bounds are within their limit.

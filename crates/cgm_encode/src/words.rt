@@ -33,13 +33,13 @@ pub(crate) fn push_value(out: &mut Vec<u8>, z: i64) -> Result<(), OutOfMemory>
     push_signed_digits(out, z)
 }
 
-pub(crate) fn push_atom(out: &mut Vec<u8>, a: &Atom) -> Result<(), OutOfMemory>
-    ensures { OnOk result (out.new.items ≡ out.old.items ++ 32 ∷ atom_word a.now) }
+pub(crate) fn push_atom(out: &mut Vec<u8>, atom: &Atom) -> Result<(), OutOfMemory>
+    ensures { OnOk result (out.new.items ≡ out.old.items ++ 32 ∷ atom_word atom.now) }
 {
-    push_number(out, a.var.0)?;
-    let relation = if a.at_least { b">=" } else { b"<=" };
+    push_number(out, atom.var.0)?;
+    let relation = if atom.at_least { b">=" } else { b"<=" };
     out.extend_from_slice(relation)?;
-    push_signed_digits(out, a.k)
+    push_signed_digits(out, atom.k)
 }
 
 /// A guard's atom, or `-` where there is none.

@@ -14,33 +14,33 @@ use cgm_formula::truth_at;
 use cgm_model::{Assignment, Model};
 
 /// The number of elements.
-fn element_count(m: &Model) -> u32
-    ensures count { result ≡ length m.now.elements }
+fn element_count(model: &Model) -> u32
+    ensures count { result ≡ length model.now.elements }
     ensures few { result ≤ limit_number limits.Elements }
 {
-    m.elements.as_slice().len() as u32
+    model.elements.as_slice().len() as u32
 }
 
 /// The name of an element, or an empty one where there is no such element.
-fn element_name(m: &Model, element: u32) -> &[u8]
-    ensures { result.now ≡ slice_index_or (element_names (lists_of m.now)) element [] }
+fn element_name(model: &Model, element: u32) -> &[u8]
+    ensures { result.now ≡ slice_index_or (element_names (lists_of model.now)) element [] }
 {
-    match m.elements.as_slice().get(element as usize) {
+    match model.elements.as_slice().get(element as usize) {
         None => b"",
         Some(e) => e.name.as_slice(),
     }
 }
 
-fn is_true(a: &Assignment, element: u32) -> bool
-    ensures { result ≡ costs.is_true a.now element }
+fn is_true(assignment: &Assignment, element: u32) -> bool
+    ensures { result ≡ costs.is_true assignment.now element }
 {
-    truth_at(a.elements.as_slice(), element)
+    truth_at(assignment.elements.as_slice(), element)
 }
 
-fn earlier_truth(m: &Model, e: &Earlier, element: u32) -> Option<bool>
-    ensures { result ≡ costs.earlier_truth (lists_of m.now) e.now.pairs element }
+fn earlier_truth(model: &Model, earlier: &Earlier, element: u32) -> Option<bool>
+    ensures { result ≡ costs.earlier_truth (lists_of model.now) earlier.now.pairs element }
 {
-    e.truth_of(element_name(m, element))
+    earlier.truth_of(element_name(model, element))
 }
 
 fn differs(earlier: Option<bool>, truth: bool) -> bool
@@ -52,10 +52,10 @@ fn differs(earlier: Option<bool>, truth: bool) -> bool
     }
 }
 
-fn is_changed(m: &Model, e: &Earlier, a: &Assignment, element: u32) -> bool
-    ensures { result ≡ costs.is_changed (lists_of m.now) e.now.pairs a.now element }
+fn is_changed(model: &Model, earlier: &Earlier, assignment: &Assignment, element: u32) -> bool
+    ensures { result ≡ costs.is_changed (lists_of model.now) earlier.now.pairs assignment.now element }
 {
-    differs(earlier_truth(m, e, element), is_true(a, element))
+    differs(earlier_truth(model, earlier, element), is_true(assignment, element))
 }
 
 fn was_true(earlier: Option<bool>) -> bool
@@ -67,82 +67,82 @@ fn was_true(earlier: Option<bool>) -> bool
     }
 }
 
-fn is_new_work(m: &Model, e: &Earlier, a: &Assignment, element: u32) -> bool
-    ensures { result ≡ costs.is_new_work (lists_of m.now) e.now.pairs a.now element }
+fn is_new_work(model: &Model, earlier: &Earlier, assignment: &Assignment, element: u32) -> bool
+    ensures { result ≡ costs.is_new_work (lists_of model.now) earlier.now.pairs assignment.now element }
 {
-    m.is_leaf_task(element) && is_true(a, element) && !was_true(earlier_truth(m, e, element))
+    model.is_leaf_task(element) && is_true(assignment, element) && !was_true(earlier_truth(model, earlier, element))
 }
 
 /// The elements on interest lines.
-fn interests(m: &Model) -> &[u32]
-    ensures items { result.now ≡ m.now.interests }
+fn interests(model: &Model) -> &[u32]
+    ensures items { result.now ≡ model.now.interests }
     ensures few { length result.now ≤ limit_number limits.Statements }
 {
-    m.interests.as_slice()
+    model.interests.as_slice()
 }
 
 /// How many of these elements changed.
-fn changed_among(m: &Model, e: &Earlier, a: &Assignment, elements: &[u32]) -> usize
-    ensures { result ≡ count_by (costs.is_changed (lists_of m.now) e.now.pairs a.now) elements.now }
+fn changed_among(model: &Model, earlier: &Earlier, assignment: &Assignment, elements: &[u32]) -> usize
+    ensures { result ≡ count_by (costs.is_changed (lists_of model.now) earlier.now.pairs assignment.now) elements.now }
 {
     elements
         .iter()
-        .filter(|element| is_changed(m, e, a, **element))
+        .filter(|element| is_changed(model, earlier, assignment, **element))
         .count()
 }
 
 /// How many leaf tasks changed.
-fn changed_leaf_tasks(m: &Model, e: &Earlier, a: &Assignment) -> usize
-    ensures { result ≡ count_by (costs.is_changed (lists_of m.now) e.now.pairs a.now) (leaf_tasks (lists_of m.now)) }
+fn changed_leaf_tasks(model: &Model, earlier: &Earlier, assignment: &Assignment) -> usize
+    ensures { result ≡ count_by (costs.is_changed (lists_of model.now) earlier.now.pairs assignment.now) (leaf_tasks (lists_of model.now)) }
 {
-    (0..element_count(m))
-        .filter(|element| m.is_leaf_task(*element))
-        .filter(|element| is_changed(m, e, a, *element))
+    (0..element_count(model))
+        .filter(|element| model.is_leaf_task(*element))
+        .filter(|element| is_changed(model, earlier, assignment, *element))
         .count()
 }
 
 /// How many elements of interest changed.
-fn changed(m: &Model, e: &Earlier, a: &Assignment) -> usize
-    ensures count { result ≡ costs.familiarity (lists_of m.now) e.now.pairs a.now }
+fn changed(model: &Model, earlier: &Earlier, assignment: &Assignment) -> usize
+    ensures count { result ≡ costs.familiarity (lists_of model.now) earlier.now.pairs assignment.now }
     ensures few { result ≤ limit_number limits.Statements }
 {
-    let interests = interests(m);
+    let interests = interests(model);
     if interests.is_empty() {
-        return changed_leaf_tasks(m, e, a);
+        return changed_leaf_tasks(model, earlier, assignment);
     }
-    changed_among(m, e, a, interests)
+    changed_among(model, earlier, assignment, interests)
 }
 
 /// How many of these elements are new work.
-fn new_work_among(m: &Model, e: &Earlier, a: &Assignment, elements: &[u32]) -> usize
-    ensures { result ≡ count_by (costs.is_new_work (lists_of m.now) e.now.pairs a.now) elements.now }
+fn new_work_among(model: &Model, earlier: &Earlier, assignment: &Assignment, elements: &[u32]) -> usize
+    ensures { result ≡ count_by (costs.is_new_work (lists_of model.now) earlier.now.pairs assignment.now) elements.now }
 {
     elements
         .iter()
-        .filter(|element| is_new_work(m, e, a, **element))
+        .filter(|element| is_new_work(model, earlier, assignment, **element))
         .count()
 }
 
 /// How many leaf tasks are new work.
-fn new_work_of_leaf_tasks(m: &Model, e: &Earlier, a: &Assignment) -> usize
-    ensures { result ≡ count_by (costs.is_new_work (lists_of m.now) e.now.pairs a.now) (leaf_tasks (lists_of m.now)) }
+fn new_work_of_leaf_tasks(model: &Model, earlier: &Earlier, assignment: &Assignment) -> usize
+    ensures { result ≡ count_by (costs.is_new_work (lists_of model.now) earlier.now.pairs assignment.now) (leaf_tasks (lists_of model.now)) }
 {
-    (0..element_count(m))
-        .filter(|element| m.is_leaf_task(*element))
-        .filter(|element| is_new_work(m, e, a, *element))
+    (0..element_count(model))
+        .filter(|element| model.is_leaf_task(*element))
+        .filter(|element| is_new_work(model, earlier, assignment, *element))
         .count()
 }
 
 /// How many elements of interest are new work.
-fn new_work(m: &Model, e: &Earlier, a: &Assignment) -> usize
-    ensures count { result ≡ costs.effort (lists_of m.now) e.now.pairs a.now }
+fn new_work(model: &Model, earlier: &Earlier, assignment: &Assignment) -> usize
+    ensures count { result ≡ costs.effort (lists_of model.now) earlier.now.pairs assignment.now }
     ensures few { result ≤ limit_number limits.Statements }
 {
-    let interests = interests(m);
+    let interests = interests(model);
     if interests.is_empty() {
-        return new_work_of_leaf_tasks(m, e, a);
+        return new_work_of_leaf_tasks(model, earlier, assignment);
     }
-    new_work_among(m, e, a, interests)
+    new_work_among(model, earlier, assignment, interests)
 }
 
 fn number(count: usize) -> i64
@@ -154,18 +154,18 @@ fn number(count: usize) -> i64
 
 /// The familiarity of an assignment that fits: how many elements of interest have another truth than
 /// the earlier one, or aren't known there and are true. It takes no memory.
-pub fn familiarity(m: &Model, e: &Earlier, a: &Assignment) -> i64
-    requires { Fits (lists_of m.now) a.now }
-    ensures { result ≡ pos (costs.familiarity (lists_of m.now) e.now.pairs a.now) }
+pub fn familiarity(model: &Model, earlier: &Earlier, assignment: &Assignment) -> i64
+    requires { Fits (lists_of model.now) assignment.now }
+    ensures { result ≡ pos (costs.familiarity (lists_of model.now) earlier.now.pairs assignment.now) }
 {
-    number(changed(m, e, a))
+    number(changed(model, earlier, assignment))
 }
 
 /// The effort of an assignment that fits: how many elements of interest are leaf tasks that are true,
 /// and were false or aren't known in the earlier realization. It takes no memory.
-pub fn effort(m: &Model, e: &Earlier, a: &Assignment) -> i64
-    requires { Fits (lists_of m.now) a.now }
-    ensures { result ≡ pos (costs.effort (lists_of m.now) e.now.pairs a.now) }
+pub fn effort(model: &Model, earlier: &Earlier, assignment: &Assignment) -> i64
+    requires { Fits (lists_of model.now) assignment.now }
+    ensures { result ≡ pos (costs.effort (lists_of model.now) earlier.now.pairs assignment.now) }
 {
-    number(new_work(m, e, a))
+    number(new_work(model, earlier, assignment))
 }

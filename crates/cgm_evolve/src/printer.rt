@@ -19,11 +19,11 @@ fn print_pair(out: &mut Vec<u8>, name: &[u8], truth: bool) -> Result<(), OutOfMe
 }
 
 /// The canonical text of an earlier realization: the header, then a line for each pair, in order.
-pub fn print_earlier(alloc: Global, e: &Earlier) -> Result<Vec<u8>, OutOfMemory>
-    ensures { IfOk result (λ bytes. bytes.items ≡ canonical_text e.now.pairs) }
+pub fn print_earlier(alloc: Global, earlier: &Earlier) -> Result<Vec<u8>, OutOfMemory>
+    ensures { IfOk result (λ bytes. bytes.items ≡ canonical_text earlier.now.pairs) }
 {
     let mut out = Vec::from_slice(alloc, b"earlier 1\n")?;
-    for pair in e.pairs.as_slice() {
+    for pair in earlier.pairs.as_slice() {
         print_pair(&mut out, pair.0.as_slice(), pair.1)?;
     }
     Ok(out)

@@ -12,38 +12,38 @@ use crate::formula::{Formula, Linear, Number, Truth};
 /// number that has no value there reads as false or 0. Condition: in each linear expression the
 /// sizes of the terms' values add up to less than 2^127. It takes no memory.
 #[cycle(holds)]
-pub fn holds(formula: &Formula, a: &Assignment, sums: &[i64]) -> bool
-    requires { AreSmallIn (number_in a.now sums.now) formula.now }
-    ensures { result ≡ truth (name_in a.now) (number_in a.now sums.now) formula.now }
+pub fn holds(formula: &Formula, assignment: &Assignment, sums: &[i64]) -> bool
+    requires { AreSmallIn (number_in assignment.now sums.now) formula.now }
+    ensures { result ≡ truth (name_in assignment.now) (number_in assignment.now sums.now) formula.now }
 {
     match formula {
-        Formula::Name(name) => is_true(a, *name),
-        Formula::Not(part) => !holds(part.get(), a, sums),
-        Formula::And(parts) => all_hold(parts.as_slice(), a, sums),
-        Formula::Or(parts) => some_holds(parts.as_slice(), a, sums),
+        Formula::Name(name) => is_true(assignment, *name),
+        Formula::Not(part) => !holds(part.get(), assignment, sums),
+        Formula::And(parts) => all_hold(parts.as_slice(), assignment, sums),
+        Formula::Or(parts) => some_holds(parts.as_slice(), assignment, sums),
         Formula::Implies(premise, conclusion) => {
-            let premise = holds(premise.get(), a, sums);
-            let conclusion = holds(conclusion.get(), a, sums);
+            let premise = holds(premise.get(), assignment, sums);
+            let conclusion = holds(conclusion.get(), assignment, sums);
             !premise || conclusion
         }
         Formula::Iff(one, other) => {
-            let one = holds(one.get(), a, sums);
-            let other = holds(other.get(), a, sums);
+            let one = holds(one.get(), assignment, sums);
+            let other = holds(other.get(), assignment, sums);
             one == other
         }
-        Formula::AtMost(linear, k) => is_at_most(value(linear, a, sums), *k),
-        Formula::AtLeast(linear, k) => is_at_least(value(linear, a, sums), *k),
-        Formula::Equal(linear, k) => is_equal(value(linear, a, sums), *k),
+        Formula::AtMost(linear, k) => is_at_most(value(linear, assignment, sums), *k),
+        Formula::AtLeast(linear, k) => is_at_least(value(linear, assignment, sums), *k),
+        Formula::Equal(linear, k) => is_equal(value(linear, assignment, sums), *k),
     }
 }
 
 #[cycle(holds)]
-fn all_hold(parts: &[Formula], a: &Assignment, sums: &[i64]) -> bool
-    requires { All (AreSmallIn (number_in a.now sums.now)) parts.now }
-    ensures { result ≡ list_all (truth (name_in a.now) (number_in a.now sums.now)) parts.now }
+fn all_hold(parts: &[Formula], assignment: &Assignment, sums: &[i64]) -> bool
+    requires { All (AreSmallIn (number_in assignment.now sums.now)) parts.now }
+    ensures { result ≡ list_all (truth (name_in assignment.now) (number_in assignment.now sums.now)) parts.now }
 {
     for part in parts {
-        if !holds(part, a, sums) {
+        if !holds(part, assignment, sums) {
             return false;
         }
     }
@@ -51,12 +51,12 @@ fn all_hold(parts: &[Formula], a: &Assignment, sums: &[i64]) -> bool
 }
 
 #[cycle(holds)]
-fn some_holds(parts: &[Formula], a: &Assignment, sums: &[i64]) -> bool
-    requires { All (AreSmallIn (number_in a.now sums.now)) parts.now }
-    ensures { result ≡ list_any (truth (name_in a.now) (number_in a.now sums.now)) parts.now }
+fn some_holds(parts: &[Formula], assignment: &Assignment, sums: &[i64]) -> bool
+    requires { All (AreSmallIn (number_in assignment.now sums.now)) parts.now }
+    ensures { result ≡ list_any (truth (name_in assignment.now) (number_in assignment.now sums.now)) parts.now }
 {
     for part in parts {
-        if holds(part, a, sums) {
+        if holds(part, assignment, sums) {
             return true;
         }
     }
@@ -84,30 +84,30 @@ fn is_equal(value: i128, k: i64) -> bool
 /// Answers the value of the linear expression under the assignment and the values of the sums.
 /// A number that has no value there reads as 0. Condition: the sizes of the terms' values add up
 /// to less than 2^127. It takes no memory.
-pub fn value(linear: &Linear, a: &Assignment, sums: &[i64]) -> i128
-    requires { IsSmall (number_in a.now sums.now) linear.now }
-    ensures { result ≡ linear_value (number_in a.now sums.now) linear.now }
+pub fn value(linear: &Linear, assignment: &Assignment, sums: &[i64]) -> i128
+    requires { IsSmall (number_in assignment.now sums.now) linear.now }
+    ensures { result ≡ linear_value (number_in assignment.now sums.now) linear.now }
 {
-    terms_value(linear.terms.as_slice(), a, sums)
+    terms_value(linear.terms.as_slice(), assignment, sums)
 }
 
-fn terms_value(terms: &[(i64, Number)], a: &Assignment, sums: &[i64]) -> i128
-    requires { size (number_in a.now sums.now) terms.now < 2 ^ 127 }
-    ensures { result ≡ total (number_in a.now sums.now) terms.now }
+fn terms_value(terms: &[(i64, Number)], assignment: &Assignment, sums: &[i64]) -> i128
+    requires { size (number_in assignment.now sums.now) terms.now < 2 ^ 127 }
+    ensures { result ≡ total (number_in assignment.now sums.now) terms.now }
 {
     let mut so_far = 0;
     for term in terms {
-        so_far = sum(so_far, term_value(term, a, sums));
+        so_far = sum(so_far, term_value(term, assignment, sums));
     }
     so_far
 }
 
-fn term_value(term: &(i64, Number), a: &Assignment, sums: &[i64]) -> i128
-    requires { unsigned_abs term.now.0 * unsigned_abs (number_in a.now sums.now term.now.1) < 2 ^ 127 }
-    ensures value { result ≡ term.now.0 *ℤ number_in a.now sums.now term.now.1 }
-    ensures size { unsigned_abs result ≡ unsigned_abs term.now.0 * unsigned_abs (number_in a.now sums.now term.now.1) }
+fn term_value(term: &(i64, Number), assignment: &Assignment, sums: &[i64]) -> i128
+    requires { unsigned_abs term.now.0 * unsigned_abs (number_in assignment.now sums.now term.now.1) < 2 ^ 127 }
+    ensures value { result ≡ term.now.0 *ℤ number_in assignment.now sums.now term.now.1 }
+    ensures size { unsigned_abs result ≡ unsigned_abs term.now.0 * unsigned_abs (number_in assignment.now sums.now term.now.1) }
 {
-    product(i128::from(term.0), i128::from(number(a, sums, term.1)))
+    product(i128::from(term.0), i128::from(number(assignment, sums, term.1)))
 }
 
 fn product(x: i128, y: i128) -> i128
@@ -126,20 +126,20 @@ fn sum(x: i128, y: i128) -> i128
 }
 
 /// Says whether the element or refinement is true; one without a value is false.
-pub fn is_true(a: &Assignment, name: Truth) -> bool
-    ensures { result ≡ name_in a.now name }
+pub fn is_true(assignment: &Assignment, name: Truth) -> bool
+    ensures { result ≡ name_in assignment.now name }
 {
     match name {
-        Truth::Element(number) => truth_at(a.elements.as_slice(), number),
-        Truth::Refinement(number) => truth_at(a.refinements.as_slice(), number),
+        Truth::Element(number) => truth_at(assignment.elements.as_slice(), number),
+        Truth::Refinement(number) => truth_at(assignment.refinements.as_slice(), number),
     }
 }
 
-fn number(a: &Assignment, sums: &[i64], of: Number) -> i64
-    ensures { result ≡ number_in a.now sums.now of }
+fn number(assignment: &Assignment, sums: &[i64], of: Number) -> i64
+    ensures { result ≡ number_in assignment.now sums.now of }
 {
     match of {
-        Number::Var(number) => number_at(a.vars.as_slice(), number),
+        Number::Var(number) => number_at(assignment.vars.as_slice(), number),
         Number::Sum(number) => number_at(sums, number),
     }
 }

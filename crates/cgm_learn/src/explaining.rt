@@ -16,29 +16,29 @@ use cgm_step::Named;
 use std::alloc::Global;
 
 /// Adds an atom that is true in the box to the needed bounds.
-pub(crate) fn need_atom(a: Atom, work: &BoxState, need: &mut BoxState)
-    requires known { a.var.0 < length work.now.lower }
+pub(crate) fn need_atom(atom: Atom, work: &BoxState, need: &mut BoxState)
+    requires known { atom.var.0 < length work.now.lower }
     requires proper { IsProper work.now }
-    requires met { is_true_in work.now a ≡ true }
+    requires met { is_true_in work.now atom ≡ true }
     requires inside { IsSmaller work.now need.old }
-    ensures after { need.new ≡ made_true need.old a }
+    ensures after { need.new ≡ made_true need.old atom }
     ensures explained { IsExplainedIn work.now need.old need.new }
 {
-    need.assume(a);
+    need.assume(atom);
 }
 
 /// Adds the negation of an atom where the atom is false in the box.
-fn need_false(a: Atom, work: &BoxState, need: &mut BoxState)
-    requires known { a.var.0 < length work.now.lower }
+fn need_false(atom: Atom, work: &BoxState, need: &mut BoxState)
+    requires known { atom.var.0 < length work.now.lower }
     requires proper { IsProper work.now }
     requires inside { IsSmaller work.now need.old }
-    ensures falsified { is_false_in work.now a ≡ true → is_false_in need.new a ≡ true }
+    ensures falsified { is_false_in work.now atom ≡ true → is_false_in need.new atom ≡ true }
     ensures explained { IsExplainedIn work.now need.old need.new }
 {
-    if !is_false(work, a) {
+    if !is_false(work, atom) {
         return;
     }
-    match negated(work, a) {
+    match negated(work, atom) {
         None => {}
         Some(opposite) => need_atom(opposite, work, need),
     }
@@ -86,7 +86,7 @@ pub(crate) fn explain_atom(
     alloc: Global,
     problem: &Problem,
     by: Named<'_>,
-    a: Atom,
+    atom: Atom,
     work: &BoxState,
     need: &mut BoxState,
 ) -> Result<(), OutOfMemory>
@@ -94,10 +94,10 @@ pub(crate) fn explain_atom(
     requires work_limits { IsBoxOf problem.now.bounds work.now }
     requires need_limits { IsBoxOf problem.now.bounds need.old }
     requires inside { IsSmaller work.now need.old }
-    requires undecided { IsOpenIn work.now a }
-    requires size { IsBound a.k }
-    requires given { HasGiven a (left_by work.now (constraint_of by)) }
-    ensures led { OnOk result (IsLedTo need.new (constraint_of by.entry) a) }
+    requires undecided { IsOpenIn work.now atom }
+    requires size { IsBound atom.k }
+    requires given { HasGiven atom (left_by work.now (constraint_of by)) }
+    ensures led { OnOk result (IsLedTo need.new (constraint_of by.entry) atom) }
     ensures explained { OnOk result (IsExplained problem.now.bounds work.now need.old need.new) }
 {
     problem.recall_well_formed();
@@ -106,6 +106,6 @@ pub(crate) fn explain_atom(
             explain_clause(atoms, work, need);
             Ok(())
         }
-        Named::Row(row) => explain_row_atom(alloc, row, a, work, need),
+        Named::Row(row) => explain_row_atom(alloc, row, atom, work, need),
     }
 }

@@ -24,22 +24,22 @@ impl Used {
     }
 
     /// Adds a hint that carries this much.
-    pub(crate) fn add(&mut self, h: Hint, carried: u64) -> Result<(), OutOfMemory>
-        ensures hints { OnOk result (self.new.hints.items ≡ self.old.hints.items ++ h ∷ []) }
+    pub(crate) fn add(&mut self, hint: Hint, carried: u64) -> Result<(), OutOfMemory>
+        ensures hints { OnOk result (self.new.hints.items ≡ self.old.hints.items ++ hint ∷ []) }
         ensures bound { OnOk result (self.new.bound ≡ max carried self.old.bound) }
         ensures fits { OnOk result (self.new.bound < 2 ^ 64) }
     {
-        self.hints.push(h)?;
+        self.hints.push(hint)?;
         self.bound = carried.max(self.bound);
         Ok(())
     }
 }
 
 /// The numbers of a hint fit their types.
-pub(crate) fn recall_range(h: Hint)
-    ensures { IsHintInRange h }
+pub(crate) fn recall_range(hint: Hint)
+    ensures { IsHintInRange hint }
 {
-    match h {
+    match hint {
         Hint::Clause(_) => {}
         Hint::Row(_) => {}
         Hint::Entry(_) => {}

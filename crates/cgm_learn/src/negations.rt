@@ -12,86 +12,86 @@ use cgm_atom::{Atom, BoxState, OutOfMemory, Problem, Var};
 use std::alloc::Global;
 
 /// The negation of an atom whose number is within the limit of a bound.
-pub(crate) fn opposite(a: Atom) -> Atom
-    requires { IsBound a.k }
-    ensures negation { result ≡ negation a }
+pub(crate) fn opposite(atom: Atom) -> Atom
+    requires { IsBound atom.k }
+    ensures negation { result ≡ negation atom }
     ensures range { IsAtomInRange result }
 {
     Atom {
-        var: a.var,
-        at_least: !a.at_least,
-        k: if a.at_least { a.k - 1 } else { a.k + 1 },
+        var: atom.var,
+        at_least: !atom.at_least,
+        k: if atom.at_least { atom.k - 1 } else { atom.k + 1 },
     }
 }
 
 /// Whether a box has a greater least value of a variable than the problem.
-fn is_raised(p: &Problem, rest: &BoxState, v: Var) -> bool
-    requires known { v.0 < var_count p.now }
-    requires limits { IsBoxOf p.now.bounds rest.now }
-    ensures { result ≡ int_lt (lower_of p.now.bounds v.0) (lower_of rest.now v.0) }
+fn is_raised(problem: &Problem, rest: &BoxState, variable: Var) -> bool
+    requires known { variable.0 < var_count problem.now }
+    requires limits { IsBoxOf problem.now.bounds rest.now }
+    ensures { result ≡ int_lt (lower_of problem.now.bounds variable.0) (lower_of rest.now variable.0) }
 {
-    let (lo, _) = p.bounds(v);
-    lo < rest.lo(v)
+    let (lo, _) = problem.bounds(variable);
+    lo < rest.lo(variable)
 }
 
 /// Whether a box has a lesser greatest value of a variable than the problem.
-fn is_reduced(p: &Problem, rest: &BoxState, v: Var) -> bool
-    requires known { v.0 < var_count p.now }
-    requires limits { IsBoxOf p.now.bounds rest.now }
-    ensures { result ≡ int_lt (upper_of rest.now v.0) (upper_of p.now.bounds v.0) }
+fn is_reduced(problem: &Problem, rest: &BoxState, variable: Var) -> bool
+    requires known { variable.0 < var_count problem.now }
+    requires limits { IsBoxOf problem.now.bounds rest.now }
+    ensures { result ≡ int_lt (upper_of rest.now variable.0) (upper_of problem.now.bounds variable.0) }
 {
-    let (_, hi) = p.bounds(v);
-    rest.hi(v) < hi
+    let (_, hi) = problem.bounds(variable);
+    rest.hi(variable) < hi
 }
 
 /// The atom that a variable is below its least value.
-fn below(rest: &BoxState, v: Var) -> Atom
-    requires known { v.0 < length rest.now.lower }
-    requires size { IsBound (lower_of rest.now v.0) }
-    ensures { result ≡ record { var = v; at_least = false; k = lower_of rest.now v.0 -ℤ pos 1 } }
+fn below(rest: &BoxState, variable: Var) -> Atom
+    requires known { variable.0 < length rest.now.lower }
+    requires size { IsBound (lower_of rest.now variable.0) }
+    ensures { result ≡ record { var = variable; at_least = false; k = lower_of rest.now variable.0 -ℤ pos 1 } }
 {
     Atom {
-        var: v,
+        var: variable,
         at_least: false,
-        k: rest.lo(v) - 1,
+        k: rest.lo(variable) - 1,
     }
 }
 
 /// The atom that a variable is above its greatest value.
-fn above(rest: &BoxState, v: Var) -> Atom
-    requires known { v.0 < length rest.now.lower }
-    requires size { IsBound (upper_of rest.now v.0) }
-    ensures { result ≡ record { var = v; at_least = true; k = upper_of rest.now v.0 +ℤ pos 1 } }
+fn above(rest: &BoxState, variable: Var) -> Atom
+    requires known { variable.0 < length rest.now.lower }
+    requires size { IsBound (upper_of rest.now variable.0) }
+    ensures { result ≡ record { var = variable; at_least = true; k = upper_of rest.now variable.0 +ℤ pos 1 } }
 {
     Atom {
-        var: v,
+        var: variable,
         at_least: true,
-        k: rest.hi(v) + 1,
+        k: rest.hi(variable) + 1,
     }
 }
 
-fn add_lower(p: &Problem, rest: &BoxState, v: Var, atoms: &mut Vec<Atom>) -> Result<(), OutOfMemory>
-    requires known { v.0 < var_count p.now }
-    requires limits { IsBoxOf p.now.bounds rest.now }
+fn add_lower(problem: &Problem, rest: &BoxState, variable: Var, atoms: &mut Vec<Atom>) -> Result<(), OutOfMemory>
+    requires known { variable.0 < var_count problem.now }
+    requires limits { IsBoxOf problem.now.bounds rest.now }
     requires sizes { AreBounds rest.now }
     ensures { OnOk result
-        (atoms.new.items ≡ atoms.old.items ++ lower_negation p.now.bounds rest.now v.0) }
+        (atoms.new.items ≡ atoms.old.items ++ lower_negation problem.now.bounds rest.now variable.0) }
 {
-    if is_raised(p, rest, v) {
-        atoms.push(below(rest, v))?;
+    if is_raised(problem, rest, variable) {
+        atoms.push(below(rest, variable))?;
     }
     Ok(())
 }
 
-fn add_upper(p: &Problem, rest: &BoxState, v: Var, atoms: &mut Vec<Atom>) -> Result<(), OutOfMemory>
-    requires known { v.0 < var_count p.now }
-    requires limits { IsBoxOf p.now.bounds rest.now }
+fn add_upper(problem: &Problem, rest: &BoxState, variable: Var, atoms: &mut Vec<Atom>) -> Result<(), OutOfMemory>
+    requires known { variable.0 < var_count problem.now }
+    requires limits { IsBoxOf problem.now.bounds rest.now }
     requires sizes { AreBounds rest.now }
     ensures { OnOk result
-        (atoms.new.items ≡ atoms.old.items ++ upper_negation p.now.bounds rest.now v.0) }
+        (atoms.new.items ≡ atoms.old.items ++ upper_negation problem.now.bounds rest.now variable.0) }
 {
-    if is_reduced(p, rest, v) {
-        atoms.push(above(rest, v))?;
+    if is_reduced(problem, rest, variable) {
+        atoms.push(above(rest, variable))?;
     }
     Ok(())
 }
@@ -99,18 +99,18 @@ fn add_upper(p: &Problem, rest: &BoxState, v: Var, atoms: &mut Vec<Atom>) -> Res
 /// Atoms that are all false exactly in the boxes of the problem that lie in the rest.
 pub(crate) fn negations(
     alloc: Global,
-    p: &Problem,
+    problem: &Problem,
     rest: &BoxState,
 ) -> Result<Vec<Atom>, OutOfMemory>
-    requires { IsBoxOf p.now.bounds rest.now }
+    requires { IsBoxOf problem.now.bounds rest.now }
     ensures { IfOk result
-        (λ atoms. AreNegations p.now.bounds rest.now (var_count p.now) atoms.items) }
+        (λ atoms. AreNegations problem.now.bounds rest.now (var_count problem.now) atoms.items) }
 {
-    p.recall_well_formed();
+    problem.recall_well_formed();
     let mut atoms = Vec::new(alloc);
-    for v in 0..p.vars() {
-        add_lower(p, rest, Var(v), &mut atoms)?;
-        add_upper(p, rest, Var(v), &mut atoms)?;
+    for v in 0..problem.vars() {
+        add_lower(problem, rest, Var(v), &mut atoms)?;
+        add_upper(problem, rest, Var(v), &mut atoms)?;
     }
     Ok(atoms)
 }

@@ -19,14 +19,14 @@ pub(crate) struct Place {
 
 impl Place {
     /// The place after all changes.
-    pub(crate) fn last(alloc: Global, t: &Trail) -> Result<Place, OutOfMemory>
-        ensures place { IfOk result (λ w. IsPlaceOf t.now w) }
-        ensures at { IfOk result (λ w. w.at ≡ length t.now.changes) }
+    pub(crate) fn last(alloc: Global, trail: &Trail) -> Result<Place, OutOfMemory>
+        ensures place { IfOk result (λ w. IsPlaceOf trail.now w) }
+        ensures at { IfOk result (λ w. w.at ≡ length trail.now.changes) }
     {
         Ok(Place {
-            at: t.changes(),
-            level: t.level(),
-            state: t.state().copy(alloc)?,
+            at: trail.changes(),
+            level: trail.level(),
+            state: trail.state().copy(alloc)?,
         })
     }
 
@@ -41,16 +41,16 @@ impl Place {
     }
 
     /// Takes the last change back.
-    pub(crate) fn back(&mut self, t: &Trail) -> Change
-        requires place { IsPlaceOf t.now self.old }
+    pub(crate) fn back(&mut self, trail: &Trail) -> Change
+        requires place { IsPlaceOf trail.now self.old }
         requires left { 0 < self.old.at }
-        ensures place { IsPlaceOf t.now self.new }
+        ensures place { IsPlaceOf trail.now self.new }
         ensures at { self.new.at + 1 ≡ self.old.at }
-        ensures change { slice_get t.now.changes self.new.at ≡ Some result }
+        ensures change { slice_get trail.now.changes self.new.at ≡ Some result }
     {
-        t.recall_trail();
+        trail.recall_trail();
         self.at -= 1;
-        let change = *t.change(self.at);
+        let change = *trail.change(self.at);
         self.state.relax(change.earlier());
         if is_decision(change) {
             self.level -= 1;
@@ -81,13 +81,13 @@ pub(crate) fn is_met_before(need: &BoxState, change: Change) -> bool
 }
 
 /// The place before the last decision, or the first place where there is none.
-pub(crate) fn before_level(alloc: Global, t: &Trail, from: &Place) -> Result<Place, OutOfMemory>
-    requires { IsPlaceOf t.now from.now }
-    ensures { IfOk result (λ w. IsPlaceOf t.now w) }
+pub(crate) fn before_level(alloc: Global, trail: &Trail, from: &Place) -> Result<Place, OutOfMemory>
+    requires { IsPlaceOf trail.now from.now }
+    ensures { IfOk result (λ w. IsPlaceOf trail.now w) }
 {
     let mut place = from.copy(alloc)?;
     while place.at > 0 {
-        let change = place.back(t);
+        let change = place.back(trail);
         if is_decision(change) {
             return Ok(place);
         }
@@ -96,30 +96,30 @@ pub(crate) fn before_level(alloc: Global, t: &Trail, from: &Place) -> Result<Pla
 }
 
 /// Whether the change after a place is a decision.
-pub(crate) fn is_before_decision(t: &Trail, at: u64) -> bool
-    ensures { IsTrue result → IsDecisionAt t.now at }
+pub(crate) fn is_before_decision(trail: &Trail, at: u64) -> bool
+    ensures { IsTrue result → IsDecisionAt trail.now at }
 {
-    if at >= t.changes() {
+    if at >= trail.changes() {
         return false;
     }
-    is_decision(*t.change(at))
+    is_decision(*trail.change(at))
 }
 
 /// Goes back as long as the box lies in the rest.
-pub(crate) fn go_back_within(t: &Trail, place: &mut Place, rest: &BoxState)
-    requires place { IsPlaceOf t.now place.old }
+pub(crate) fn go_back_within(trail: &Trail, place: &mut Place, rest: &BoxState)
+    requires place { IsPlaceOf trail.now place.old }
     requires inside { IsSmaller place.old.state rest.now }
-    ensures place { IsPlaceOf t.now place.new }
+    ensures place { IsPlaceOf trail.now place.new }
     ensures earlier { place.new.at ≤ place.old.at }
     ensures inside { IsSmaller place.new.state rest.now }
 {
-    t.recall_trail();
+    trail.recall_trail();
     while place.at > 0 {
-        let change = *t.change(place.at - 1);
+        let change = *trail.change(place.at - 1);
         if !is_met_before(rest, change) {
             return;
         }
-        place.back(t);
+        place.back(trail);
     }
 }
 
@@ -139,15 +139,15 @@ pub(crate) fn is_inside(inner: &BoxState, outer: &BoxState, vars: u32) -> bool
     true
 }
 
-fn is_inside_at(inner: &BoxState, outer: &BoxState, v: Var) -> bool
-    requires inner { v.0 < length inner.now.lower }
-    requires outer { v.0 < length outer.now.lower }
-    ensures inside { IsTrue result → IsInsideAt inner.now outer.now v.0 }
+fn is_inside_at(inner: &BoxState, outer: &BoxState, variable: Var) -> bool
+    requires inner { variable.0 < length inner.now.lower }
+    requires outer { variable.0 < length outer.now.lower }
+    ensures inside { IsTrue result → IsInsideAt inner.now outer.now variable.0 }
     ensures inner_proper { IsProper inner.now }
     ensures outer_proper { IsProper outer.now }
 {
-    if inner.lo(v) < outer.lo(v) {
+    if inner.lo(variable) < outer.lo(variable) {
         return false;
     }
-    inner.hi(v) <= outer.hi(v)
+    inner.hi(variable) <= outer.hi(variable)
 }

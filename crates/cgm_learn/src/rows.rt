@@ -16,15 +16,15 @@ use cgm_atom::{Atom, BoxState, OutOfMemory, Row, Var, greatest_activity};
 use std::alloc::Global;
 
 /// The bound of a variable that the greatest value of its term reads.
-fn far_bound(b: &BoxState, term: &(i64, Var)) -> i64
-    requires known { term.now.1.0 < length b.now.lower }
-    ensures value { result ≡ far_bound_in b.now term.now }
-    ensures size { AreBounds b.now → IsBound result }
+fn far_bound(bounds: &BoxState, term: &(i64, Var)) -> i64
+    requires known { term.now.1.0 < length bounds.now.lower }
+    ensures value { result ≡ far_bound_in bounds.now term.now }
+    ensures size { AreBounds bounds.now → IsBound result }
 {
     if term.0 < 0 {
-        b.lo(term.1)
+        bounds.lo(term.1)
     } else {
-        b.hi(term.1)
+        bounds.hi(term.1)
     }
 }
 
@@ -52,25 +52,25 @@ fn affordable(slack: u64, size: u64, most: u64) -> u64
     (slack / size).min(most)
 }
 
-fn at_least_moved(v: Var, bound: i64, by: u64) -> Atom
+fn at_least_moved(variable: Var, bound: i64, by: u64) -> Atom
     requires bound { IsBound bound }
     requires by { by ≤ 2 * max_bound }
-    ensures { result ≡ record { var = v; at_least = true; k = bound -ℤ pos by } }
+    ensures { result ≡ record { var = variable; at_least = true; k = bound -ℤ pos by } }
 {
     Atom {
-        var: v,
+        var: variable,
         at_least: true,
         k: bound - by as i64,
     }
 }
 
-fn at_most_moved(v: Var, bound: i64, by: u64) -> Atom
+fn at_most_moved(variable: Var, bound: i64, by: u64) -> Atom
     requires bound { IsBound bound }
     requires by { by ≤ 2 * max_bound }
-    ensures { result ≡ record { var = v; at_least = false; k = bound +ℤ pos by } }
+    ensures { result ≡ record { var = variable; at_least = false; k = bound +ℤ pos by } }
 {
     Atom {
-        var: v,
+        var: variable,
         at_least: false,
         k: bound + by as i64,
     }
@@ -126,18 +126,18 @@ fn explain_term(work: &BoxState, need: &mut BoxState, term: &(i64, Var), slack: 
     slack - by * size
 }
 
-fn is_same_side(term: &(i64, Var), a: Atom) -> bool
-    ensures { result ≡ cond (int_lt term.now.0 (pos 0)) a.at_least (not a.at_least) }
+fn is_same_side(term: &(i64, Var), atom: Atom) -> bool
+    ensures { result ≡ cond (int_lt term.now.0 (pos 0)) atom.at_least (not atom.at_least) }
 {
-    if term.0 < 0 { a.at_least } else { !a.at_least }
+    if term.0 < 0 { atom.at_least } else { !atom.at_least }
 }
 
 /// Whether an atom speaks of the bound that the greatest value of a term reads.
-fn is_far_of(term: &(i64, Var), a: Atom) -> bool
-    ensures { result ≡ is_far_atom term.now a }
+fn is_far_of(term: &(i64, Var), atom: Atom) -> bool
+    ensures { result ≡ is_far_atom term.now atom }
 {
-    if is_same_side(term, a) {
-        return a.var.0 == term.1.0;
+    if is_same_side(term, atom) {
+        return atom.var.0 == term.1.0;
     }
     false
 }
@@ -251,14 +251,14 @@ pub(crate) fn explain_row_conflict(row: &Row, work: &BoxState, need: &mut BoxSta
 }
 
 /// The box with an open atom made true.
-fn copy_with(alloc: Global, work: &BoxState, a: Atom) -> Result<BoxState, OutOfMemory>
-    requires undecided { IsOpenIn work.now a }
+fn copy_with(alloc: Global, work: &BoxState, atom: Atom) -> Result<BoxState, OutOfMemory>
+    requires undecided { IsOpenIn work.now atom }
     requires proper { IsProper work.now }
-    ensures made { IfOk result (λ b. b ≡ made_true work.now a) }
+    ensures made { IfOk result (λ b. b ≡ made_true work.now atom) }
     ensures within { IfOk result (IsBoxOf work.now) }
 {
     let mut under = work.copy(alloc)?;
-    under.assume(a);
+    under.assume(atom);
     Ok(under)
 }
 
@@ -267,14 +267,14 @@ fn slack_with(
     alloc: Global,
     row: &Row,
     work: &BoxState,
-    a: Atom,
+    atom: Atom,
 ) -> Result<Option<u64>, OutOfMemory>
     requires row { IsRowOf work.now row.now }
-    requires undecided { IsOpenIn work.now a }
+    requires undecided { IsOpenIn work.now atom }
     requires proper { IsProper work.now }
-    ensures { IfOk result (HasSlack row.now (made_true work.now a)) }
+    ensures { IfOk result (HasSlack row.now (made_true work.now atom)) }
 {
-    let under = copy_with(alloc, work, a)?;
+    let under = copy_with(alloc, work, atom)?;
     Ok(row_slack(row, &under))
 }
 
@@ -282,20 +282,20 @@ fn slack_with(
 fn explain_claimed(
     alloc: Global,
     row: &Row,
-    a: Atom,
+    atom: Atom,
     work: &BoxState,
     need: &mut BoxState,
 ) -> Result<(), OutOfMemory>
     requires row { IsRowOf work.now row.now }
     requires needed { IsNeedOf work.now need.old }
-    requires undecided { IsOpenIn work.now a }
-    requires size { IsBound a.k }
+    requires undecided { IsOpenIn work.now atom }
+    requires size { IsBound atom.k }
     requires claimed { is_claimed_in work.now row.now.guard ≡ true }
-    requires given { HasGiven a (left_by_row work.now row.now) }
-    ensures led { OnOk result (HasLed a (left_by_row need.new row.now)) }
+    requires given { HasGiven atom (left_by_row work.now row.now) }
+    ensures led { OnOk result (HasLed atom (left_by_row need.new row.now)) }
     ensures explained { OnOk result (IsExplainedInBoth work.now need.old need.new) }
 {
-    let negated = opposite(a);
+    let negated = opposite(atom);
     match slack_with(alloc, row, work, negated)? {
         None => {
             *need = work.copy(alloc)?;
@@ -313,20 +313,20 @@ fn explain_claimed(
 pub(crate) fn explain_row_atom(
     alloc: Global,
     row: &Row,
-    a: Atom,
+    atom: Atom,
     work: &BoxState,
     need: &mut BoxState,
 ) -> Result<(), OutOfMemory>
     requires row { IsRowOf work.now row.now }
     requires needed { IsNeedOf work.now need.old }
-    requires undecided { IsOpenIn work.now a }
-    requires size { IsBound a.k }
-    requires given { HasGiven a (left_by_row work.now row.now) }
-    ensures led { OnOk result (HasLed a (left_by_row need.new row.now)) }
+    requires undecided { IsOpenIn work.now atom }
+    requires size { IsBound atom.k }
+    requires given { HasGiven atom (left_by_row work.now row.now) }
+    ensures led { OnOk result (HasLed atom (left_by_row need.new row.now)) }
     ensures explained { OnOk result (IsExplainedInBoth work.now need.old need.new) }
 {
     match row_slack(row, work) {
-        None => explain_claimed(alloc, row, a, work, need),
+        None => explain_claimed(alloc, row, atom, work, need),
         Some(slack) => {
             explain_terms(row.terms.as_slice(), None, work, need, slack);
             Ok(())

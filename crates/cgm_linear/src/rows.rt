@@ -26,34 +26,34 @@ use cgm_trail::{Swept, Trail};
 /// Condition: the problem is the trail's, the row is one of it, and the trail's moves with `left`
 /// are at most 2^62.
 pub fn propagate_row(
-    p: &Problem,
+    problem: &Problem,
     n: u32,
-    t: &mut Trail,
+    trail: &mut Trail,
     left: &mut u64,
 ) -> Result<Swept, OutOfMemory>
-    requires problem { t.old.problem ≡ p.now }
-    requires known { n < length p.now.rows }
-    requires room { t.old.moves + left.old ≤ 2 ^ 62 }
-    ensures made { IsPropagated (IsRowNumbered p.now n) t.old t.new left.old left.new }
-    ensures answer { IsSomeAnd (slice_get p.now.rows n) (λ r. IsRowSwept (Hint.Row n) r t.old t.new left.new result) }
+    requires problem { trail.old.problem ≡ problem.now }
+    requires known { n < length problem.now.rows }
+    requires room { trail.old.moves + left.old ≤ 2 ^ 62 }
+    ensures made { IsPropagated (IsRowNumbered problem.now n) trail.old trail.new left.old left.new }
+    ensures answer { IsSomeAnd (slice_get problem.now.rows n) (λ r. IsRowSwept (Hint.Row n) r trail.old trail.new left.new result) }
 {
-    t.recall_trail();
-    sweep(p.row(n), t, Hint::Row(n), left)
+    trail.recall_trail();
+    sweep(problem.row(n), trail, Hint::Row(n), left)
 }
 
 /// Propagation by a row that the hint names.
-fn sweep(r: &Row, t: &mut Trail, by: Hint, left: &mut u64) -> Result<Swept, OutOfMemory>
-    requires row { IsRowOf (box_of t.old) r.now }
-    requires budget { t.old.moves + left.old ≤ 2 ^ 62 }
-    ensures made { IsPropagated (IsOnly by (of_row r.now)) t.old t.new left.old left.new }
-    ensures answer { IsRowSwept by r.now t.old t.new left.new result }
+fn sweep(row: &Row, trail: &mut Trail, by: Hint, left: &mut u64) -> Result<Swept, OutOfMemory>
+    requires row { IsRowOf (box_of trail.old) row.now }
+    requires budget { trail.old.moves + left.old ≤ 2 ^ 62 }
+    ensures made { IsPropagated (IsOnly by (of_row row.now)) trail.old trail.new left.old left.new }
+    ensures answer { IsRowSwept by row.now trail.old trail.new left.new result }
 {
-    let most = greatest_activity(t.state(), r.terms.as_slice());
-    if most < r.least {
-        return refuse_guard(r, t, by, left);
+    let most = greatest_activity(trail.state(), row.terms.as_slice());
+    if most < row.least {
+        return refuse_guard(row, trail, by, left);
     }
-    if is_claimed(t.state(), r.guard) {
-        return tighten_by_terms(r, room_of(most, r.least), t, by, left);
+    if is_claimed(trail.state(), row.guard) {
+        return tighten_by_terms(row, room_of(most, row.least), trail, by, left);
     }
     Ok(Swept::Quiet)
 }
@@ -70,30 +70,30 @@ fn room_of(most: i64, least: i64) -> u64
 }
 
 /// Whether the row is claimed in the whole box.
-fn is_claimed(b: &BoxState, guard: Option<Atom>) -> bool
-    requires { IfSome guard (λ g. g.var.0 < length b.now.lower) }
-    ensures { result ≡ is_claimed_in b.now guard }
+fn is_claimed(bounds: &BoxState, guard: Option<Atom>) -> bool
+    requires { IfSome guard (λ g. g.var.0 < length bounds.now.lower) }
+    ensures { result ≡ is_claimed_in bounds.now guard }
 {
     match guard {
         None => true,
-        Some(g) => is_true(b, g),
+        Some(g) => is_true(bounds, g),
     }
 }
 
 /// Makes the guard of a row false that no values of the box meet.
-fn refuse_guard(r: &Row, t: &mut Trail, by: Hint, left: &mut u64) -> Result<Swept, OutOfMemory>
-    requires row { IsRowOf (box_of t.old) r.now }
-    requires unmet { greatest_activity_in (box_of t.old) r.now.terms <ℤ r.now.least }
-    requires budget { t.old.moves + left.old ≤ 2 ^ 62 }
-    ensures made { IsPropagated (IsOnly by (of_row r.now)) t.old t.new left.old left.new }
-    ensures answer { IsRowSwept by r.now t.old t.new left.new result }
+fn refuse_guard(row: &Row, trail: &mut Trail, by: Hint, left: &mut u64) -> Result<Swept, OutOfMemory>
+    requires row { IsRowOf (box_of trail.old) row.now }
+    requires unmet { greatest_activity_in (box_of trail.old) row.now.terms <ℤ row.now.least }
+    requires budget { trail.old.moves + left.old ≤ 2 ^ 62 }
+    ensures made { IsPropagated (IsOnly by (of_row row.now)) trail.old trail.new left.old left.new }
+    ensures answer { IsRowSwept by row.now trail.old trail.new left.new result }
 {
-    match r.guard {
+    match row.guard {
         None => Ok(Swept::Conflict(by)),
-        Some(guard) => match negated(t.state(), guard) {
+        Some(guard) => match negated(trail.state(), guard) {
             None => Ok(Swept::Conflict(by)),
             Some(opposite) => {
-                if make(t, opposite, by, left)? {
+                if make(trail, opposite, by, left)? {
                     Ok(Swept::Quiet)
                 } else {
                     Ok(Swept::Spent)
@@ -106,22 +106,22 @@ fn refuse_guard(r: &Row, t: &mut Trail, by: Hint, left: &mut u64) -> Result<Swep
 /// Tightens each term's variable. No tightening moves a bound that a term's greatest value reads,
 /// so that the room is the same for all.
 fn tighten_by_terms(
-    r: &Row,
+    row: &Row,
     room: u64,
-    t: &mut Trail,
+    trail: &mut Trail,
     by: Hint,
     left: &mut u64,
 ) -> Result<Swept, OutOfMemory>
-    requires claimed { HasRoom (box_of t.old) r.now room }
+    requires claimed { HasRoom (box_of trail.old) row.now room }
     requires limit { room ≤ max_room }
-    requires budget { t.old.moves + left.old ≤ 2 ^ 62 }
-    ensures made { IsPropagated (IsOnly by (of_row r.now)) t.old t.new left.old left.new }
-    ensures answer { IsRowSwept by r.now t.old t.new left.new result }
+    requires budget { trail.old.moves + left.old ≤ 2 ^ 62 }
+    ensures made { IsPropagated (IsOnly by (of_row row.now)) trail.old trail.new left.old left.new }
+    ensures answer { IsRowSwept by row.now trail.old trail.new left.new result }
 {
-    t.recall_trail();
-    for term in r.terms.as_slice() {
-        let kept = kept_by_term(t.state(), room, term);
-        if !make(t, kept, by, left)? {
+    trail.recall_trail();
+    for term in row.terms.as_slice() {
+        let kept = kept_by_term(trail.state(), room, term);
+        if !make(trail, kept, by, left)? {
             return Ok(Swept::Spent);
         }
     }

@@ -13,19 +13,19 @@ use cgm_trail::{Trail, step};
 /// now. A step is taken only where the atom isn't true yet, and it isn't true afterwards where none
 /// is left. The trail's moves with `left` are at most 2^62. Memory is wanted for a step alone, and
 /// for want of it nothing changes.
-pub(crate) fn make(t: &mut Trail, a: Atom, by: Hint, left: &mut u64) -> Result<bool, OutOfMemory>
-    requires known { a.var.0 < length (box_of t.old).lower }
-    requires not_false { is_false_in (box_of t.old) a ≡ false }
-    requires room { t.old.moves + left.old ≤ 2 ^ 62 }
-    ensures made { (k : Constraint) → IsGiven (box_of t.old) k a → IsPropagated (IsOnly by k) t.old t.new left.old left.new }
-    ensures answer { IsMade a t.old t.new left.new result }
+pub(crate) fn make(trail: &mut Trail, atom: Atom, by: Hint, left: &mut u64) -> Result<bool, OutOfMemory>
+    requires known { atom.var.0 < length (box_of trail.old).lower }
+    requires not_false { is_false_in (box_of trail.old) atom ≡ false }
+    requires room { trail.old.moves + left.old ≤ 2 ^ 62 }
+    ensures made { (k : Constraint) → IsGiven (box_of trail.old) k atom → IsPropagated (IsOnly by k) trail.old trail.new left.old left.new }
+    ensures answer { IsMade atom trail.old trail.new left.new result }
 {
-    if is_true(t.state(), a) {
+    if is_true(trail.state(), atom) {
         return Ok(true);
     }
     if *left == 0 {
         return Ok(false);
     }
-    step(t, a, by, left)?;
+    step(trail, atom, by, left)?;
     Ok(true)
 }

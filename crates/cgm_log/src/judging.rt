@@ -19,17 +19,17 @@ pub(crate) struct Judged {
 
 pub(crate) fn judge(
     alloc: Global,
-    p: &Problem,
+    problem: &Problem,
     log: &IndexedLog<'_>,
     worker: u32,
     candidate: &Option<Seq<i64>>,
 ) -> Result<Judged, OutOfMemory>
-    requires accepted { IsAcceptedState p.now log.now }
+    requires accepted { IsAcceptedState problem.now log.now }
     requires room { length log.now.bests < 2 ^ 63 }
-    requires solution { IfSome candidate.now (IsSolution p.now) }
-    ensures fate { IfOk result (λ j. j.fate ≡ fate_of p.now log.now candidate.now) }
+    requires solution { IfSome candidate.now (IsSolution problem.now) }
+    ensures fate { IfOk result (λ j. j.fate ≡ fate_of problem.now log.now candidate.now) }
     ensures kept { IfOk result
-        (λ j. j.kept.items ≡ kept_candidate p.now log.now worker candidate.now) }
+        (λ j. j.kept.items ≡ kept_candidate problem.now log.now worker candidate.now) }
 {
     match candidate {
         None => Ok(Judged {
@@ -37,7 +37,7 @@ pub(crate) fn judge(
             kept: Vec::new(alloc),
         }),
         Some(values) => {
-            let fate = find_fate(alloc, p, log, values.as_slice())?;
+            let fate = find_fate(alloc, problem, log, values.as_slice())?;
             let kept = keep(alloc, worker, values.as_slice(), &fate)?;
             Ok(Judged {
                 fate: Some(fate),
@@ -50,18 +50,18 @@ pub(crate) fn judge(
 /// A candidate is kept where it is less than the last best, or where there is none.
 fn find_fate(
     alloc: Global,
-    p: &Problem,
+    problem: &Problem,
     log: &IndexedLog<'_>,
     values: &[i64],
 ) -> Result<Fate, OutOfMemory>
-    requires accepted { IsAcceptedState p.now log.now }
+    requires accepted { IsAcceptedState problem.now log.now }
     requires room { length log.now.bests < 2 ^ 63 }
-    requires solution { IsSolution p.now values.now }
-    ensures { IfOk result (λ fate. fate ≡ fate_after p.now (length log.now.bests) (last_best
+    requires solution { IsSolution problem.now values.now }
+    ensures { IfOk result (λ fate. fate ≡ fate_after problem.now (length log.now.bests) (last_best
         log.now) values.now) }
 {
     let ordinal = log.bests();
-    let objectives = p.objectives();
+    let objectives = problem.objectives();
     match log.last_best() {
         None => Ok(Fate::Kept {
             ordinal: ordinal + 1,

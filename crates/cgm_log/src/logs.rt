@@ -43,14 +43,14 @@ impl Model for Log {
 
 impl Log {
     /// A log of the problem without entries. Takes no memory.
-    pub fn new(alloc: Global, p: Problem) -> Log
-        ensures problem { result.problem ≡ p }
+    pub fn new(alloc: Global, problem: Problem) -> Log
+        ensures problem { result.problem ≡ problem }
         ensures entries { result.entries ≡ [] }
     {
-        p.recall_well_formed();
+        problem.recall_well_formed();
         Log {
             alloc,
-            problem: p,
+            problem,
             entries: Vec::new(alloc),
             index: LogIndex::new(alloc),
         }

@@ -20,68 +20,68 @@ use cgm_base::Which;
 
 /// The answer of the first test that the statement fails. `acyclic` says whether the graph has no
 /// cycle with it.
-pub(crate) fn refusal(m: &Lists, aids: &Aids, s: &Statement, acyclic: bool) -> Option<AddStop>
-    requires well_formed { IsWellFormed m.now }
-    requires aids { AreFor m.now aids.now }
-    requires proper { tests.IsProper m.now s.now }
-    ensures { result ≡ tests.refusal m.now s.now acyclic }
+pub(crate) fn refusal(lists: &Lists, aids: &Aids, statement: &Statement, acyclic: bool) -> Option<AddStop>
+    requires well_formed { IsWellFormed lists.now }
+    requires aids { AreFor lists.now aids.now }
+    requires proper { tests.IsProper lists.now statement.now }
+    ensures { result ≡ tests.refusal lists.now statement.now acyclic }
 {
     first_failing(&[
-        (has_short_name(s), AddStop::Limit(Which::NameBytes)),
-        (has_spelled_name(s), AddStop::Refused(Fault::Name)),
+        (has_short_name(statement), AddStop::Limit(Which::NameBytes)),
+        (has_spelled_name(statement), AddStop::Refused(Fault::Name)),
         (
-            has_new_name(m, aids, s),
+            has_new_name(lists, aids, statement),
             AddStop::Refused(Fault::DoubleName),
         ),
         (
-            has_small_coefficients(aids, s),
+            has_small_coefficients(aids, statement),
             AddStop::Limit(Which::Coefficient),
         ),
-        (has_small_bounds(s), AddStop::Limit(Which::VariableBound)),
+        (has_small_bounds(statement), AddStop::Limit(Which::VariableBound)),
         (
-            has_ordered_bounds(s),
+            has_ordered_bounds(statement),
             AddStop::Refused(Fault::CrossedBounds),
         ),
         (
-            has_distinct_sources(s),
+            has_distinct_sources(statement),
             AddStop::Refused(Fault::DoubleSource),
         ),
         (
-            has_distinct_terms(aids, s),
+            has_distinct_terms(aids, statement),
             AddStop::Refused(Fault::DoubleTerm),
         ),
         (
-            has_new_interest(aids, s),
+            has_new_interest(aids, statement),
             AddStop::Refused(Fault::DoubleInterest),
         ),
-        (!refines_task(m, s), AddStop::Refused(Fault::TaskRefined)),
+        (!refines_task(lists, statement), AddStop::Refused(Fault::TaskRefined)),
         (
-            !refines_assumption(m, s),
+            !refines_assumption(lists, statement),
             AddStop::Refused(Fault::AssumptionRefined),
         ),
         (acyclic, AddStop::Refused(Fault::Cycle)),
         (
-            statement_count(m) < limits::STATEMENTS,
+            statement_count(lists) < limits::STATEMENTS,
             AddStop::Limit(Which::Statements),
         ),
         (
-            element_count(m, s) <= limits::ELEMENTS,
+            element_count(lists, statement) <= limits::ELEMENTS,
             AddStop::Limit(Which::Elements),
         ),
         (
-            refinement_count(m, s) <= limits::REFINEMENTS,
+            refinement_count(lists, statement) <= limits::REFINEMENTS,
             AddStop::Limit(Which::Refinements),
         ),
         (
-            source_count(s) <= limits::SOURCES,
+            source_count(statement) <= limits::SOURCES,
             AddStop::Limit(Which::Sources),
         ),
         (
-            has_room_for_nodes(aids, s),
+            has_room_for_nodes(aids, statement),
             AddStop::Limit(Which::FormulaNodes),
         ),
         (
-            objective_count(m, s) <= limits::OBJECTIVES,
+            objective_count(lists, statement) <= limits::OBJECTIVES,
             AddStop::Limit(Which::Objectives),
         ),
     ])
@@ -98,10 +98,10 @@ fn first_failing(answers: &[(bool, AddStop)]) -> Option<AddStop>
     None
 }
 
-fn declared_name(s: &Statement) -> Option<&[u8]>
-    ensures { tests.declared_names s.now ≡ option_to_list (option_copied result) }
+fn declared_name(statement: &Statement) -> Option<&[u8]>
+    ensures { tests.declared_names statement.now ≡ option_to_list (option_copied result) }
 {
-    match s {
+    match statement {
         Statement::Element(e) => Some(e.name.as_slice()),
         Statement::Refine(r) => Some(r.name.as_slice()),
         Statement::Variable(v) => Some(v.name.as_slice()),
@@ -110,39 +110,39 @@ fn declared_name(s: &Statement) -> Option<&[u8]>
     }
 }
 
-fn has_short_name(s: &Statement) -> bool
-    ensures { result ≡ list_all tests.is_short (tests.declared_names s.now) }
+fn has_short_name(statement: &Statement) -> bool
+    ensures { result ≡ list_all tests.is_short (tests.declared_names statement.now) }
 {
-    match declared_name(s) {
+    match declared_name(statement) {
         Some(name) => name.len() <= limits::NAME_BYTES,
         None => true,
     }
 }
 
-fn has_spelled_name(s: &Statement) -> bool
-    ensures { result ≡ list_all spelling.is_name (tests.declared_names s.now) }
+fn has_spelled_name(statement: &Statement) -> bool
+    ensures { result ≡ list_all spelling.is_name (tests.declared_names statement.now) }
 {
-    match declared_name(s) {
+    match declared_name(statement) {
         Some(name) => spelling::is_name(name),
         None => true,
     }
 }
 
-fn has_new_name(m: &Lists, aids: &Aids, s: &Statement) -> bool
-    requires well_formed { IsWellFormed m.now }
-    requires aids { AreFor m.now aids.now }
-    ensures { result ≡ list_all (tests.is_new m.now) (tests.declared_names s.now) }
+fn has_new_name(lists: &Lists, aids: &Aids, statement: &Statement) -> bool
+    requires well_formed { IsWellFormed lists.now }
+    requires aids { AreFor lists.now aids.now }
+    ensures { result ≡ list_all (tests.is_new lists.now) (tests.declared_names statement.now) }
 {
-    match declared_name(s) {
-        Some(name) => names::is_new(m, aids, name),
+    match declared_name(statement) {
+        Some(name) => names::is_new(lists, aids, name),
         None => true,
     }
 }
 
-fn has_small_coefficients(aids: &Aids, s: &Statement) -> bool
-    ensures { result ≡ tests.has_small_coefficients s.now }
+fn has_small_coefficients(aids: &Aids, statement: &Statement) -> bool
+    ensures { result ≡ tests.has_small_coefficients statement.now }
 {
-    match s {
+    match statement {
         Statement::Rule(r) => formulas::every_linear(
             aids.alloc,
             LinearTest::Small,
@@ -161,10 +161,10 @@ fn is_small(k: i64) -> bool
     k.unsigned_abs() <= limits::COEFFICIENT
 }
 
-fn has_small_bounds(s: &Statement) -> bool
-    ensures { result ≡ tests.has_small_bounds s.now }
+fn has_small_bounds(statement: &Statement) -> bool
+    ensures { result ≡ tests.has_small_bounds statement.now }
 {
-    match s {
+    match statement {
         Statement::Variable(v) => {
             v.lo.unsigned_abs() <= limits::VARIABLE_BOUND
                 && v.hi.unsigned_abs() <= limits::VARIABLE_BOUND
@@ -173,19 +173,19 @@ fn has_small_bounds(s: &Statement) -> bool
     }
 }
 
-fn has_ordered_bounds(s: &Statement) -> bool
-    ensures { result ≡ tests.has_ordered_bounds s.now }
+fn has_ordered_bounds(statement: &Statement) -> bool
+    ensures { result ≡ tests.has_ordered_bounds statement.now }
 {
-    match s {
+    match statement {
         Statement::Variable(v) => v.lo <= v.hi,
         _ => true,
     }
 }
 
-fn has_distinct_sources(s: &Statement) -> bool
-    ensures { result ≡ tests.is_distinct (tests.source_list s.now) }
+fn has_distinct_sources(statement: &Statement) -> bool
+    ensures { result ≡ tests.is_distinct (tests.source_list statement.now) }
 {
-    match s {
+    match statement {
         Statement::Refine(r) => are_distinct(r.sources.as_slice()),
         _ => true,
     }
@@ -203,10 +203,10 @@ fn are_distinct(numbers: &[u32]) -> bool
     true
 }
 
-fn has_distinct_terms(aids: &Aids, s: &Statement) -> bool
-    ensures { result ≡ tests.has_distinct_terms_each s.now }
+fn has_distinct_terms(aids: &Aids, statement: &Statement) -> bool
+    ensures { result ≡ tests.has_distinct_terms_each statement.now }
 {
-    match s {
+    match statement {
         Statement::Rule(r) => formulas::every_linear(
             aids.alloc,
             LinearTest::Distinct,
@@ -216,103 +216,103 @@ fn has_distinct_terms(aids: &Aids, s: &Statement) -> bool
     }
 }
 
-fn has_new_interest(aids: &Aids, s: &Statement) -> bool
-    ensures { (m : Lists) → AreFor m aids.now → result ≡ tests.has_new_interest m s.now }
+fn has_new_interest(aids: &Aids, statement: &Statement) -> bool
+    ensures { (m : Lists) → AreFor m aids.now → result ≡ tests.has_new_interest m statement.now }
 {
-    match s {
+    match statement {
         Statement::Interest(element) => !is_marked(&aids.interests, *element),
         _ => true,
     }
 }
 
-fn target_kind(m: &Lists, s: &Statement) -> Option<ElementKind>
-    ensures { result ≡ tests.target_kind m.now s.now }
+fn target_kind(lists: &Lists, statement: &Statement) -> Option<ElementKind>
+    ensures { result ≡ tests.target_kind lists.now statement.now }
 {
-    match s {
-        Statement::Refine(r) => kind_at(m.elements.as_slice(), r.target),
+    match statement {
+        Statement::Refine(r) => kind_at(lists.elements.as_slice(), r.target),
         _ => None,
     }
 }
 
-fn refines_task(m: &Lists, s: &Statement) -> bool
-    ensures { result ≡ tests.is_task (tests.target_kind m.now s.now) }
+fn refines_task(lists: &Lists, statement: &Statement) -> bool
+    ensures { result ≡ tests.is_task (tests.target_kind lists.now statement.now) }
 {
-    matches!(target_kind(m, s), Some(ElementKind::Task))
+    matches!(target_kind(lists, statement), Some(ElementKind::Task))
 }
 
-fn refines_assumption(m: &Lists, s: &Statement) -> bool
-    ensures { result ≡ tests.is_assumption (tests.target_kind m.now s.now) }
+fn refines_assumption(lists: &Lists, statement: &Statement) -> bool
+    ensures { result ≡ tests.is_assumption (tests.target_kind lists.now statement.now) }
 {
-    matches!(target_kind(m, s), Some(ElementKind::Assume))
+    matches!(target_kind(lists, statement), Some(ElementKind::Assume))
 }
 
-fn statement_count(m: &Lists) -> usize
-    requires { IsWellFormed m.now }
-    ensures { result ≡ statement_count m.now }
+fn statement_count(lists: &Lists) -> usize
+    requires { IsWellFormed lists.now }
+    ensures { result ≡ statement_count lists.now }
 {
-    m.elements.as_slice().len()
-        + m.refinements.as_slice().len()
-        + m.vars.as_slice().len()
-        + m.sums.as_slice().len()
-        + m.contribs.as_slice().len()
-        + m.conflicts.as_slice().len()
-        + m.binds.as_slice().len()
-        + m.asserts.as_slice().len()
-        + m.values.as_slice().len()
-        + m.rewards.as_slice().len()
-        + m.penalties.as_slice().len()
-        + m.prefers.as_slice().len()
-        + m.rules.as_slice().len()
-        + m.interests.as_slice().len()
-        + m.objectives.as_slice().len()
+    lists.elements.as_slice().len()
+        + lists.refinements.as_slice().len()
+        + lists.vars.as_slice().len()
+        + lists.sums.as_slice().len()
+        + lists.contribs.as_slice().len()
+        + lists.conflicts.as_slice().len()
+        + lists.binds.as_slice().len()
+        + lists.asserts.as_slice().len()
+        + lists.values.as_slice().len()
+        + lists.rewards.as_slice().len()
+        + lists.penalties.as_slice().len()
+        + lists.prefers.as_slice().len()
+        + lists.rules.as_slice().len()
+        + lists.interests.as_slice().len()
+        + lists.objectives.as_slice().len()
 }
 
-fn element_count(m: &Lists, s: &Statement) -> usize
-    requires { IsWellFormed m.now }
-    ensures { result ≡ length (added m.now s.now).elements }
+fn element_count(lists: &Lists, statement: &Statement) -> usize
+    requires { IsWellFormed lists.now }
+    ensures { result ≡ length (added lists.now statement.now).elements }
 {
-    let count = m.elements.as_slice().len();
-    match s {
+    let count = lists.elements.as_slice().len();
+    match statement {
         Statement::Element(_) => count + 1,
         _ => count,
     }
 }
 
-fn refinement_count(m: &Lists, s: &Statement) -> usize
-    requires { IsWellFormed m.now }
-    ensures { result ≡ length (added m.now s.now).refinements }
+fn refinement_count(lists: &Lists, statement: &Statement) -> usize
+    requires { IsWellFormed lists.now }
+    ensures { result ≡ length (added lists.now statement.now).refinements }
 {
-    let count = m.refinements.as_slice().len();
-    match s {
+    let count = lists.refinements.as_slice().len();
+    match statement {
         Statement::Refine(_) => count + 1,
         _ => count,
     }
 }
 
-fn objective_count(m: &Lists, s: &Statement) -> usize
-    requires { IsWellFormed m.now }
-    ensures { result ≡ length (added m.now s.now).objectives }
+fn objective_count(lists: &Lists, statement: &Statement) -> usize
+    requires { IsWellFormed lists.now }
+    ensures { result ≡ length (added lists.now statement.now).objectives }
 {
-    let count = m.objectives.as_slice().len();
-    match s {
+    let count = lists.objectives.as_slice().len();
+    match statement {
         Statement::Objective(_) => count + 1,
         _ => count,
     }
 }
 
-fn source_count(s: &Statement) -> usize
-    ensures { result ≡ length (tests.source_list s.now) }
+fn source_count(statement: &Statement) -> usize
+    ensures { result ≡ length (tests.source_list statement.now) }
 {
-    match s {
+    match statement {
         Statement::Refine(r) => r.sources.as_slice().len(),
         _ => 0,
     }
 }
 
-fn has_room_for_nodes(aids: &Aids, s: &Statement) -> bool
-    ensures { (m : Lists) → AreFor m aids.now → result ≡ tests.is_within (node_total (added m s.now).rules) limits.FormulaNodes }
+fn has_room_for_nodes(aids: &Aids, statement: &Statement) -> bool
+    ensures { (m : Lists) → AreFor m aids.now → result ≡ tests.is_within (node_total (added m statement.now).rules) limits.FormulaNodes }
 {
-    match s {
+    match statement {
         Statement::Rule(r) => {
             formulas::room_after(formulas::formula_of(r), aids.node_room).is_some()
         }

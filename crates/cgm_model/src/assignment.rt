@@ -10,13 +10,13 @@ use cgm_formula::Assignment;
 
 /// Says whether the assignment has one truth value for each element and each refinement, and for
 /// each variable a number within its bounds. It takes no memory.
-pub fn fits(m: &Model, a: &Assignment) -> bool
-    ensures { IsTrue result ↔ Fits (lists_of m.now) a.now }
+pub fn fits(model: &Model, assignment: &Assignment) -> bool
+    ensures { IsTrue result ↔ Fits (lists_of model.now) assignment.now }
 {
-    a.elements.as_slice().len() == m.elements.as_slice().len()
-        && a.refinements.as_slice().len() == m.refinements.as_slice().len()
-        && a.vars.as_slice().len() == m.vars.as_slice().len()
-        && are_within(m.vars.as_slice(), a.vars.as_slice())
+    assignment.elements.as_slice().len() == model.elements.as_slice().len()
+        && assignment.refinements.as_slice().len() == model.refinements.as_slice().len()
+        && assignment.vars.as_slice().len() == model.vars.as_slice().len()
+        && are_within(model.vars.as_slice(), assignment.vars.as_slice())
 }
 
 fn are_within(vars: &[Variable], values: &[i64]) -> bool
@@ -31,9 +31,9 @@ fn are_within(vars: &[Variable], values: &[i64]) -> bool
     true
 }
 
-fn is_within(values: &[i64], place: usize, v: &Variable) -> bool
+fn is_within(values: &[i64], place: usize, variable: &Variable) -> bool
     requires { place < length values.now }
-    ensures { IsTrue result ↔ IsWithin values.now place v.now }
+    ensures { IsTrue result ↔ IsWithin values.now place variable.now }
 {
-    v.lo <= values[place] && values[place] <= v.hi
+    variable.lo <= values[place] && values[place] <= variable.hi
 }

@@ -75,15 +75,15 @@ impl ModelBuilder {
     /// 200 brackets open at once in its canonical text, and a goal alone has `must`. A refusal
     /// comes for the first test that fails, and only what is allowed can lack memory. Each leaves
     /// the builder as it was.
-    pub fn add(&mut self, s: Statement) -> Result<(), AddStop>
-        requires { IsProper self.old s }
-        ensures added { OnOk result (self.new ≡ added self.old s) }
-        ensures allowed { OnOk result (IsAllowed self.old s) }
-        ensures refused { IfErr result (IsNotAdded self.old s) }
+    pub fn add(&mut self, statement: Statement) -> Result<(), AddStop>
+        requires { IsProper self.old statement }
+        ensures added { OnOk result (self.new ≡ added self.old statement) }
+        ensures allowed { OnOk result (IsAllowed self.old statement) }
+        ensures refused { IfErr result (IsNotAdded self.old statement) }
         ensures unchanged { OnErr result (self.new ≡ self.old) }
         ensures known { IsWellFormed self.new }
     {
-        add(&mut self.lists, &mut self.aids, s)
+        add(&mut self.lists, &mut self.aids, statement)
     }
 
     /// The model of the statements so far. It takes no memory.
@@ -131,10 +131,10 @@ impl ModelBuilder {
 }
 
 /// The facts of the graph, by what was kept to find cycles.
-fn facts_of(m: &Lists, aids: Aids) -> Facts
-    requires well_formed { IsWellFormed m.now }
-    requires aids { AreFor m.now aids }
-    ensures { AreFacts m.now.refinements result }
+fn facts_of(lists: &Lists, aids: Aids) -> Facts
+    requires well_formed { IsWellFormed lists.now }
+    requires aids { AreFor lists.now aids }
+    ensures { AreFacts lists.now.refinements result }
 {
     let Aids {
         alloc: _,
@@ -143,7 +143,7 @@ fn facts_of(m: &Lists, aids: Aids) -> Facts
         node_room: _,
         interests: _,
     } = aids;
-    Facts::of(graph, m.refinements.as_slice())
+    Facts::of(graph, lists.refinements.as_slice())
 }
 
 fn empty_lists(alloc: Global) -> Lists
@@ -169,81 +169,81 @@ fn empty_lists(alloc: Global) -> Lists
 }
 
 /// Adds a statement that passes each test, or answers the first that it fails.
-fn add(m: &mut Lists, aids: &mut Aids, s: Statement) -> Result<(), AddStop>
-    requires well_formed { IsWellFormed m.old }
-    requires aids { AreFor m.old aids.old }
-    requires proper { IsProper m.old s }
-    ensures added { OnOk result (m.new ≡ added m.old s) }
-    ensures allowed { OnOk result (IsAllowed m.old s) }
-    ensures refused { IfErr result (IsNotAdded m.old s) }
-    ensures unchanged { OnErr result (m.new ≡ m.old) }
-    ensures known { IsWellFormed m.new }
-    ensures aids { AreFor m.new aids.new }
+fn add(lists: &mut Lists, aids: &mut Aids, statement: Statement) -> Result<(), AddStop>
+    requires well_formed { IsWellFormed lists.old }
+    requires aids { AreFor lists.old aids.old }
+    requires proper { IsProper lists.old statement }
+    ensures added { OnOk result (lists.new ≡ added lists.old statement) }
+    ensures allowed { OnOk result (IsAllowed lists.old statement) }
+    ensures refused { IfErr result (IsNotAdded lists.old statement) }
+    ensures unchanged { OnErr result (lists.new ≡ lists.old) }
+    ensures known { IsWellFormed lists.new }
+    ensures aids { AreFor lists.new aids.new }
 {
-    let acyclic = stays_acyclic(m, aids, &s);
-    match admission::refusal(m, aids, &s, acyclic) {
+    let acyclic = stays_acyclic(lists, aids, &statement);
+    match admission::refusal(lists, aids, &statement, acyclic) {
         Some(stop) => Err(stop),
-        None => push(m, aids, s),
+        None => push(lists, aids, statement),
     }
 }
 
 /// Says whether the graph has no cycle with the statement.
-fn stays_acyclic(m: &Lists, aids: &mut Aids, s: &Statement) -> bool
-    requires well_formed { IsWellFormed m.now }
-    requires aids { AreFor m.now aids.old }
-    requires proper { IsProper m.now s.now }
-    ensures answer { IsTrue result ↔ IsAcyclic (added m.now s.now).refinements }
-    ensures aids { AreFor m.now aids.new }
+fn stays_acyclic(lists: &Lists, aids: &mut Aids, statement: &Statement) -> bool
+    requires well_formed { IsWellFormed lists.now }
+    requires aids { AreFor lists.now aids.old }
+    requires proper { IsProper lists.now statement.now }
+    ensures answer { IsTrue result ↔ IsAcyclic (added lists.now statement.now).refinements }
+    ensures aids { AreFor lists.now aids.new }
 {
-    match s {
+    match statement {
         Statement::Refine(r) => {
-            graph::stays_acyclic(&mut aids.graph, m.refinements.as_slice(), r)
+            graph::stays_acyclic(&mut aids.graph, lists.refinements.as_slice(), r)
         }
         _ => true,
     }
 }
 
 /// Adds a statement as it is, or leaves the lists for want of memory.
-fn push(m: &mut Lists, aids: &mut Aids, s: Statement) -> Result<(), AddStop>
-    requires well_formed { IsWellFormed m.old }
-    requires aids { AreFor m.old aids.old }
-    requires proper { IsProper m.old s }
-    requires allowed { IsAllowed m.old s }
-    ensures lists { m.new ≡ (if is_ok result then added m.old s else m.old) }
-    ensures aids { AreFor m.new aids.new }
+fn push(lists: &mut Lists, aids: &mut Aids, statement: Statement) -> Result<(), AddStop>
+    requires well_formed { IsWellFormed lists.old }
+    requires aids { AreFor lists.old aids.old }
+    requires proper { IsProper lists.old statement }
+    requires allowed { IsAllowed lists.old statement }
+    ensures lists { lists.new ≡ (if is_ok result then added lists.old statement else lists.old) }
+    ensures aids { AreFor lists.new aids.new }
     ensures memory { IfErr result (λ stop. stop ≡ AddStop.Memory) }
 {
-    match s {
-        Statement::Element(e) => push_element(m, aids, e),
-        Statement::Refine(r) => push_refinement(m, aids, r),
-        Statement::Variable(v) => push_variable(m, aids, v),
-        Statement::Sum(x) => push_sum(m, aids, x),
-        Statement::Contrib(e) => m.contribs.push(e).map_err(|_| AddStop::Memory),
-        Statement::Conflict(e) => m.conflicts.push(e).map_err(|_| AddStop::Memory),
-        Statement::Bind(e) => m.binds.push(e).map_err(|_| AddStop::Memory),
-        Statement::Assert(a) => m.asserts.push(a).map_err(|_| AddStop::Memory),
-        Statement::Value(v) => m.values.push(v).map_err(|_| AddStop::Memory),
-        Statement::Reward(w) => m.rewards.push(w).map_err(|_| AddStop::Memory),
-        Statement::Penalty(w) => m.penalties.push(w).map_err(|_| AddStop::Memory),
-        Statement::Prefer(p) => m.prefers.push(p).map_err(|_| AddStop::Memory),
-        Statement::Rule(r) => push_rule(m, aids, r),
-        Statement::Interest(element) => push_interest(m, aids, element),
-        Statement::Objective(o) => m.objectives.push(o).map_err(|_| AddStop::Memory),
+    match statement {
+        Statement::Element(e) => push_element(lists, aids, e),
+        Statement::Refine(r) => push_refinement(lists, aids, r),
+        Statement::Variable(v) => push_variable(lists, aids, v),
+        Statement::Sum(x) => push_sum(lists, aids, x),
+        Statement::Contrib(e) => lists.contribs.push(e).map_err(|_| AddStop::Memory),
+        Statement::Conflict(e) => lists.conflicts.push(e).map_err(|_| AddStop::Memory),
+        Statement::Bind(e) => lists.binds.push(e).map_err(|_| AddStop::Memory),
+        Statement::Assert(a) => lists.asserts.push(a).map_err(|_| AddStop::Memory),
+        Statement::Value(v) => lists.values.push(v).map_err(|_| AddStop::Memory),
+        Statement::Reward(w) => lists.rewards.push(w).map_err(|_| AddStop::Memory),
+        Statement::Penalty(w) => lists.penalties.push(w).map_err(|_| AddStop::Memory),
+        Statement::Prefer(p) => lists.prefers.push(p).map_err(|_| AddStop::Memory),
+        Statement::Rule(r) => push_rule(lists, aids, r),
+        Statement::Interest(element) => push_interest(lists, aids, element),
+        Statement::Objective(o) => lists.objectives.push(o).map_err(|_| AddStop::Memory),
     }
 }
 
-fn push_element(m: &mut Lists, aids: &mut Aids, e: Element) -> Result<(), AddStop>
-    requires well_formed { IsWellFormed m.old }
-    requires aids { AreFor m.old aids.old }
-    requires allowed { IsAllowed m.old (Statement.Element e) }
-    ensures lists { m.new ≡ (if is_ok result then added m.old (Statement.Element e) else m.old) }
-    ensures aids { AreFor m.new aids.new }
+fn push_element(lists: &mut Lists, aids: &mut Aids, element: Element) -> Result<(), AddStop>
+    requires well_formed { IsWellFormed lists.old }
+    requires aids { AreFor lists.old aids.old }
+    requires allowed { IsAllowed lists.old (Statement.Element element) }
+    ensures lists { lists.new ≡ (if is_ok result then added lists.old (Statement.Element element) else lists.old) }
+    ensures aids { AreFor lists.new aids.new }
     ensures memory { IfErr result (λ stop. stop ≡ AddStop.Memory) }
 {
-    let thing = Thing::Element(m.elements.as_slice().len() as u32);
+    let thing = Thing::Element(lists.elements.as_slice().len() as u32);
     make_room(aids)?;
-    names::declare(aids.alloc, &mut aids.names, e.name.as_slice(), thing)?;
-    m.elements.push(e).map_err(|_| AddStop::Memory)
+    names::declare(aids.alloc, &mut aids.names, element.name.as_slice(), thing)?;
+    lists.elements.push(element).map_err(|_| AddStop::Memory)
 }
 
 /// Makes room for one more element.
@@ -256,69 +256,69 @@ fn make_room(aids: &mut Aids) -> Result<(), AddStop>
     aids.interests.push(false).map_err(|_| AddStop::Memory)
 }
 
-fn push_refinement(m: &mut Lists, aids: &mut Aids, r: Refinement) -> Result<(), AddStop>
-    requires well_formed { IsWellFormed m.old }
-    requires aids { AreFor m.old aids.old }
-    requires proper { IsProper m.old (Statement.Refine r) }
-    requires allowed { IsAllowed m.old (Statement.Refine r) }
-    ensures lists { m.new ≡ (if is_ok result then added m.old (Statement.Refine r) else m.old) }
-    ensures aids { AreFor m.new aids.new }
+fn push_refinement(lists: &mut Lists, aids: &mut Aids, refinement: Refinement) -> Result<(), AddStop>
+    requires well_formed { IsWellFormed lists.old }
+    requires aids { AreFor lists.old aids.old }
+    requires proper { IsProper lists.old (Statement.Refine refinement) }
+    requires allowed { IsAllowed lists.old (Statement.Refine refinement) }
+    ensures lists { lists.new ≡ (if is_ok result then added lists.old (Statement.Refine refinement) else lists.old) }
+    ensures aids { AreFor lists.new aids.new }
     ensures memory { IfErr result (λ stop. stop ≡ AddStop.Memory) }
 {
-    let number = m.refinements.as_slice().len() as u32;
-    graph::link(&mut aids.graph, number, &r).map_err(|_| AddStop::Memory)?;
+    let number = lists.refinements.as_slice().len() as u32;
+    graph::link(&mut aids.graph, number, &refinement).map_err(|_| AddStop::Memory)?;
     let thing = Thing::Refinement(number);
-    names::declare(aids.alloc, &mut aids.names, r.name.as_slice(), thing)?;
-    m.refinements.push(r).map_err(|_| AddStop::Memory)
+    names::declare(aids.alloc, &mut aids.names, refinement.name.as_slice(), thing)?;
+    lists.refinements.push(refinement).map_err(|_| AddStop::Memory)
 }
 
-fn push_variable(m: &mut Lists, aids: &mut Aids, v: Variable) -> Result<(), AddStop>
-    requires well_formed { IsWellFormed m.old }
-    requires aids { AreFor m.old aids.old }
-    requires allowed { IsAllowed m.old (Statement.Variable v) }
-    ensures lists { m.new ≡ (if is_ok result then added m.old (Statement.Variable v) else m.old) }
-    ensures aids { AreFor m.new aids.new }
+fn push_variable(lists: &mut Lists, aids: &mut Aids, variable: Variable) -> Result<(), AddStop>
+    requires well_formed { IsWellFormed lists.old }
+    requires aids { AreFor lists.old aids.old }
+    requires allowed { IsAllowed lists.old (Statement.Variable variable) }
+    ensures lists { lists.new ≡ (if is_ok result then added lists.old (Statement.Variable variable) else lists.old) }
+    ensures aids { AreFor lists.new aids.new }
     ensures memory { IfErr result (λ stop. stop ≡ AddStop.Memory) }
 {
-    let thing = Thing::Var(m.vars.as_slice().len() as u32);
-    names::declare(aids.alloc, &mut aids.names, v.name.as_slice(), thing)?;
-    m.vars.push(v).map_err(|_| AddStop::Memory)
+    let thing = Thing::Var(lists.vars.as_slice().len() as u32);
+    names::declare(aids.alloc, &mut aids.names, variable.name.as_slice(), thing)?;
+    lists.vars.push(variable).map_err(|_| AddStop::Memory)
 }
 
-fn push_sum(m: &mut Lists, aids: &mut Aids, x: Sum) -> Result<(), AddStop>
-    requires well_formed { IsWellFormed m.old }
-    requires aids { AreFor m.old aids.old }
-    requires allowed { IsAllowed m.old (Statement.Sum x) }
-    ensures lists { m.new ≡ (if is_ok result then added m.old (Statement.Sum x) else m.old) }
-    ensures aids { AreFor m.new aids.new }
+fn push_sum(lists: &mut Lists, aids: &mut Aids, sum: Sum) -> Result<(), AddStop>
+    requires well_formed { IsWellFormed lists.old }
+    requires aids { AreFor lists.old aids.old }
+    requires allowed { IsAllowed lists.old (Statement.Sum sum) }
+    ensures lists { lists.new ≡ (if is_ok result then added lists.old (Statement.Sum sum) else lists.old) }
+    ensures aids { AreFor lists.new aids.new }
     ensures memory { IfErr result (λ stop. stop ≡ AddStop.Memory) }
 {
-    let thing = Thing::Sum(m.sums.as_slice().len() as u32);
-    names::declare(aids.alloc, &mut aids.names, x.name.as_slice(), thing)?;
-    m.sums.push(x).map_err(|_| AddStop::Memory)
+    let thing = Thing::Sum(lists.sums.as_slice().len() as u32);
+    names::declare(aids.alloc, &mut aids.names, sum.name.as_slice(), thing)?;
+    lists.sums.push(sum).map_err(|_| AddStop::Memory)
 }
 
-fn push_interest(m: &mut Lists, aids: &mut Aids, element: u32) -> Result<(), AddStop>
-    requires aids { AreFor m.old aids.old }
-    requires proper { IsProper m.old (Statement.Interest element) }
-    ensures lists { m.new ≡ (if is_ok result then added m.old (Statement.Interest element) else m.old) }
-    ensures aids { AreFor m.new aids.new }
+fn push_interest(lists: &mut Lists, aids: &mut Aids, element: u32) -> Result<(), AddStop>
+    requires aids { AreFor lists.old aids.old }
+    requires proper { IsProper lists.old (Statement.Interest element) }
+    ensures lists { lists.new ≡ (if is_ok result then added lists.old (Statement.Interest element) else lists.old) }
+    ensures aids { AreFor lists.new aids.new }
     ensures memory { IfErr result (λ stop. stop ≡ AddStop.Memory) }
 {
-    m.interests.push(element).map_err(|_| AddStop::Memory)?;
+    lists.interests.push(element).map_err(|_| AddStop::Memory)?;
     aids.interests[element as usize] = true;
     Ok(())
 }
 
-fn push_rule(m: &mut Lists, aids: &mut Aids, r: Rule) -> Result<(), AddStop>
-    requires aids { AreFor m.old aids.old }
-    requires allowed { IsAllowed m.old (Statement.Rule r) }
-    ensures lists { m.new ≡ (if is_ok result then added m.old (Statement.Rule r) else m.old) }
-    ensures aids { AreFor m.new aids.new }
+fn push_rule(lists: &mut Lists, aids: &mut Aids, rule: Rule) -> Result<(), AddStop>
+    requires aids { AreFor lists.old aids.old }
+    requires allowed { IsAllowed lists.old (Statement.Rule rule) }
+    ensures lists { lists.new ≡ (if is_ok result then added lists.old (Statement.Rule rule) else lists.old) }
+    ensures aids { AreFor lists.new aids.new }
     ensures memory { IfErr result (λ stop. stop ≡ AddStop.Memory) }
 {
-    let left = formulas::room_after(formulas::formula_of(&r), aids.node_room).unwrap_or(0);
-    m.rules.push(r).map_err(|_| AddStop::Memory)?;
+    let left = formulas::room_after(formulas::formula_of(&rule), aids.node_room).unwrap_or(0);
+    lists.rules.push(rule).map_err(|_| AddStop::Memory)?;
     aids.node_room = left;
     Ok(())
 }

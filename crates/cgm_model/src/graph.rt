@@ -50,15 +50,15 @@ pub(crate) fn grow(alloc: Global, graph: &mut Graph) -> Result<(), OutOfMemory>
 }
 
 /// Takes the refinement with this number into the graph.
-pub(crate) fn link(graph: &mut Graph, number: u32, r: &Refinement) -> Result<(), OutOfMemory>
-    requires known { IsKnown (length graph.old.marks.items) r.now }
+pub(crate) fn link(graph: &mut Graph, number: u32, refinement: &Refinement) -> Result<(), OutOfMemory>
+    requires known { IsKnown (length graph.old.marks.items) refinement.now }
     requires index { IsIndexOf [] graph.old }
     ensures kept { (rs : List Refinement) → IsIndexOf rs graph.old → IsIndexOf rs graph.new }
     ensures room { (count : ℕ) → HasRoomFor count graph.old → HasRoomFor count graph.new }
-    ensures linked { OnOk result ((rs : List Refinement) → number ≡ length rs → IsIndexOf rs graph.old → IsIndexOf (rs ++ r.now ∷ []) graph.new) }
+    ensures linked { OnOk result ((rs : List Refinement) → number ≡ length rs → IsIndexOf rs graph.old → IsIndexOf (rs ++ refinement.now ∷ []) graph.new) }
 {
-    graph.by_target[r.target as usize].push(number)?;
-    flag_each(&mut graph.is_source, r.sources.as_slice());
+    graph.by_target[refinement.target as usize].push(number)?;
+    flag_each(&mut graph.is_source, refinement.sources.as_slice());
     Ok(())
 }
 
@@ -74,16 +74,16 @@ fn flag_each(flags: &mut Vec<bool>, elements: &[u32])
 }
 
 /// Says whether the graph of the refinements still has no cycle with one more.
-pub(crate) fn stays_acyclic(graph: &mut Graph, refinements: &[Refinement], r: &Refinement) -> bool
+pub(crate) fn stays_acyclic(graph: &mut Graph, refinements: &[Refinement], refinement: &Refinement) -> bool
     requires acyclic { IsAcyclic refinements.now }
     requires index { IsIndexOf refinements.now graph.old }
     requires known { All (IsKnown (length graph.old.marks.items)) refinements.now }
-    requires new_known { IsKnown (length graph.old.marks.items) r.now }
-    ensures answer { IsTrue result ↔ IsAcyclic (refinements.now ++ r.now ∷ []) }
+    requires new_known { IsKnown (length graph.old.marks.items) refinement.now }
+    ensures answer { IsTrue result ↔ IsAcyclic (refinements.now ++ refinement.now ∷ []) }
     ensures kept { (rs : List Refinement) → IsIndexOf rs graph.old → IsIndexOf rs graph.new }
     ensures room { (count : ℕ) → HasRoomFor count graph.old → HasRoomFor count graph.new }
 {
-    if is_on_top(graph.is_source.as_slice(), r) {
+    if is_on_top(graph.is_source.as_slice(), refinement) {
         return true;
     }
     is_unreached(
@@ -91,17 +91,17 @@ pub(crate) fn stays_acyclic(graph: &mut Graph, refinements: &[Refinement], r: &R
         graph.marks.as_mut_slice(),
         graph.queue.as_mut_slice(),
         refinements,
-        r,
+        refinement,
     )
 }
 
 /// Says whether the target is no source, of this refinement neither.
-fn is_on_top(is_source: &[bool], r: &Refinement) -> bool
-    requires { r.now.target < length is_source.now }
-    ensures old { IsTrue result → slice_index_or is_source.now r.now.target false ≡ false }
-    ensures new { IsTrue result → list_any (λ y. y == r.now.target) r.now.sources ≡ false }
+fn is_on_top(is_source: &[bool], refinement: &Refinement) -> bool
+    requires { refinement.now.target < length is_source.now }
+    ensures old { IsTrue result → slice_index_or is_source.now refinement.now.target false ≡ false }
+    ensures new { IsTrue result → list_any (λ y. y == refinement.now.target) refinement.now.sources ≡ false }
 {
-    !is_source[r.target as usize] && !r.sources.as_slice().contains(&r.target)
+    !is_source[refinement.target as usize] && !refinement.sources.as_slice().contains(&refinement.target)
 }
 
 /// Says whether the target isn't reached from the sources.
@@ -110,20 +110,20 @@ fn is_unreached(
     marks: &mut [bool],
     queue: &mut [u32],
     refinements: &[Refinement],
-    r: &Refinement,
+    refinement: &Refinement,
 ) -> bool
     requires acyclic { IsAcyclic refinements.now }
     requires covered { IsCovered by_target.now refinements.now }
     requires targets { length marks.old ≤ length by_target.now }
     requires queue { length marks.old ≤ length queue.old }
     requires known { All (IsKnown (length marks.old)) refinements.now }
-    requires new_known { IsKnown (length marks.old) r.now }
-    ensures { IsTrue result ↔ IsAcyclic (refinements.now ++ r.now ∷ []) }
+    requires new_known { IsKnown (length marks.old) refinement.now }
+    ensures { IsTrue result ↔ IsAcyclic (refinements.now ++ refinement.now ∷ []) }
 {
     unmark_all(marks);
-    let count = mark_each(marks, queue, 0, r.sources.as_slice());
+    let count = mark_each(marks, queue, 0, refinement.sources.as_slice());
     fill(by_target, marks, queue, count, refinements);
-    !marks[r.target as usize]
+    !marks[refinement.target as usize]
 }
 
 pub(crate) fn unmark_all(marks: &mut [bool])

@@ -53,15 +53,15 @@ impl NameTable {
 }
 
 /// Says what the name stands for by the lists.
-pub(crate) fn find(m: &Lists, aids: &Aids, name: &[u8]) -> Option<Thing>
-    requires well_formed { IsWellFormed m.now }
-    requires aids { AreFor m.now aids.now }
-    ensures { result ≡ thing_named m.now name.now }
+pub(crate) fn find(lists: &Lists, aids: &Aids, name: &[u8]) -> Option<Thing>
+    requires well_formed { IsWellFormed lists.now }
+    requires aids { AreFor lists.now aids.now }
+    ensures { result ≡ thing_named lists.now name.now }
 {
     match aids.names.get(name) {
         None => None,
         Some(thing) => {
-            if is_named(m, name, thing) {
+            if is_named(lists, name, thing) {
                 return Some(thing);
             }
             None
@@ -69,32 +69,32 @@ pub(crate) fn find(m: &Lists, aids: &Aids, name: &[u8]) -> Option<Thing>
     }
 }
 
-pub(crate) fn is_new(m: &Lists, aids: &Aids, name: &[u8]) -> bool
-    requires well_formed { IsWellFormed m.now }
-    requires aids { AreFor m.now aids.now }
-    ensures { result ≡ is_new m.now name.now }
+pub(crate) fn is_new(lists: &Lists, aids: &Aids, name: &[u8]) -> bool
+    requires well_formed { IsWellFormed lists.now }
+    requires aids { AreFor lists.now aids.now }
+    ensures { result ≡ is_new lists.now name.now }
 {
-    find(m, aids, name).is_none()
+    find(lists, aids, name).is_none()
 }
 
 /// Says whether the thing has this name by the lists.
-fn is_named(m: &Lists, name: &[u8], thing: Thing) -> bool
-    ensures { IsTrue result ↔ IsNamed m.now name.now thing }
+fn is_named(lists: &Lists, name: &[u8], thing: Thing) -> bool
+    ensures { IsTrue result ↔ IsNamed lists.now name.now thing }
 {
     match thing {
-        Thing::Element(k) => match at(m.elements.as_slice(), k as usize) {
+        Thing::Element(k) => match at(lists.elements.as_slice(), k as usize) {
             None => false,
             Some(e) => e.name.is(name),
         },
-        Thing::Refinement(k) => match at(m.refinements.as_slice(), k as usize) {
+        Thing::Refinement(k) => match at(lists.refinements.as_slice(), k as usize) {
             None => false,
             Some(r) => r.name.is(name),
         },
-        Thing::Var(k) => match at(m.vars.as_slice(), k as usize) {
+        Thing::Var(k) => match at(lists.vars.as_slice(), k as usize) {
             None => false,
             Some(v) => v.name.is(name),
         },
-        Thing::Sum(k) => match at(m.sums.as_slice(), k as usize) {
+        Thing::Sum(k) => match at(lists.sums.as_slice(), k as usize) {
             None => false,
             Some(s) => s.name.is(name),
         },

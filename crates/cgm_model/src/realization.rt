@@ -43,308 +43,308 @@ pub enum Broken {
 /// bindings, goals with `must`, assertions and rules, each by number; none where the assignment is
 /// a realization. Condition: the assignment fits, and `sums` are the values of the sums. It takes
 /// no memory.
-pub fn is_realization(m: &Model, a: &Assignment, sums: &[i64]) -> Option<Broken>
-    requires fits { Fits (lists_of m.now) a.now }
-    requires sums { sums.now ≡ sums_of (lists_of m.now) a.now }
-    ensures { MatchOption result (IsRealization (lists_of m.now) a.now sums.now) (IsFirstBroken (lists_of m.now) a.now sums.now) }
+pub fn is_realization(model: &Model, assignment: &Assignment, sums: &[i64]) -> Option<Broken>
+    requires fits { Fits (lists_of model.now) assignment.now }
+    requires sums { sums.now ≡ sums_of (lists_of model.now) assignment.now }
+    ensures { MatchOption result (IsRealization (lists_of model.now) assignment.now sums.now) (IsFirstBroken (lists_of model.now) assignment.now sums.now) }
 {
-    if let Some(number) = first_broken_refinement(m, a) {
+    if let Some(number) = first_broken_refinement(model, assignment) {
         return Some(Broken::Refinement(number));
     }
-    if let Some(number) = first_broken_element(m, a) {
+    if let Some(number) = first_broken_element(model, assignment) {
         return Some(Broken::Element(number));
     }
-    if let Some(number) = first_broken_contrib(m, a) {
+    if let Some(number) = first_broken_contrib(model, assignment) {
         return Some(Broken::Contrib(number));
     }
-    if let Some(number) = first_broken_conflict(m, a) {
+    if let Some(number) = first_broken_conflict(model, assignment) {
         return Some(Broken::Conflict(number));
     }
-    if let Some(number) = first_broken_bind(m, a) {
+    if let Some(number) = first_broken_bind(model, assignment) {
         return Some(Broken::Bind(number));
     }
-    if let Some(number) = first_broken_must(m, a) {
+    if let Some(number) = first_broken_must(model, assignment) {
         return Some(Broken::Must(number));
     }
-    if let Some(number) = first_broken_assertion(m, a) {
+    if let Some(number) = first_broken_assertion(model, assignment) {
         return Some(Broken::Assert(number));
     }
-    first_broken_rule(m, a, sums).map(Broken::Rule)
+    first_broken_rule(model, assignment, sums).map(Broken::Rule)
 }
 
-fn first_broken_refinement(m: &Model, a: &Assignment) -> Option<u32>
+fn first_broken_refinement(model: &Model, assignment: &Assignment) -> Option<u32>
     ensures { MatchOption result
-        (Each (KeepsRefinement a.now) m.now.refinements)
-        (FirstFails (KeepsRefinement a.now) m.now.refinements) }
+        (Each (KeepsRefinement assignment.now) model.now.refinements)
+        (FirstFails (KeepsRefinement assignment.now) model.now.refinements) }
 {
-    for (number, r) in refinements(m).iter().enumerate() {
-        if !keeps_refinement(a, number as u32, r) {
+    for (number, r) in refinements(model).iter().enumerate() {
+        if !keeps_refinement(assignment, number as u32, r) {
             return Some(number as u32);
         }
     }
     None
 }
 
-fn first_broken_element(m: &Model, a: &Assignment) -> Option<u32>
+fn first_broken_element(model: &Model, assignment: &Assignment) -> Option<u32>
     ensures { MatchOption result
-        (Each (KeepsElement (lists_of m.now) a.now) m.now.elements)
-        (FirstFails (KeepsElement (lists_of m.now) a.now) m.now.elements) }
+        (Each (KeepsElement (lists_of model.now) assignment.now) model.now.elements)
+        (FirstFails (KeepsElement (lists_of model.now) assignment.now) model.now.elements) }
 {
-    for (number, e) in elements(m).iter().enumerate() {
-        if !keeps_element(m, a, number as u32, e) {
+    for (number, e) in elements(model).iter().enumerate() {
+        if !keeps_element(model, assignment, number as u32, e) {
             return Some(number as u32);
         }
     }
     None
 }
 
-fn first_broken_contrib(m: &Model, a: &Assignment) -> Option<u32>
-    ensures { MatchOption result (Each (KeepsContrib a.now) m.now.contribs) (FirstFails (KeepsContrib a.now) m.now.contribs) }
+fn first_broken_contrib(model: &Model, assignment: &Assignment) -> Option<u32>
+    ensures { MatchOption result (Each (KeepsContrib assignment.now) model.now.contribs) (FirstFails (KeepsContrib assignment.now) model.now.contribs) }
 {
-    for (number, e) in contribs(m).iter().enumerate() {
-        if !keeps_contrib(a, e) {
+    for (number, e) in contribs(model).iter().enumerate() {
+        if !keeps_contrib(assignment, e) {
             return Some(number as u32);
         }
     }
     None
 }
 
-fn first_broken_conflict(m: &Model, a: &Assignment) -> Option<u32>
-    ensures { MatchOption result (Each (KeepsConflict a.now) m.now.conflicts) (FirstFails (KeepsConflict a.now) m.now.conflicts) }
+fn first_broken_conflict(model: &Model, assignment: &Assignment) -> Option<u32>
+    ensures { MatchOption result (Each (KeepsConflict assignment.now) model.now.conflicts) (FirstFails (KeepsConflict assignment.now) model.now.conflicts) }
 {
-    for (number, e) in conflicts(m).iter().enumerate() {
-        if !keeps_conflict(a, e) {
+    for (number, e) in conflicts(model).iter().enumerate() {
+        if !keeps_conflict(assignment, e) {
             return Some(number as u32);
         }
     }
     None
 }
 
-fn first_broken_bind(m: &Model, a: &Assignment) -> Option<u32>
-    ensures { MatchOption result (Each (KeepsBind (lists_of m.now) a.now) m.now.binds) (FirstFails (KeepsBind (lists_of m.now) a.now) m.now.binds) }
+fn first_broken_bind(model: &Model, assignment: &Assignment) -> Option<u32>
+    ensures { MatchOption result (Each (KeepsBind (lists_of model.now) assignment.now) model.now.binds) (FirstFails (KeepsBind (lists_of model.now) assignment.now) model.now.binds) }
 {
-    for (number, e) in binds(m).iter().enumerate() {
-        if !keeps_bind(m, a, e) {
+    for (number, e) in binds(model).iter().enumerate() {
+        if !keeps_bind(model, assignment, e) {
             return Some(number as u32);
         }
     }
     None
 }
 
-fn first_broken_must(m: &Model, a: &Assignment) -> Option<u32>
+fn first_broken_must(model: &Model, assignment: &Assignment) -> Option<u32>
     ensures { MatchOption result
-        (Each (KeepsMust a.now) m.now.elements)
-        (FirstFails (KeepsMust a.now) m.now.elements) }
+        (Each (KeepsMust assignment.now) model.now.elements)
+        (FirstFails (KeepsMust assignment.now) model.now.elements) }
 {
-    for (number, e) in elements(m).iter().enumerate() {
-        if !keeps_must(a, number as u32, e) {
+    for (number, e) in elements(model).iter().enumerate() {
+        if !keeps_must(assignment, number as u32, e) {
             return Some(number as u32);
         }
     }
     None
 }
 
-fn first_broken_assertion(m: &Model, a: &Assignment) -> Option<u32>
+fn first_broken_assertion(model: &Model, assignment: &Assignment) -> Option<u32>
     ensures { MatchOption result
-        (Each (KeepsAssertion a.now) m.now.asserts)
-        (FirstFails (KeepsAssertion a.now) m.now.asserts) }
+        (Each (KeepsAssertion assignment.now) model.now.asserts)
+        (FirstFails (KeepsAssertion assignment.now) model.now.asserts) }
 {
-    for (number, assertion) in asserts(m).iter().enumerate() {
-        if !keeps_assertion(a, assertion) {
+    for (number, assertion) in asserts(model).iter().enumerate() {
+        if !keeps_assertion(assignment, assertion) {
             return Some(number as u32);
         }
     }
     None
 }
 
-fn first_broken_rule(m: &Model, a: &Assignment, sums: &[i64]) -> Option<u32>
-    requires fits { Fits (lists_of m.now) a.now }
-    requires sums { sums.now ≡ sums_of (lists_of m.now) a.now }
-    ensures { MatchOption result (Each (KeepsRule a.now sums.now) m.now.rules) (FirstFails (KeepsRule a.now sums.now) m.now.rules) }
+fn first_broken_rule(model: &Model, assignment: &Assignment, sums: &[i64]) -> Option<u32>
+    requires fits { Fits (lists_of model.now) assignment.now }
+    requires sums { sums.now ≡ sums_of (lists_of model.now) assignment.now }
+    ensures { MatchOption result (Each (KeepsRule assignment.now sums.now) model.now.rules) (FirstFails (KeepsRule assignment.now sums.now) model.now.rules) }
 {
-    for (number, rule) in rules(m).iter().enumerate() {
-        if !keeps_rule(a, sums, rule) {
+    for (number, rule) in rules(model).iter().enumerate() {
+        if !keeps_rule(assignment, sums, rule) {
             return Some(number as u32);
         }
     }
     None
 }
 
-fn keeps_refinement(a: &Assignment, number: u32, r: &Refinement) -> bool
-    ensures { IsTrue result ↔ KeepsRefinement a.now number r.now }
+fn keeps_refinement(assignment: &Assignment, number: u32, refinement: &Refinement) -> bool
+    ensures { IsTrue result ↔ KeepsRefinement assignment.now number refinement.now }
 {
-    let all = are_true(a, r.sources.as_slice());
-    if refinement_is_true(a, number) {
-        all && element_is_true(a, r.target)
+    let all = are_true(assignment, refinement.sources.as_slice());
+    if refinement_is_true(assignment, number) {
+        all && element_is_true(assignment, refinement.target)
     } else {
         !all
     }
 }
 
-fn keeps_element(m: &Model, a: &Assignment, number: u32, e: &Element) -> bool
-    ensures { IsTrue result ↔ KeepsElement (lists_of m.now) a.now number e.now }
+fn keeps_element(model: &Model, assignment: &Assignment, number: u32, element: &Element) -> bool
+    ensures { IsTrue result ↔ KeepsElement (lists_of model.now) assignment.now number element.now }
 {
-    if element_is_true(a, number) && is_refined(m, number) {
-        return has_true_refinement(m, a, number);
+    if element_is_true(assignment, number) && is_refined(model, number) {
+        return has_true_refinement(model, assignment, number);
     }
     true
 }
 
-fn keeps_contrib(a: &Assignment, e: &Edge) -> bool
-    ensures { IsTrue result ↔ KeepsContrib a.now 0 e.now }
+fn keeps_contrib(assignment: &Assignment, edge: &Edge) -> bool
+    ensures { IsTrue result ↔ KeepsContrib assignment.now 0 edge.now }
 {
-    !element_is_true(a, e.from) || element_is_true(a, e.to)
+    !element_is_true(assignment, edge.from) || element_is_true(assignment, edge.to)
 }
 
-fn keeps_conflict(a: &Assignment, e: &Edge) -> bool
-    ensures { IsTrue result ↔ KeepsConflict a.now 0 e.now }
+fn keeps_conflict(assignment: &Assignment, edge: &Edge) -> bool
+    ensures { IsTrue result ↔ KeepsConflict assignment.now 0 edge.now }
 {
-    !element_is_true(a, e.from) || !element_is_true(a, e.to)
+    !element_is_true(assignment, edge.from) || !element_is_true(assignment, edge.to)
 }
 
-fn keeps_bind(m: &Model, a: &Assignment, e: &Edge) -> bool
-    ensures { IsTrue result ↔ KeepsBind (lists_of m.now) a.now 0 e.now }
+fn keeps_bind(model: &Model, assignment: &Assignment, edge: &Edge) -> bool
+    ensures { IsTrue result ↔ KeepsBind (lists_of model.now) assignment.now 0 edge.now }
 {
-    if target_is_true(m, a, e.from) && target_is_true(m, a, e.to) {
-        return refinement_is_true(a, e.from) == refinement_is_true(a, e.to);
+    if target_is_true(model, assignment, edge.from) && target_is_true(model, assignment, edge.to) {
+        return refinement_is_true(assignment, edge.from) == refinement_is_true(assignment, edge.to);
     }
     true
 }
 
-fn target_is_true(m: &Model, a: &Assignment, number: u32) -> bool
-    ensures { IsTrue result ↔ TargetIsTrue (lists_of m.now) a.now number }
+fn target_is_true(model: &Model, assignment: &Assignment, number: u32) -> bool
+    ensures { IsTrue result ↔ TargetIsTrue (lists_of model.now) assignment.now number }
 {
-    match at(m.refinements.as_slice(), number as usize) {
+    match at(model.refinements.as_slice(), number as usize) {
         None => false,
-        Some(r) => element_is_true(a, r.target),
+        Some(r) => element_is_true(assignment, r.target),
     }
 }
 
-fn keeps_rule(a: &Assignment, sums: &[i64], rule: &Rule) -> bool
-    requires { AreSmallIn (number_in a.now sums.now) (formula_of rule.now) }
-    ensures { IsTrue result ↔ KeepsRule a.now sums.now 0 rule.now }
+fn keeps_rule(assignment: &Assignment, sums: &[i64], rule: &Rule) -> bool
+    requires { AreSmallIn (number_in assignment.now sums.now) (formula_of rule.now) }
+    ensures { IsTrue result ↔ KeepsRule assignment.now sums.now 0 rule.now }
 {
     match rule {
-        Rule::Positive(name, formula) => !name_is_true(a, *name) || holds(formula, a, sums),
-        Rule::Negative(name, formula) => name_is_true(a, *name) || holds(formula, a, sums),
-        Rule::Require(formula) => holds(formula, a, sums),
+        Rule::Positive(name, formula) => !name_is_true(assignment, *name) || holds(formula, assignment, sums),
+        Rule::Negative(name, formula) => name_is_true(assignment, *name) || holds(formula, assignment, sums),
+        Rule::Require(formula) => holds(formula, assignment, sums),
     }
 }
 
-pub(crate) fn name_is_true(a: &Assignment, name: Truth) -> bool
-    ensures { result ≡ name_in a.now name }
+pub(crate) fn name_is_true(assignment: &Assignment, name: Truth) -> bool
+    ensures { result ≡ name_in assignment.now name }
 {
     match name {
-        Truth::Element(number) => element_is_true(a, number),
-        Truth::Refinement(number) => refinement_is_true(a, number),
+        Truth::Element(number) => element_is_true(assignment, number),
+        Truth::Refinement(number) => refinement_is_true(assignment, number),
     }
 }
 
-fn keeps_must(a: &Assignment, number: u32, e: &Element) -> bool
-    ensures { IsTrue result ↔ KeepsMust a.now number e.now }
+fn keeps_must(assignment: &Assignment, number: u32, element: &Element) -> bool
+    ensures { IsTrue result ↔ KeepsMust assignment.now number element.now }
 {
-    !e.must || element_is_true(a, number)
+    !element.must || element_is_true(assignment, number)
 }
 
-fn keeps_assertion(a: &Assignment, assertion: &Assertion) -> bool
-    ensures { IsTrue result ↔ (ElementIsTrue a.now assertion.now.element ↔ IsTrue
+fn keeps_assertion(assignment: &Assignment, assertion: &Assertion) -> bool
+    ensures { IsTrue result ↔ (ElementIsTrue assignment.now assertion.now.element ↔ IsTrue
         assertion.now.truth) }
 {
-    element_is_true(a, assertion.element) == assertion.truth
+    element_is_true(assignment, assertion.element) == assertion.truth
 }
 
-fn is_refined(m: &Model, element: u32) -> bool
-    ensures { IsTrue result ↔ ((k : ℕ) × Refines (lists_of m.now) k element) }
+fn is_refined(model: &Model, element: u32) -> bool
+    ensures { IsTrue result ↔ ((k : ℕ) × Refines (lists_of model.now) k element) }
 {
-    !m.is_leaf(element)
+    !model.is_leaf(element)
 }
 
-fn has_true_refinement(m: &Model, a: &Assignment, element: u32) -> bool
-    ensures { IsTrue result ↔ ((k : ℕ) × (Refines (lists_of m.now) k element
-        × RefinementIsTrue a.now k)) }
+fn has_true_refinement(model: &Model, assignment: &Assignment, element: u32) -> bool
+    ensures { IsTrue result ↔ ((k : ℕ) × (Refines (lists_of model.now) k element
+        × RefinementIsTrue assignment.now k)) }
 {
-    for number in by_target(&m.facts, element) {
-        if is_true_refinement(m, a, *number, element) {
+    for number in by_target(&model.facts, element) {
+        if is_true_refinement(model, assignment, *number, element) {
             return true;
         }
     }
     false
 }
 
-fn is_true_refinement(m: &Model, a: &Assignment, number: u32, element: u32) -> bool
-    ensures { IsTrue result ↔ (Refines (lists_of m.now) number element
-        × RefinementIsTrue a.now number) }
+fn is_true_refinement(model: &Model, assignment: &Assignment, number: u32, element: u32) -> bool
+    ensures { IsTrue result ↔ (Refines (lists_of model.now) number element
+        × RefinementIsTrue assignment.now number) }
 {
-    match at(m.refinements.as_slice(), number as usize) {
+    match at(model.refinements.as_slice(), number as usize) {
         None => false,
-        Some(r) => r.target == element && refinement_is_true(a, number),
+        Some(r) => r.target == element && refinement_is_true(assignment, number),
     }
 }
 
-fn are_true(a: &Assignment, elements: &[u32]) -> bool
-    ensures { IsTrue result ↔ All (ElementIsTrue a.now) elements.now }
+fn are_true(assignment: &Assignment, elements: &[u32]) -> bool
+    ensures { IsTrue result ↔ All (ElementIsTrue assignment.now) elements.now }
 {
-    elements.iter().all(|element| element_is_true(a, *element))
+    elements.iter().all(|element| element_is_true(assignment, *element))
 }
 
-fn element_is_true(a: &Assignment, number: u32) -> bool
-    ensures { result ≡ slice_index_or a.now.elements number false }
+fn element_is_true(assignment: &Assignment, number: u32) -> bool
+    ensures { result ≡ slice_index_or assignment.now.elements number false }
 {
-    truth_at(a.elements.as_slice(), number)
+    truth_at(assignment.elements.as_slice(), number)
 }
 
-fn refinement_is_true(a: &Assignment, number: u32) -> bool
-    ensures { result ≡ slice_index_or a.now.refinements number false }
+fn refinement_is_true(assignment: &Assignment, number: u32) -> bool
+    ensures { result ≡ slice_index_or assignment.now.refinements number false }
 {
-    truth_at(a.refinements.as_slice(), number)
+    truth_at(assignment.refinements.as_slice(), number)
 }
 
-fn elements(m: &Model) -> &[Element]
-    ensures items { result.now ≡ m.now.elements }
+fn elements(model: &Model) -> &[Element]
+    ensures items { result.now ≡ model.now.elements }
     ensures few { length result.now ≤ limit_number limits.Elements }
 {
-    m.elements.as_slice()
+    model.elements.as_slice()
 }
 
-fn refinements(m: &Model) -> &[Refinement]
-    ensures items { result.now ≡ m.now.refinements }
+fn refinements(model: &Model) -> &[Refinement]
+    ensures items { result.now ≡ model.now.refinements }
     ensures few { length result.now ≤ limit_number limits.Refinements }
 {
-    m.refinements.as_slice()
+    model.refinements.as_slice()
 }
 
-fn asserts(m: &Model) -> &[Assertion]
-    ensures items { result.now ≡ m.now.asserts }
+fn asserts(model: &Model) -> &[Assertion]
+    ensures items { result.now ≡ model.now.asserts }
     ensures few { length result.now ≤ limit_number limits.Statements }
 {
-    m.asserts.as_slice()
+    model.asserts.as_slice()
 }
 
-fn contribs(m: &Model) -> &[Edge]
-    ensures items { result.now ≡ m.now.contribs }
+fn contribs(model: &Model) -> &[Edge]
+    ensures items { result.now ≡ model.now.contribs }
     ensures few { length result.now ≤ limit_number limits.Statements }
 {
-    m.contribs.as_slice()
+    model.contribs.as_slice()
 }
 
-fn conflicts(m: &Model) -> &[Edge]
-    ensures items { result.now ≡ m.now.conflicts }
+fn conflicts(model: &Model) -> &[Edge]
+    ensures items { result.now ≡ model.now.conflicts }
     ensures few { length result.now ≤ limit_number limits.Statements }
 {
-    m.conflicts.as_slice()
+    model.conflicts.as_slice()
 }
 
-fn binds(m: &Model) -> &[Edge]
-    ensures items { result.now ≡ m.now.binds }
+fn binds(model: &Model) -> &[Edge]
+    ensures items { result.now ≡ model.now.binds }
     ensures few { length result.now ≤ limit_number limits.Statements }
 {
-    m.binds.as_slice()
+    model.binds.as_slice()
 }
 
-fn rules(m: &Model) -> &[Rule]
-    ensures items { result.now ≡ m.now.rules }
+fn rules(model: &Model) -> &[Rule]
+    ensures items { result.now ≡ model.now.rules }
     ensures few { length result.now ≤ limit_number limits.Statements }
-    ensures small { (a : Assignment) (sums : List ℤ) → Fits (lists_of m.now) a → sums ≡ sums_of (lists_of m.now) a → All (λ r. AreSmallIn (number_in a sums) (formula_of r)) result.now }
+    ensures small { (a : Assignment) (sums : List ℤ) → Fits (lists_of model.now) a → sums ≡ sums_of (lists_of model.now) a → All (λ r. AreSmallIn (number_in a sums) (formula_of r)) result.now }
 {
-    m.rules.as_slice()
+    model.rules.as_slice()
 }

@@ -14,27 +14,27 @@ use std::alloc::{AllocError, Global};
 
 /// The value of each sum, in order: the numbers of its value lines whose element or refinement is
 /// true, added up. Condition: the assignment fits.
-pub fn sums(alloc: Global, m: &Model, a: &Assignment) -> Result<Vec<i64>, AllocError>
-    requires { Fits (lists_of m.now) a.now }
-    ensures { IfOk result (λ sums. sums.items ≡ sums_of (lists_of m.now) a.now) }
+pub fn sums(alloc: Global, model: &Model, assignment: &Assignment) -> Result<Vec<i64>, AllocError>
+    requires { Fits (lists_of model.now) assignment.now }
+    ensures { IfOk result (λ sums. sums.items ≡ sums_of (lists_of model.now) assignment.now) }
 {
-    let mut totals = vec![in alloc; 0; m.sums.as_slice().len()]?;
-    for v in values(m) {
-        add(&mut totals, a, v);
+    let mut totals = vec![in alloc; 0; model.sums.as_slice().len()]?;
+    for v in values(model) {
+        add(&mut totals, assignment, v);
     }
     Ok(totals)
 }
 
 /// Adds what the value line adds to its sum.
-fn add(totals: &mut Vec<i64>, a: &Assignment, v: &SumValue)
-    requires there { v.now.sum < length totals.old.items }
-    requires small { (k : ℕ) → unsigned_abs (slice_index_or totals.old.items k (pos 0)) + unsigned_abs v.now.k < 2 ^ 63 }
+fn add(totals: &mut Vec<i64>, assignment: &Assignment, value: &SumValue)
+    requires there { value.now.sum < length totals.old.items }
+    requires small { (k : ℕ) → unsigned_abs (slice_index_or totals.old.items k (pos 0)) + unsigned_abs value.now.k < 2 ^ 63 }
     ensures long { length totals.new.items ≡ length totals.old.items }
-    ensures added { (k : ℕ) → slice_index_or totals.new.items k (pos 0) ≡ slice_index_or totals.old.items k (pos 0) +ℤ value_for a.now k v.now }
+    ensures added { (k : ℕ) → slice_index_or totals.new.items k (pos 0) ≡ slice_index_or totals.old.items k (pos 0) +ℤ value_for assignment.now k value.now }
 {
-    if realization::name_is_true(a, v.of) {
-        let place = v.sum as usize;
-        totals[place] = plus(totals[place], v.k);
+    if realization::name_is_true(assignment, value.of) {
+        let place = value.sum as usize;
+        totals[place] = plus(totals[place], value.k);
     }
 }
 
@@ -45,11 +45,11 @@ fn plus(x: i64, y: i64) -> i64
     x + y
 }
 
-fn values(m: &Model) -> &[SumValue]
-    ensures items { result.now ≡ m.now.values }
-    ensures there { All (λ v. v.sum < length m.now.sums) result.now }
+fn values(model: &Model) -> &[SumValue]
+    ensures items { result.now ≡ model.now.values }
+    ensures there { All (λ v. v.sum < length model.now.sums) result.now }
     ensures small { All (λ v. unsigned_abs v.k ≤ limit_number limits.Coefficient) result.now }
     ensures few { length result.now ≤ limit_number limits.Statements }
 {
-    m.values.as_slice()
+    model.values.as_slice()
 }

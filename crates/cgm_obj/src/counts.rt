@@ -11,25 +11,25 @@ use cgm_formula::truth_at;
 use cgm_model::{Assignment, ElementKind, Model, Preference, Truth};
 
 /// Says whether the element is true; what isn't there is false, here and below.
-pub(crate) fn is_true(a: &Assignment, element: u32) -> bool
-    ensures { result ≡ costs.is_true a.now element }
+pub(crate) fn is_true(assignment: &Assignment, element: u32) -> bool
+    ensures { result ≡ costs.is_true assignment.now element }
 {
-    truth_at(a.elements.as_slice(), element)
+    truth_at(assignment.elements.as_slice(), element)
 }
 
-fn name_is_true(a: &Assignment, name: Truth) -> bool
-    ensures { result ≡ name_in a.now name }
+fn name_is_true(assignment: &Assignment, name: Truth) -> bool
+    ensures { result ≡ name_in assignment.now name }
 {
     match name {
-        Truth::Element(element) => is_true(a, element),
-        Truth::Refinement(refinement) => truth_at(a.refinements.as_slice(), refinement),
+        Truth::Element(element) => is_true(assignment, element),
+        Truth::Refinement(refinement) => truth_at(assignment.refinements.as_slice(), refinement),
     }
 }
 
-fn is_met(a: &Assignment, p: &Preference) -> bool
-    ensures { result ≡ counts.is_met a.now p.now }
+fn is_met(assignment: &Assignment, preference: &Preference) -> bool
+    ensures { result ≡ counts.is_met assignment.now preference.now }
 {
-    name_is_true(a, p.better) || !name_is_true(a, p.worse)
+    name_is_true(assignment, preference.better) || !name_is_true(assignment, preference.worse)
 }
 
 fn number(count: usize) -> i64
@@ -39,24 +39,24 @@ fn number(count: usize) -> i64
     count as i64
 }
 
-fn prefers(m: &Model) -> &[Preference]
-    ensures items { result.now ≡ m.now.prefers }
+fn prefers(model: &Model) -> &[Preference]
+    ensures items { result.now ≡ model.now.prefers }
     ensures few { length result.now ≤ limit_number limits.Statements }
 {
-    m.prefers.as_slice()
+    model.prefers.as_slice()
 }
 
-fn unmet_among(a: &Assignment, prefers: &[Preference]) -> usize
-    ensures { result ≡ count_by (λ p. not (counts.is_met a.now p)) prefers.now }
+fn unmet_among(assignment: &Assignment, prefers: &[Preference]) -> usize
+    ensures { result ≡ count_by (λ p. not (counts.is_met assignment.now p)) prefers.now }
 {
-    prefers.iter().filter(|p| !is_met(a, *p)).count()
+    prefers.iter().filter(|p| !is_met(assignment, *p)).count()
 }
 
 /// How many preferences aren't met.
-pub(crate) fn unsat_prefs(m: &Model, a: &Assignment) -> i64
-    ensures { result ≡ pos (counts.unsat_prefs (lists_of m.now) a.now) }
+pub(crate) fn unsat_prefs(model: &Model, assignment: &Assignment) -> i64
+    ensures { result ≡ pos (counts.unsat_prefs (lists_of model.now) assignment.now) }
 {
-    number(unmet_among(a, prefers(m)))
+    number(unmet_among(assignment, prefers(model)))
 }
 
 fn is_goal(kind: ElementKind) -> bool
@@ -69,10 +69,10 @@ fn is_goal(kind: ElementKind) -> bool
     }
 }
 
-fn is_free_goal(m: &Model, element: u32) -> bool
-    ensures { result ≡ counts.is_free_goal (slice_get m.now.elements element) }
+fn is_free_goal(model: &Model, element: u32) -> bool
+    ensures { result ≡ counts.is_free_goal (slice_get model.now.elements element) }
 {
-    match m.elements.as_slice().get(element as usize) {
+    match model.elements.as_slice().get(element as usize) {
         None => false,
         Some(e) => is_goal(e.kind) && !e.must,
     }
@@ -80,54 +80,54 @@ fn is_free_goal(m: &Model, element: u32) -> bool
 
 /// Says whether the element is a requirement without `must`: a goal without it that is a source of no
 /// refinement. It takes no memory.
-pub fn is_free_requirement(m: &Model, element: u32) -> bool
-    ensures { result ≡ counts.is_free_requirement (lists_of m.now) element }
+pub fn is_free_requirement(model: &Model, element: u32) -> bool
+    ensures { result ≡ counts.is_free_requirement (lists_of model.now) element }
 {
-    is_free_goal(m, element) && !m.is_source(element)
+    is_free_goal(model, element) && !model.is_source(element)
 }
 
 /// Says whether the element is a false requirement without `must`.
-fn is_unmet_requirement(m: &Model, a: &Assignment, element: u32) -> bool
-    ensures { result ≡ (counts.is_free_requirement (lists_of m.now) element && not (costs.is_true a.now element)) }
+fn is_unmet_requirement(model: &Model, assignment: &Assignment, element: u32) -> bool
+    ensures { result ≡ (counts.is_free_requirement (lists_of model.now) element && not (costs.is_true assignment.now element)) }
 {
-    is_free_requirement(m, element) && !is_true(a, element)
+    is_free_requirement(model, element) && !is_true(assignment, element)
 }
 
-fn element_count(m: &Model) -> u32
-    ensures { result ≡ length m.now.elements }
+fn element_count(model: &Model) -> u32
+    ensures { result ≡ length model.now.elements }
 {
-    m.elements.as_slice().len() as u32
+    model.elements.as_slice().len() as u32
 }
 
-fn unmet_requirements(m: &Model, a: &Assignment) -> usize
-    ensures count { result ≡ counts.unsat_reqs (lists_of m.now) a.now }
+fn unmet_requirements(model: &Model, assignment: &Assignment) -> usize
+    ensures count { result ≡ counts.unsat_reqs (lists_of model.now) assignment.now }
     ensures few { result ≤ limit_number limits.Statements }
 {
-    (0..element_count(m))
-        .filter(|element| is_unmet_requirement(m, a, *element))
+    (0..element_count(model))
+        .filter(|element| is_unmet_requirement(model, assignment, *element))
         .count()
 }
 
 /// How many requirements without `must` are false.
-pub(crate) fn unsat_reqs(m: &Model, a: &Assignment) -> i64
-    ensures { result ≡ pos (counts.unsat_reqs (lists_of m.now) a.now) }
+pub(crate) fn unsat_reqs(model: &Model, assignment: &Assignment) -> i64
+    ensures { result ≡ pos (counts.unsat_reqs (lists_of model.now) assignment.now) }
 {
-    number(unmet_requirements(m, a))
+    number(unmet_requirements(model, assignment))
 }
 
-fn true_leaf_tasks(m: &Model, a: &Assignment) -> usize
-    ensures count { result ≡ counts.sat_tasks (lists_of m.now) a.now }
+fn true_leaf_tasks(model: &Model, assignment: &Assignment) -> usize
+    ensures count { result ≡ counts.sat_tasks (lists_of model.now) assignment.now }
     ensures few { result ≤ limit_number limits.Statements }
 {
-    (0..element_count(m))
-        .filter(|element| m.is_leaf_task(*element))
-        .filter(|element| is_true(a, *element))
+    (0..element_count(model))
+        .filter(|element| model.is_leaf_task(*element))
+        .filter(|element| is_true(assignment, *element))
         .count()
 }
 
 /// How many leaf tasks are true.
-pub(crate) fn sat_tasks(m: &Model, a: &Assignment) -> i64
-    ensures { result ≡ pos (counts.sat_tasks (lists_of m.now) a.now) }
+pub(crate) fn sat_tasks(model: &Model, assignment: &Assignment) -> i64
+    ensures { result ≡ pos (counts.sat_tasks (lists_of model.now) assignment.now) }
 {
-    number(true_leaf_tasks(m, a))
+    number(true_leaf_tasks(model, assignment))
 }

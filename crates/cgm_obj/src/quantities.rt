@@ -12,19 +12,19 @@ use cgm_formula::number_at;
 use cgm_model::{Assignment, Model, Quantity};
 
 /// The value of a quantity.
-pub(crate) fn quantity(m: &Model, e: &Earlier, a: &Assignment, sums: &[i64], q: Quantity) -> i64
-    requires fits { Fits (lists_of m.now) a.now }
-    requires sums { sums.now ≡ sums_of (lists_of m.now) a.now }
-    ensures { result ≡ vectors.quantity (lists_of m.now) e.now.pairs a.now q }
+pub(crate) fn quantity(model: &Model, earlier: &Earlier, assignment: &Assignment, sums: &[i64], asked: Quantity) -> i64
+    requires fits { Fits (lists_of model.now) assignment.now }
+    requires sums { sums.now ≡ sums_of (lists_of model.now) assignment.now }
+    ensures { result ≡ vectors.quantity (lists_of model.now) earlier.now.pairs assignment.now asked }
 {
-    match q {
-        Quantity::Var(k) => number_at(a.vars.as_slice(), k),
+    match asked {
+        Quantity::Var(k) => number_at(assignment.vars.as_slice(), k),
         Quantity::Sum(k) => number_at(sums, k),
-        Quantity::Weight => weight(m, a),
-        Quantity::UnsatPrefs => unsat_prefs(m, a),
-        Quantity::UnsatReqs => unsat_reqs(m, a),
-        Quantity::SatTasks => sat_tasks(m, a),
-        Quantity::Familiarity => familiarity(m, e, a),
-        Quantity::Effort => effort(m, e, a),
+        Quantity::Weight => weight(model, assignment),
+        Quantity::UnsatPrefs => unsat_prefs(model, assignment),
+        Quantity::UnsatReqs => unsat_reqs(model, assignment),
+        Quantity::SatTasks => sat_tasks(model, assignment),
+        Quantity::Familiarity => familiarity(model, earlier, assignment),
+        Quantity::Effort => effort(model, earlier, assignment),
     }
 }

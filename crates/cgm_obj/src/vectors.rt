@@ -18,13 +18,13 @@ fn negated(x: i64) -> i64
 }
 
 /// The number of an objective in the vector.
-fn objective_number(m: &Model, e: &Earlier, a: &Assignment, sums: &[i64], o: Objective) -> i64
-    requires fits { Fits (lists_of m.now) a.now }
-    requires sums { sums.now ≡ sums_of (lists_of m.now) a.now }
-    ensures { result ≡ number_of_objective (lists_of m.now) e.now.pairs a.now o }
+fn objective_number(model: &Model, earlier: &Earlier, assignment: &Assignment, sums: &[i64], objective: Objective) -> i64
+    requires fits { Fits (lists_of model.now) assignment.now }
+    requires sums { sums.now ≡ sums_of (lists_of model.now) assignment.now }
+    ensures { result ≡ number_of_objective (lists_of model.now) earlier.now.pairs assignment.now objective }
 {
-    let number = quantity(m, e, a, sums, o.of);
-    if o.max {
+    let number = quantity(model, earlier, assignment, sums, objective.of);
+    if objective.max {
         return negated(number);
     }
     number
@@ -35,18 +35,18 @@ fn objective_number(m: &Model, e: &Earlier, a: &Assignment, sums: &[i64], o: Obj
 /// sums.
 pub fn vector(
     alloc: Global,
-    m: &Model,
-    e: &Earlier,
-    a: &Assignment,
+    model: &Model,
+    earlier: &Earlier,
+    assignment: &Assignment,
     sums: &[i64],
 ) -> Result<Vec<i64>, AllocError>
-    requires fits { Fits (lists_of m.now) a.now }
-    requires sums { sums.now ≡ sums_of (lists_of m.now) a.now }
-    ensures { IfOk result (λ numbers. numbers.items ≡ vector_of (lists_of m.now) e.now.pairs a.now) }
+    requires fits { Fits (lists_of model.now) assignment.now }
+    requires sums { sums.now ≡ sums_of (lists_of model.now) assignment.now }
+    ensures { IfOk result (λ numbers. numbers.items ≡ vector_of (lists_of model.now) earlier.now.pairs assignment.now) }
 {
     let mut numbers = Vec::new(alloc);
-    for o in m.objectives.as_slice() {
-        numbers.push(objective_number(m, e, a, sums, *o))?;
+    for o in model.objectives.as_slice() {
+        numbers.push(objective_number(model, earlier, assignment, sums, *o))?;
     }
     Ok(numbers)
 }

@@ -23,52 +23,52 @@ fn minus(x: i64, y: i64) -> i64
 }
 
 /// The number of the line, where its element is true; else 0.
-fn number_for(a: &Assignment, w: &Weighing) -> i64
-    requires { unsigned_abs w.now.k ≤ limit_number limits.Coefficient }
-    ensures number { result ≡ sums.weight_for a.now w.now }
+fn number_for(assignment: &Assignment, weighing: &Weighing) -> i64
+    requires { unsigned_abs weighing.now.k ≤ limit_number limits.Coefficient }
+    ensures number { result ≡ sums.weight_for assignment.now weighing.now }
     ensures small { unsigned_abs result ≤ limit_number limits.Coefficient }
 {
-    if is_true(a, w.element) {
-        return w.k;
+    if is_true(assignment, weighing.element) {
+        return weighing.k;
     }
     0
 }
 
 /// The numbers of these lines whose elements are true, added up.
-fn total(a: &Assignment, lines: &[Weighing]) -> i64
+fn total(assignment: &Assignment, lines: &[Weighing]) -> i64
     requires small { All (λ w. unsigned_abs w.k ≤ limit_number limits.Coefficient) lines.now }
     requires few { length lines.now ≤ limit_number limits.Statements }
-    ensures total { result ≡ sums.total_by (sums.weight_for a.now) lines.now }
+    ensures total { result ≡ sums.total_by (sums.weight_for assignment.now) lines.now }
     ensures small { unsigned_abs result ≤ 1000000000000 }
 {
     let mut total = 0;
     for line in lines {
-        total = plus(total, number_for(a, line));
+        total = plus(total, number_for(assignment, line));
     }
     total
 }
 
-fn penalties(m: &Model) -> &[Weighing]
-    ensures items { result.now ≡ m.now.penalties }
+fn penalties(model: &Model) -> &[Weighing]
+    ensures items { result.now ≡ model.now.penalties }
     ensures small { All (λ w. unsigned_abs w.k ≤ limit_number limits.Coefficient) result.now }
     ensures few { length result.now ≤ limit_number limits.Statements }
 {
-    m.penalties.as_slice()
+    model.penalties.as_slice()
 }
 
-fn rewards(m: &Model) -> &[Weighing]
-    ensures items { result.now ≡ m.now.rewards }
+fn rewards(model: &Model) -> &[Weighing]
+    ensures items { result.now ≡ model.now.rewards }
     ensures small { All (λ w. unsigned_abs w.k ≤ limit_number limits.Coefficient) result.now }
     ensures few { length result.now ≤ limit_number limits.Statements }
 {
-    m.rewards.as_slice()
+    model.rewards.as_slice()
 }
 
 /// The penalties of true elements minus the rewards of true elements.
-pub(crate) fn weight(m: &Model, a: &Assignment) -> i64
-    ensures { result ≡ sums.weight (lists_of m.now) a.now }
+pub(crate) fn weight(model: &Model, assignment: &Assignment) -> i64
+    ensures { result ≡ sums.weight (lists_of model.now) assignment.now }
 {
-    let penalty = total(a, penalties(m));
-    let reward = total(a, rewards(m));
+    let penalty = total(assignment, penalties(model));
+    let reward = total(assignment, rewards(model));
     minus(penalty, reward)
 }

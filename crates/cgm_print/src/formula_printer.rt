@@ -11,116 +11,116 @@ use crate::words::{Comparison, Joint};
 use cgm_model::{Formula, Linear, Model, Number};
 use std::alloc::AllocError as OutOfMemory;
 
-fn term(p: &mut Printer, m: &Model, term: (i64, Number)) -> Result<(), OutOfMemory>
-    ensures { OnOk result (Writes p.old p.new (spelled_term (written_term (lists_of m.now) term))) }
+fn term(printer: &mut Printer, model: &Model, term: (i64, Number)) -> Result<(), OutOfMemory>
+    ensures { OnOk result (Writes printer.old printer.new (spelled_term (written_term (lists_of model.now) term))) }
 {
-    let name = number_name(m, term.1);
+    let name = number_name(model, term.1);
     if term.0 == 1 {
-        return p.word(name);
+        return printer.word(name);
     }
-    p.open_with(b"*")?;
-    p.number(term.0)?;
-    p.word(name)?;
-    p.close()
+    printer.open_with(b"*")?;
+    printer.number(term.0)?;
+    printer.word(name)?;
+    printer.close()
 }
 
-fn terms(p: &mut Printer, m: &Model, terms: &[(i64, Number)]) -> Result<(), OutOfMemory>
-    ensures { OnOk result (Writes p.old p.new
-        (spelled_terms (map (written_term (lists_of m.now)) terms.now))) }
+fn terms(printer: &mut Printer, model: &Model, terms: &[(i64, Number)]) -> Result<(), OutOfMemory>
+    ensures { OnOk result (Writes printer.old printer.new
+        (spelled_terms (map (written_term (lists_of model.now)) terms.now))) }
 {
     for one in terms {
-        term(p, m, *one)?;
+        term(printer, model, *one)?;
     }
     Ok(())
 }
 
-fn linear(p: &mut Printer, m: &Model, linear: &[(i64, Number)]) -> Result<(), OutOfMemory>
-    ensures { OnOk result (Writes p.old p.new
-        (spelled_linear (written_linear (lists_of m.now) linear.now))) }
+fn linear(printer: &mut Printer, model: &Model, linear: &[(i64, Number)]) -> Result<(), OutOfMemory>
+    ensures { OnOk result (Writes printer.old printer.new
+        (spelled_linear (written_linear (lists_of model.now) linear.now))) }
 {
     match linear {
-        [] => p.word(b""),
-        [_] => terms(p, m, linear),
+        [] => printer.word(b""),
+        [_] => terms(printer, model, linear),
         [_, _, ..] => {
-            p.open_with(b"+")?;
-            terms(p, m, linear)?;
-            p.close()
+            printer.open_with(b"+")?;
+            terms(printer, model, linear)?;
+            printer.close()
         }
     }
 }
 
 fn comparison(
-    p: &mut Printer,
-    m: &Model,
+    printer: &mut Printer,
+    model: &Model,
     how: Comparison,
     total: &Linear,
     k: i64,
 ) -> Result<(), OutOfMemory>
-    ensures { OnOk result (Writes p.old p.new
-        (spelled (written_comparison how (written_linear (lists_of m.now) total.now.terms) k))) }
+    ensures { OnOk result (Writes printer.old printer.new
+        (spelled (written_comparison how (written_linear (lists_of model.now) total.now.terms) k))) }
 {
     let first = how.word();
-    p.open_with(first)?;
-    linear(p, m, total.terms.as_slice())?;
-    p.number(k)?;
-    p.close()
+    printer.open_with(first)?;
+    linear(printer, model, total.terms.as_slice())?;
+    printer.number(k)?;
+    printer.close()
 }
 
 /// Writes a formula.
 #[cycle(formula)]
-pub(crate) fn formula(p: &mut Printer, m: &Model, f: &Formula) -> Result<(), OutOfMemory>
-    ensures { OnOk result (Writes p.old p.new (spelled (written_formula (lists_of m.now) f.now))) }
+pub(crate) fn formula(printer: &mut Printer, model: &Model, tree: &Formula) -> Result<(), OutOfMemory>
+    ensures { OnOk result (Writes printer.old printer.new (spelled (written_formula (lists_of model.now) tree.now))) }
 {
-    match f {
-        Formula::Name(x) => p.word(truth_name(m, *x)),
+    match tree {
+        Formula::Name(x) => printer.word(truth_name(model, *x)),
         Formula::Not(part) => {
-            p.open_with(b"not")?;
-            formula(p, m, part.get())?;
-            p.close()
+            printer.open_with(b"not")?;
+            formula(printer, model, part.get())?;
+            printer.close()
         }
-        Formula::And(parts) => joined(p, m, Joint::And, parts.as_slice()),
-        Formula::Or(parts) => joined(p, m, Joint::Or, parts.as_slice()),
+        Formula::And(parts) => joined(printer, model, Joint::And, parts.as_slice()),
+        Formula::Or(parts) => joined(printer, model, Joint::Or, parts.as_slice()),
         Formula::Implies(one, other) => {
-            p.open_with(b"=>")?;
-            formula(p, m, one.get())?;
-            formula(p, m, other.get())?;
-            p.close()
+            printer.open_with(b"=>")?;
+            formula(printer, model, one.get())?;
+            formula(printer, model, other.get())?;
+            printer.close()
         }
         Formula::Iff(one, other) => {
-            p.open_with(b"iff")?;
-            formula(p, m, one.get())?;
-            formula(p, m, other.get())?;
-            p.close()
+            printer.open_with(b"iff")?;
+            formula(printer, model, one.get())?;
+            formula(printer, model, other.get())?;
+            printer.close()
         }
-        Formula::AtMost(total, k) => comparison(p, m, Comparison::AtMost, total, *k),
-        Formula::AtLeast(total, k) => comparison(p, m, Comparison::AtLeast, total, *k),
-        Formula::Equal(total, k) => comparison(p, m, Comparison::Equal, total, *k),
+        Formula::AtMost(total, k) => comparison(printer, model, Comparison::AtMost, total, *k),
+        Formula::AtLeast(total, k) => comparison(printer, model, Comparison::AtLeast, total, *k),
+        Formula::Equal(total, k) => comparison(printer, model, Comparison::Equal, total, *k),
     }
 }
 
 #[cycle(formula)]
-fn joined(p: &mut Printer, m: &Model, joint: Joint, parts: &[Formula]) -> Result<(), OutOfMemory>
-    ensures { OnOk result (Writes p.old p.new
-        (spelled (joined_with joint (map (written_formula (lists_of m.now)) parts.now)))) }
+fn joined(printer: &mut Printer, model: &Model, joint: Joint, parts: &[Formula]) -> Result<(), OutOfMemory>
+    ensures { OnOk result (Writes printer.old printer.new
+        (spelled (joined_with joint (map (written_formula (lists_of model.now)) parts.now)))) }
 {
     let first = joint.word();
     match parts {
-        [] => p.word(b""),
+        [] => printer.word(b""),
         [_, ..] => {
-            p.open_with(first)?;
-            each(p, m, parts)?;
-            p.close()
+            printer.open_with(first)?;
+            each(printer, model, parts)?;
+            printer.close()
         }
     }
 }
 
 #[cycle(formula)]
-fn each(p: &mut Printer, m: &Model, parts: &[Formula]) -> Result<(), OutOfMemory>
-    ensures { OnOk result (Writes p.old p.new
-        (spelled_each (formulas_of (map (written_formula (lists_of m.now)) parts.now)))) }
+fn each(printer: &mut Printer, model: &Model, parts: &[Formula]) -> Result<(), OutOfMemory>
+    ensures { OnOk result (Writes printer.old printer.new
+        (spelled_each (formulas_of (map (written_formula (lists_of model.now)) parts.now)))) }
 {
     for part in parts {
-        formula(p, m, part)?;
+        formula(printer, model, part)?;
     }
     Ok(())
 }

@@ -20,205 +20,205 @@ use cgm_model::{
 use std::alloc::AllocError as OutOfMemory;
 
 /// Begins the line of a statement of this sort.
-fn begin_statement(p: &mut Printer, sort: Sort) -> Result<(), OutOfMemory>
-    ensures { OnOk result (Begins p.old p.new (λ after. word (sort_word sort) ∷ after)) }
+fn begin_statement(printer: &mut Printer, sort: Sort) -> Result<(), OutOfMemory>
+    ensures { OnOk result (Begins printer.old printer.new (λ after. word (sort_word sort) ∷ after)) }
 {
-    p.begin_line(sort.word())?;
+    printer.begin_line(sort.word())?;
     Ok(())
 }
 
 /// Begins such a line with a name.
-fn named_line(p: &mut Printer, sort: Sort, name: &[u8]) -> Result<(), OutOfMemory>
-    ensures { OnOk result (Begins p.old p.new
+fn named_line(printer: &mut Printer, sort: Sort, name: &[u8]) -> Result<(), OutOfMemory>
+    ensures { OnOk result (Begins printer.old printer.new
         (λ after. word (sort_word sort) ∷ word name.now ∷ after)) }
 {
-    begin_statement(p, sort)?;
-    p.word(name)?;
+    begin_statement(printer, sort)?;
+    printer.word(name)?;
     Ok(())
 }
 
-fn goal_line(p: &mut Printer, name: &[u8], must: bool) -> Result<(), OutOfMemory>
-    ensures { OnOk result (IsLine p.old p.new (statement_tokens (goal name.now must))) }
+fn goal_line(printer: &mut Printer, name: &[u8], must: bool) -> Result<(), OutOfMemory>
+    ensures { OnOk result (IsLine printer.old printer.new (statement_tokens (goal name.now must))) }
 {
-    named_line(p, Sort::Goal, name)?;
+    named_line(printer, Sort::Goal, name)?;
     if must {
-        p.word(b"must")?;
+        printer.word(b"must")?;
     }
     Ok(())
 }
 
 /// Writes the line of an element, without its line feed, here and below.
-pub(crate) fn element(p: &mut Printer, e: &Element) -> Result<(), OutOfMemory>
-    ensures { OnOk result (IsLine p.old p.new
-        (statement_tokens (written_element e.now.name e.now.kind e.now.must))) }
+pub(crate) fn element(printer: &mut Printer, item: &Element) -> Result<(), OutOfMemory>
+    ensures { OnOk result (IsLine printer.old printer.new
+        (statement_tokens (written_element item.now.name item.now.kind item.now.must))) }
 {
-    match e.kind {
-        ElementKind::Goal => goal_line(p, e.name.as_slice(), e.must)?,
-        ElementKind::Task => named_line(p, Sort::Name(NameWord::Task), e.name.as_slice())?,
-        ElementKind::Assume => named_line(p, Sort::Name(NameWord::Assume), e.name.as_slice())?,
+    match item.kind {
+        ElementKind::Goal => goal_line(printer, item.name.as_slice(), item.must)?,
+        ElementKind::Task => named_line(printer, Sort::Name(NameWord::Task), item.name.as_slice())?,
+        ElementKind::Assume => named_line(printer, Sort::Name(NameWord::Assume), item.name.as_slice())?,
     }
     Ok(())
 }
 
-fn source_names(p: &mut Printer, m: &Model, numbers: &[u32]) -> Result<(), OutOfMemory>
-    ensures { OnOk result (Writes p.old p.new
-        (words_before (map (name_of_element (lists_of m.now)) numbers.now))) }
+fn source_names(printer: &mut Printer, model: &Model, numbers: &[u32]) -> Result<(), OutOfMemory>
+    ensures { OnOk result (Writes printer.old printer.new
+        (words_before (map (name_of_element (lists_of model.now)) numbers.now))) }
 {
     for number in numbers {
-        p.word(element_name(m, *number))?;
+        printer.word(element_name(model, *number))?;
     }
     Ok(())
 }
 
-pub(crate) fn refinement(p: &mut Printer, m: &Model, r: &Refinement) -> Result<(), OutOfMemory>
-    ensures { OnOk result (IsLine p.old p.new
-        (statement_tokens (written (lists_of m.now) (Statement.Refine r.now)))) }
+pub(crate) fn refinement(printer: &mut Printer, model: &Model, item: &Refinement) -> Result<(), OutOfMemory>
+    ensures { OnOk result (IsLine printer.old printer.new
+        (statement_tokens (written (lists_of model.now) (Statement.Refine item.now)))) }
 {
-    named_line(p, Sort::Refine, r.name.as_slice())?;
-    p.word(element_name(m, r.target))?;
-    p.colon()?;
-    let numbers = r.sources.as_slice();
+    named_line(printer, Sort::Refine, item.name.as_slice())?;
+    printer.word(element_name(model, item.target))?;
+    printer.colon()?;
+    let numbers = item.sources.as_slice();
     match numbers {
-        [] => p.word(b"")?,
-        [_, ..] => source_names(p, m, numbers)?,
+        [] => printer.word(b"")?,
+        [_, ..] => source_names(printer, model, numbers)?,
     }
     Ok(())
 }
 
-pub(crate) fn variable(p: &mut Printer, v: &Variable) -> Result<(), OutOfMemory>
-    ensures { OnOk result (IsLine p.old p.new
-        (word (codes "var") ∷ word v.now.name ∷ number v.now.lo ∷ number v.now.hi ∷ [])) }
+pub(crate) fn variable(printer: &mut Printer, item: &Variable) -> Result<(), OutOfMemory>
+    ensures { OnOk result (IsLine printer.old printer.new
+        (word (codes "var") ∷ word item.now.name ∷ number item.now.lo ∷ number item.now.hi ∷ [])) }
 {
-    named_line(p, Sort::Var, v.name.as_slice())?;
-    p.number(v.lo)?;
-    p.number(v.hi)?;
+    named_line(printer, Sort::Var, item.name.as_slice())?;
+    printer.number(item.lo)?;
+    printer.number(item.hi)?;
     Ok(())
 }
 
-fn pair(p: &mut Printer, sort: Sort, one: &[u8], other: &[u8]) -> Result<(), OutOfMemory>
-    ensures { OnOk result (IsLine p.old p.new
+fn pair(printer: &mut Printer, sort: Sort, one: &[u8], other: &[u8]) -> Result<(), OutOfMemory>
+    ensures { OnOk result (IsLine printer.old printer.new
         (word (sort_word sort) ∷ word one.now ∷ word other.now ∷ [])) }
 {
-    named_line(p, sort, one)?;
-    p.word(other)?;
+    named_line(printer, sort, one)?;
+    printer.word(other)?;
     Ok(())
 }
 
-pub(crate) fn contribution(p: &mut Printer, m: &Model, e: &Edge) -> Result<(), OutOfMemory>
-    ensures { OnOk result (IsLine p.old p.new
-        (statement_tokens (written (lists_of m.now) (Statement.Contrib e.now)))) }
+pub(crate) fn contribution(printer: &mut Printer, model: &Model, edge: &Edge) -> Result<(), OutOfMemory>
+    ensures { OnOk result (IsLine printer.old printer.new
+        (statement_tokens (written (lists_of model.now) (Statement.Contrib edge.now)))) }
 {
     pair(
-        p,
+        printer,
         Sort::Pair(PairWord::Contrib),
-        element_name(m, e.from),
-        element_name(m, e.to),
+        element_name(model, edge.from),
+        element_name(model, edge.to),
     )?;
     Ok(())
 }
 
-pub(crate) fn conflict(p: &mut Printer, m: &Model, e: &Edge) -> Result<(), OutOfMemory>
-    ensures { OnOk result (IsLine p.old p.new
-        (statement_tokens (written (lists_of m.now) (Statement.Conflict e.now)))) }
+pub(crate) fn conflict(printer: &mut Printer, model: &Model, edge: &Edge) -> Result<(), OutOfMemory>
+    ensures { OnOk result (IsLine printer.old printer.new
+        (statement_tokens (written (lists_of model.now) (Statement.Conflict edge.now)))) }
 {
     pair(
-        p,
+        printer,
         Sort::Pair(PairWord::Conflict),
-        element_name(m, e.from),
-        element_name(m, e.to),
+        element_name(model, edge.from),
+        element_name(model, edge.to),
     )?;
     Ok(())
 }
 
-pub(crate) fn binding(p: &mut Printer, m: &Model, e: &Edge) -> Result<(), OutOfMemory>
-    ensures { OnOk result (IsLine p.old p.new
-        (statement_tokens (written (lists_of m.now) (Statement.Bind e.now)))) }
+pub(crate) fn binding(printer: &mut Printer, model: &Model, edge: &Edge) -> Result<(), OutOfMemory>
+    ensures { OnOk result (IsLine printer.old printer.new
+        (statement_tokens (written (lists_of model.now) (Statement.Bind edge.now)))) }
 {
     pair(
-        p,
+        printer,
         Sort::Pair(PairWord::Bind),
-        refinement_name(m, e.from),
-        refinement_name(m, e.to),
+        refinement_name(model, edge.from),
+        refinement_name(model, edge.to),
     )?;
     Ok(())
 }
 
-pub(crate) fn assertion(p: &mut Printer, m: &Model, a: &Assertion) -> Result<(), OutOfMemory>
-    ensures { OnOk result (IsLine p.old p.new
-        (statement_tokens (written (lists_of m.now) (Statement.Assert a.now)))) }
+pub(crate) fn assertion(printer: &mut Printer, model: &Model, item: &Assertion) -> Result<(), OutOfMemory>
+    ensures { OnOk result (IsLine printer.old printer.new
+        (statement_tokens (written (lists_of model.now) (Statement.Assert item.now)))) }
 {
     pair(
-        p,
+        printer,
         Sort::Assert,
-        element_name(m, a.element),
-        truth_word(a.truth),
+        element_name(model, item.element),
+        truth_word(item.truth),
     )?;
     Ok(())
 }
 
-pub(crate) fn sum(p: &mut Printer, s: &Sum) -> Result<(), OutOfMemory>
-    ensures { OnOk result (IsLine p.old p.new (word (codes "sum") ∷ word s.now.name ∷ [])) }
+pub(crate) fn sum(printer: &mut Printer, of_sum: &Sum) -> Result<(), OutOfMemory>
+    ensures { OnOk result (IsLine printer.old printer.new (word (codes "sum") ∷ word of_sum.now.name ∷ [])) }
 {
-    named_line(p, Sort::Name(NameWord::Sum), s.name.as_slice())?;
+    named_line(printer, Sort::Name(NameWord::Sum), of_sum.name.as_slice())?;
     Ok(())
 }
 
-pub(crate) fn value(p: &mut Printer, m: &Model, v: &SumValue) -> Result<(), OutOfMemory>
-    ensures { OnOk result (IsLine p.old p.new
-        (statement_tokens (written (lists_of m.now) (Statement.Value v.now)))) }
+pub(crate) fn value(printer: &mut Printer, model: &Model, item: &SumValue) -> Result<(), OutOfMemory>
+    ensures { OnOk result (IsLine printer.old printer.new
+        (statement_tokens (written (lists_of model.now) (Statement.Value item.now)))) }
 {
-    named_line(p, Sort::Value, sum_name(m, v.sum))?;
-    p.word(truth_name(m, v.of))?;
-    p.number(v.k)?;
+    named_line(printer, Sort::Value, sum_name(model, item.sum))?;
+    printer.word(truth_name(model, item.of))?;
+    printer.number(item.k)?;
     Ok(())
 }
 
-fn weighing(p: &mut Printer, m: &Model, sort: Sort, w: &Weighing) -> Result<(), OutOfMemory>
-    ensures { OnOk result (IsLine p.old p.new
-        (word (sort_word sort) ∷ word (name_of_element (lists_of m.now) w.now.element)
-        ∷ number w.now.k ∷ [])) }
+fn weighing(printer: &mut Printer, model: &Model, sort: Sort, item: &Weighing) -> Result<(), OutOfMemory>
+    ensures { OnOk result (IsLine printer.old printer.new
+        (word (sort_word sort) ∷ word (name_of_element (lists_of model.now) item.now.element)
+        ∷ number item.now.k ∷ [])) }
 {
-    named_line(p, sort, element_name(m, w.element))?;
-    p.number(w.k)?;
+    named_line(printer, sort, element_name(model, item.element))?;
+    printer.number(item.k)?;
     Ok(())
 }
 
-pub(crate) fn reward(p: &mut Printer, m: &Model, w: &Weighing) -> Result<(), OutOfMemory>
-    ensures { OnOk result (IsLine p.old p.new
-        (statement_tokens (written (lists_of m.now) (Statement.Reward w.now)))) }
+pub(crate) fn reward(printer: &mut Printer, model: &Model, item: &Weighing) -> Result<(), OutOfMemory>
+    ensures { OnOk result (IsLine printer.old printer.new
+        (statement_tokens (written (lists_of model.now) (Statement.Reward item.now)))) }
 {
-    weighing(p, m, Sort::Weight(WeightWord::Reward), w)
+    weighing(printer, model, Sort::Weight(WeightWord::Reward), item)
 }
 
-pub(crate) fn penalty(p: &mut Printer, m: &Model, w: &Weighing) -> Result<(), OutOfMemory>
-    ensures { OnOk result (IsLine p.old p.new
-        (statement_tokens (written (lists_of m.now) (Statement.Penalty w.now)))) }
+pub(crate) fn penalty(printer: &mut Printer, model: &Model, item: &Weighing) -> Result<(), OutOfMemory>
+    ensures { OnOk result (IsLine printer.old printer.new
+        (statement_tokens (written (lists_of model.now) (Statement.Penalty item.now)))) }
 {
-    weighing(p, m, Sort::Weight(WeightWord::Penalty), w)
+    weighing(printer, model, Sort::Weight(WeightWord::Penalty), item)
 }
 
 pub(crate) fn preference(
-    p: &mut Printer,
-    m: &Model,
+    printer: &mut Printer,
+    model: &Model,
     preferred: &Preference,
 ) -> Result<(), OutOfMemory>
-    ensures { OnOk result (IsLine p.old p.new
-        (statement_tokens (written (lists_of m.now) (Statement.Prefer preferred.now)))) }
+    ensures { OnOk result (IsLine printer.old printer.new
+        (statement_tokens (written (lists_of model.now) (Statement.Prefer preferred.now)))) }
 {
     pair(
-        p,
+        printer,
         Sort::Pair(PairWord::Prefer),
-        truth_name(m, preferred.better),
-        truth_name(m, preferred.worse),
+        truth_name(model, preferred.better),
+        truth_name(model, preferred.worse),
     )?;
     Ok(())
 }
 
-pub(crate) fn interest(p: &mut Printer, m: &Model, k: u32) -> Result<(), OutOfMemory>
-    ensures { OnOk result (IsLine p.old p.new
-        (statement_tokens (written (lists_of m.now) (Statement.Interest k)))) }
+pub(crate) fn interest(printer: &mut Printer, model: &Model, k: u32) -> Result<(), OutOfMemory>
+    ensures { OnOk result (IsLine printer.old printer.new
+        (statement_tokens (written (lists_of model.now) (Statement.Interest k)))) }
 {
-    named_line(p, Sort::Name(NameWord::Interest), element_name(m, k))?;
+    named_line(printer, Sort::Name(NameWord::Interest), element_name(model, k))?;
     Ok(())
 }
 
@@ -232,52 +232,52 @@ fn direction_word(max: bool) -> &'static [u8]
     }
 }
 
-pub(crate) fn objective(p: &mut Printer, m: &Model, o: &Objective) -> Result<(), OutOfMemory>
-    ensures { OnOk result (IsLine p.old p.new
-        (statement_tokens (written (lists_of m.now) (Statement.Objective o.now)))) }
+pub(crate) fn objective(printer: &mut Printer, model: &Model, item: &Objective) -> Result<(), OutOfMemory>
+    ensures { OnOk result (IsLine printer.old printer.new
+        (statement_tokens (written (lists_of model.now) (Statement.Objective item.now)))) }
 {
     pair(
-        p,
+        printer,
         Sort::Objective,
-        direction_word(o.max),
-        quantity_name(m, o.of),
+        direction_word(item.max),
+        quantity_name(model, item.of),
     )?;
     Ok(())
 }
 
 fn condition(
-    p: &mut Printer,
-    m: &Model,
+    printer: &mut Printer,
+    model: &Model,
     sort: Sort,
-    x: Truth,
-    f: &Formula,
+    truth: Truth,
+    tree: &Formula,
 ) -> Result<(), OutOfMemory>
-    ensures { OnOk result (IsLine p.old p.new
-        (word (sort_word sort) ∷ word (name_of_truth (lists_of m.now) x)
-        ∷ spelled (written_formula (lists_of m.now) f.now) [])) }
+    ensures { OnOk result (IsLine printer.old printer.new
+        (word (sort_word sort) ∷ word (name_of_truth (lists_of model.now) truth)
+        ∷ spelled (written_formula (lists_of model.now) tree.now) [])) }
 {
-    named_line(p, sort, truth_name(m, x))?;
-    formula(p, m, f)?;
+    named_line(printer, sort, truth_name(model, truth))?;
+    formula(printer, model, tree)?;
     Ok(())
 }
 
-fn requirement(p: &mut Printer, m: &Model, f: &Formula) -> Result<(), OutOfMemory>
-    ensures { OnOk result (IsLine p.old p.new
-        (word (codes "require") ∷ spelled (written_formula (lists_of m.now) f.now) [])) }
+fn requirement(printer: &mut Printer, model: &Model, tree: &Formula) -> Result<(), OutOfMemory>
+    ensures { OnOk result (IsLine printer.old printer.new
+        (word (codes "require") ∷ spelled (written_formula (lists_of model.now) tree.now) [])) }
 {
-    begin_statement(p, Sort::Require)?;
-    formula(p, m, f)?;
+    begin_statement(printer, Sort::Require)?;
+    formula(printer, model, tree)?;
     Ok(())
 }
 
-pub(crate) fn rule(p: &mut Printer, m: &Model, r: &Rule) -> Result<(), OutOfMemory>
-    ensures { OnOk result (IsLine p.old p.new
-        (statement_tokens (written_rule (lists_of m.now) r.now))) }
+pub(crate) fn rule(printer: &mut Printer, model: &Model, item: &Rule) -> Result<(), OutOfMemory>
+    ensures { OnOk result (IsLine printer.old printer.new
+        (statement_tokens (written_rule (lists_of model.now) item.now))) }
 {
-    match r {
-        Rule::Positive(x, f) => condition(p, m, Sort::Condition(ConditionWord::Positive), *x, f)?,
-        Rule::Negative(x, f) => condition(p, m, Sort::Condition(ConditionWord::Negative), *x, f)?,
-        Rule::Require(f) => requirement(p, m, f)?,
+    match item {
+        Rule::Positive(x, f) => condition(printer, model, Sort::Condition(ConditionWord::Positive), *x, f)?,
+        Rule::Negative(x, f) => condition(printer, model, Sort::Condition(ConditionWord::Negative), *x, f)?,
+        Rule::Require(f) => requirement(printer, model, f)?,
     }
     Ok(())
 }

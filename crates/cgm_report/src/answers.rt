@@ -14,48 +14,48 @@ use std::alloc::Global;
 /// The report of an answer.
 ///
 /// Conditions: each assignment in it fits the model, and its vector has a number for each objective.
-pub fn report(alloc: Global, m: &Model, answer: &Answer) -> Result<Vec<u8>, OutOfMemory>
-    requires { IsReportable (lists_of m.now) answer.now }
-    ensures { IfOk result (λ report. report.items ≡ report_of (lists_of m.now) answer.now) }
+pub fn report(alloc: Global, model: &Model, answer: &Answer) -> Result<Vec<u8>, OutOfMemory>
+    requires { IsReportable (lists_of model.now) answer.now }
+    ensures { IfOk result (λ report. report.items ≡ report_of (lists_of model.now) answer.now) }
 {
     match answer {
-        Answer::Realized { found, .. } => realized(alloc, m, found),
+        Answer::Realized { found, .. } => realized(alloc, model, found),
         Answer::Unrealizable { .. } => Vec::from_slice(alloc, b"unrealizable\n"),
-        Answer::Exhausted { best, spent, .. } => exhausted(alloc, m, best, spent.as_slice()),
-        Answer::Open { best } => left_open(alloc, m, best),
+        Answer::Exhausted { best, spent, .. } => exhausted(alloc, model, best, spent.as_slice()),
+        Answer::Open { best } => left_open(alloc, model, best),
     }
 }
 
-fn realized(alloc: Global, m: &Model, found: &Found) -> Result<Vec<u8>, OutOfMemory>
-    requires { IsShowable (lists_of m.now) found.now }
-    ensures { IfOk result (λ report. report.items ≡ shown_report (lists_of m.now) found.now) }
+fn realized(alloc: Global, model: &Model, found: &Found) -> Result<Vec<u8>, OutOfMemory>
+    requires { IsShowable (lists_of model.now) found.now }
+    ensures { IfOk result (λ report. report.items ≡ shown_report (lists_of model.now) found.now) }
 {
     let mut report = Vec::from_slice(alloc, b"realized\n")?;
-    push_found(alloc, &mut report, m, found)?;
+    push_found(alloc, &mut report, model, found)?;
     Ok(report)
 }
 
 fn exhausted(
     alloc: Global,
-    m: &Model,
+    model: &Model,
     best: &Option<Found>,
     spent: &[u64],
 ) -> Result<Vec<u8>, OutOfMemory>
-    requires { IfSome best.now (IsShowable (lists_of m.now)) }
-    ensures { IfOk result (λ report. report.items ≡ exhausted (lists_of m.now) best.now spent.now) }
+    requires { IfSome best.now (IsShowable (lists_of model.now)) }
+    ensures { IfOk result (λ report. report.items ≡ exhausted (lists_of model.now) best.now spent.now) }
 {
     let mut report = Vec::from_slice(alloc, b"exhausted\n")?;
     push_spent(alloc, &mut report, spent)?;
-    push_best(alloc, &mut report, m, best)?;
+    push_best(alloc, &mut report, model, best)?;
     Ok(report)
 }
 
-fn left_open(alloc: Global, m: &Model, best: &Option<Found>) -> Result<Vec<u8>, OutOfMemory>
-    requires { IfSome best.now (IsShowable (lists_of m.now)) }
-    ensures { IfOk result (λ report. report.items ≡ left_open (lists_of m.now) best.now) }
+fn left_open(alloc: Global, model: &Model, best: &Option<Found>) -> Result<Vec<u8>, OutOfMemory>
+    requires { IfSome best.now (IsShowable (lists_of model.now)) }
+    ensures { IfOk result (λ report. report.items ≡ left_open (lists_of model.now) best.now) }
 {
     let mut report = Vec::from_slice(alloc, b"open\n")?;
-    push_best(alloc, &mut report, m, best)?;
+    push_best(alloc, &mut report, model, best)?;
     Ok(report)
 }
 
@@ -63,18 +63,18 @@ fn left_open(alloc: Global, m: &Model, best: &Option<Found>) -> Result<Vec<u8>, 
 fn push_best(
     alloc: Global,
     report: &mut Vec<u8>,
-    m: &Model,
+    model: &Model,
     best: &Option<Found>,
 ) -> Result<(), OutOfMemory>
-    requires { IfSome best.now (IsShowable (lists_of m.now)) }
-    ensures { OnOk result (report.new.items ≡ report.old.items ++ best_lines (lists_of m.now)
+    requires { IfSome best.now (IsShowable (lists_of model.now)) }
+    ensures { OnOk result (report.new.items ≡ report.old.items ++ best_lines (lists_of model.now)
         best.now) }
 {
     match best {
         None => report.extend_from_slice(b"best none\n"),
         Some(found) => {
             report.extend_from_slice(b"best\n")?;
-            push_found(alloc, report, m, found)
+            push_found(alloc, report, model, found)
         }
     }
 }

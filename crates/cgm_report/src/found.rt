@@ -15,12 +15,12 @@ use std::alloc::Global;
 /// then for each element, refinement, variable and sum, in the order of the model.
 ///
 /// Conditions: the assignment fits the model, and the vector has a number for each objective.
-pub fn found_lines(alloc: Global, m: &Model, found: &Found) -> Result<Vec<u8>, OutOfMemory>
-    requires { IsShowable (lists_of m.now) found.now }
-    ensures { IfOk result (λ lines. lines.items ≡ shown_lines (lists_of m.now) found.now) }
+pub fn found_lines(alloc: Global, model: &Model, found: &Found) -> Result<Vec<u8>, OutOfMemory>
+    requires { IsShowable (lists_of model.now) found.now }
+    ensures { IfOk result (λ lines. lines.items ≡ shown_lines (lists_of model.now) found.now) }
 {
     let mut lines = Vec::new(alloc);
-    push_found(alloc, &mut lines, m, found)?;
+    push_found(alloc, &mut lines, model, found)?;
     Ok(lines)
 }
 
@@ -28,26 +28,26 @@ pub fn found_lines(alloc: Global, m: &Model, found: &Found) -> Result<Vec<u8>, O
 pub(crate) fn push_found(
     alloc: Global,
     report: &mut Vec<u8>,
-    m: &Model,
+    model: &Model,
     found: &Found,
 ) -> Result<(), OutOfMemory>
-    requires { IsShowable (lists_of m.now) found.now }
-    ensures { OnOk result (report.new.items ≡ report.old.items ++ shown_lines (lists_of m.now)
+    requires { IsShowable (lists_of model.now) found.now }
+    ensures { OnOk result (report.new.items ≡ report.old.items ++ shown_lines (lists_of model.now)
         found.now) }
 {
     let a = &found.assignment;
-    let values = sums(alloc, m, a)?;
+    let values = sums(alloc, model, a)?;
     push_objectives(
         alloc,
         report,
-        m,
-        m.objectives.as_slice(),
+        model,
+        model.objectives.as_slice(),
         found.vector.as_slice(),
     )?;
-    push_elements(report, m.elements.as_slice(), a.elements.as_slice())?;
-    push_refinements(report, m.refinements.as_slice(), a.refinements.as_slice())?;
-    push_variables(alloc, report, m.vars.as_slice(), a.vars.as_slice())?;
-    push_sums(alloc, report, m.sums.as_slice(), values.as_slice())
+    push_elements(report, model.elements.as_slice(), a.elements.as_slice())?;
+    push_refinements(report, model.refinements.as_slice(), a.refinements.as_slice())?;
+    push_variables(alloc, report, model.vars.as_slice(), a.vars.as_slice())?;
+    push_sums(alloc, report, model.sums.as_slice(), values.as_slice())
 }
 
 fn element_word(kind: ElementKind) -> &'static str
@@ -179,31 +179,31 @@ fn shown(max: bool, number: i64) -> i128
 fn push_objective(
     alloc: Global,
     report: &mut Vec<u8>,
-    m: &Model,
+    model: &Model,
     objective: &Objective,
     number: i64,
 ) -> Result<(), OutOfMemory>
-    ensures { OnOk result (report.new.items ≡ report.old.items ++ shown_line (lists_of m.now)
+    ensures { OnOk result (report.new.items ≡ report.old.items ++ shown_line (lists_of model.now)
         objective.now number) }
 {
     let word = objective_word(objective.max);
-    let name = quantity_name(m, objective.of);
+    let name = quantity_name(model, objective.of);
     push_number(alloc, report, word, name, shown(objective.max, number))
 }
 
 fn push_objectives(
     alloc: Global,
     report: &mut Vec<u8>,
-    m: &Model,
+    model: &Model,
     objectives: &[Objective],
     vector: &[i64],
 ) -> Result<(), OutOfMemory>
     requires { length vector.now ≡ length objectives.now }
-    ensures { OnOk result (report.new.items ≡ report.old.items ++ vector_lines (lists_of m.now)
+    ensures { OnOk result (report.new.items ≡ report.old.items ++ vector_lines (lists_of model.now)
         objectives.now vector.now) }
 {
     for (at, objective) in objectives.iter().enumerate() {
-        push_objective(alloc, report, m, objective, vector[at])?;
+        push_objective(alloc, report, model, objective, vector[at])?;
     }
     Ok(())
 }

@@ -17,25 +17,25 @@ use std::test::Fail;
 /// Whether each question has its answer.
 pub(crate) fn are_answered(
     alloc: Global,
-    m: &Model,
+    model: &Model,
     earlier: &Earlier,
     questions: &str,
 ) -> Result<bool, Fail> {
-    let encoded = encode(alloc, m, earlier)?;
-    are_answered_by(alloc, m, earlier, &encoded, questions)
+    let encoded = encode(alloc, model, earlier)?;
+    are_answered_by(alloc, model, earlier, &encoded, questions)
 }
 
 fn are_answered_by(
     alloc: Global,
-    m: &Model,
+    model: &Model,
     earlier: &Earlier,
     encoded: &Encoded,
     questions: &str,
 ) -> Result<bool, Fail>
-    requires { IsEncodingOf (lists_of m.now) earlier.now.pairs encoded.now }
+    requires { IsEncodingOf (lists_of model.now) earlier.now.pairs encoded.now }
 {
     for question in questions.split(';') {
-        if !is_answered(alloc, m, earlier, encoded, question)? {
+        if !is_answered(alloc, model, earlier, encoded, question)? {
             return Ok(false);
         }
     }
@@ -44,31 +44,31 @@ fn are_answered_by(
 
 fn is_answered(
     alloc: Global,
-    m: &Model,
+    model: &Model,
     earlier: &Earlier,
     encoded: &Encoded,
     question: &str,
 ) -> Result<bool, Fail>
-    requires { IsEncodingOf (lists_of m.now) earlier.now.pairs encoded.now }
+    requires { IsEncodingOf (lists_of model.now) earlier.now.pairs encoded.now }
 {
     match question.split_once(" = ") {
         None => Err(Fail::new("no question")),
         Some((asked, wanted)) => match parted(asked) {
-            ("extended", words) => is_extended(alloc, m, earlier, encoded, words, wanted),
+            ("extended", words) => is_extended(alloc, model, earlier, encoded, words, wanted),
             ("decoded", words) => is_decoded(alloc, encoded, words, wanted),
             _ => Err(Fail::new("no question")),
         },
     }
 }
 
-fn realizes(alloc: Global, m: &Model, a: &Assignment) -> Result<bool, Fail>
-    ensures { IfOk result (λ answer. IsTrue answer → Realizes (lists_of m.now) a.now) }
+fn realizes(alloc: Global, model: &Model, assignment: &Assignment) -> Result<bool, Fail>
+    ensures { IfOk result (λ answer. IsTrue answer → Realizes (lists_of model.now) assignment.now) }
 {
-    if !fits(m, a) {
+    if !fits(model, assignment) {
         return Ok(false);
     }
-    let totals = sums(alloc, m, a)?;
-    match is_realization(m, a, totals.as_slice()) {
+    let totals = sums(alloc, model, assignment)?;
+    match is_realization(model, assignment, totals.as_slice()) {
         None => Ok(true),
         Some(_) => Ok(false),
     }
@@ -76,33 +76,33 @@ fn realizes(alloc: Global, m: &Model, a: &Assignment) -> Result<bool, Fail>
 
 fn is_extended(
     alloc: Global,
-    m: &Model,
+    model: &Model,
     earlier: &Earlier,
     encoded: &Encoded,
     words: &str,
     wanted: &str,
 ) -> Result<bool, Fail>
-    requires { IsEncodingOf (lists_of m.now) earlier.now.pairs encoded.now }
+    requires { IsEncodingOf (lists_of model.now) earlier.now.pairs encoded.now }
 {
     let a = assignment(alloc, words)?;
-    has_extension(alloc, m, earlier, encoded, &a, wanted)
+    has_extension(alloc, model, earlier, encoded, &a, wanted)
 }
 
 /// Whether a realization's extension has these values.
 fn has_extension(
     alloc: Global,
-    m: &Model,
+    model: &Model,
     earlier: &Earlier,
     encoded: &Encoded,
-    a: &Assignment,
+    assignment: &Assignment,
     wanted: &str,
 ) -> Result<bool, Fail>
-    requires { IsEncodingOf (lists_of m.now) earlier.now.pairs encoded.now }
+    requires { IsEncodingOf (lists_of model.now) earlier.now.pairs encoded.now }
 {
-    if !realizes(alloc, m, a)? {
+    if !realizes(alloc, model, assignment)? {
         return Err(Fail::new("no realization of the model"));
     }
-    let values = extend(alloc, m, earlier, encoded, a)?;
+    let values = extend(alloc, model, earlier, encoded, assignment)?;
     are_numbers(alloc, wanted, values.as_slice())
 }
 
@@ -125,14 +125,14 @@ fn has_meaning(
     has_parts(alloc, &a, wanted)
 }
 
-fn has_parts(alloc: Global, a: &Assignment, wanted: &str) -> Result<bool, Fail> {
+fn has_parts(alloc: Global, assignment: &Assignment, wanted: &str) -> Result<bool, Fail> {
     let (elements, rest) = parted(wanted);
     let (refinements, vars) = parted(rest);
-    if !are_truths(alloc, elements, a.elements.as_slice())? {
+    if !are_truths(alloc, elements, assignment.elements.as_slice())? {
         return Ok(false);
     }
-    if !are_truths(alloc, refinements, a.refinements.as_slice())? {
+    if !are_truths(alloc, refinements, assignment.refinements.as_slice())? {
         return Ok(false);
     }
-    are_numbers(alloc, vars, a.vars.as_slice())
+    are_numbers(alloc, vars, assignment.vars.as_slice())
 }

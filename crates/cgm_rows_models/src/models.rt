@@ -47,26 +47,26 @@ fn model_of(alloc: Global, text: &str) -> Result<Model, Fail> {
 }
 
 /// Gives the memory of a model back.
-fn discard(m: Model) {
-    let _gone = m;
+fn discard(model: Model) {
+    let _gone = model;
 }
 
 /// Whether a model is answered so, where no earlier realization is known.
-fn is_answered_by(alloc: Global, m: &Model, asked: &Asked<'_>) -> Result<bool, Fail> {
+fn is_answered_by(alloc: Global, model: &Model, asked: &Asked<'_>) -> Result<bool, Fail> {
     let earlier = Earlier::unknown(alloc);
-    is_answered_after(alloc, m, &earlier, asked)
+    is_answered_after(alloc, model, &earlier, asked)
 }
 
 fn is_answered_after(
     alloc: Global,
-    m: &Model,
+    model: &Model,
     earlier: &Earlier,
     asked: &Asked<'_>,
 ) -> Result<bool, Fail> {
     match asked {
-        Asked::Questions(questions) => questions::are_answered(alloc, m, questions),
-        Asked::Encoded(questions) => encodings::are_answered(alloc, m, earlier, questions),
-        Asked::Entries(certificate, shown) => is_shown(alloc, m, earlier, certificate, shown),
-        Asked::Lines(words, vector, lines) => are_lines(alloc, m, words, vector, lines),
+        Asked::Questions(questions) => questions::are_answered(alloc, model, questions),
+        Asked::Encoded(questions) => encodings::are_answered(alloc, model, earlier, questions),
+        Asked::Entries(certificate, shown) => is_shown(alloc, model, earlier, certificate, shown),
+        Asked::Lines(words, vector, lines) => are_lines(alloc, model, words, vector, lines),
     }
 }

@@ -6,49 +6,49 @@ use std::alloc::Global;
 use std::test::Fail;
 
 /// Whether each question has its answer.
-pub(crate) fn are_answered(alloc: Global, m: &Model, questions: &str) -> Result<bool, Fail> {
+pub(crate) fn are_answered(alloc: Global, model: &Model, questions: &str) -> Result<bool, Fail> {
     for question in questions.split(';') {
-        if !is_answered(alloc, m, question)? {
+        if !is_answered(alloc, model, question)? {
             return Ok(false);
         }
     }
     Ok(true)
 }
 
-fn is_answered(alloc: Global, m: &Model, question: &str) -> Result<bool, Fail> {
+fn is_answered(alloc: Global, model: &Model, question: &str) -> Result<bool, Fail> {
     match question.split_once(" = ") {
         None => Err(Fail::new("no question")),
         Some((asked, wanted)) => match parted(asked) {
-            ("by", words) => breaks(alloc, m, words, wanted),
-            ("fits", words) => is_fitting(alloc, m, words, wanted),
+            ("by", words) => breaks(alloc, model, words, wanted),
+            ("fits", words) => is_fitting(alloc, model, words, wanted),
             _ => Err(Fail::new("no question")),
         },
     }
 }
 
-fn is_fitting(alloc: Global, m: &Model, words: &str, wanted: &str) -> Result<bool, Fail> {
+fn is_fitting(alloc: Global, model: &Model, words: &str, wanted: &str) -> Result<bool, Fail> {
     let a = assignment(alloc, words)?;
-    Ok(fits(m, &a) == (wanted == "yes"))
+    Ok(fits(model, &a) == (wanted == "yes"))
 }
 
 /// Whether the first rule that a fitting assignment breaks is the wanted one.
-fn breaks(alloc: Global, m: &Model, words: &str, wanted: &str) -> Result<bool, Fail> {
+fn breaks(alloc: Global, model: &Model, words: &str, wanted: &str) -> Result<bool, Fail> {
     let wanted = rule(wanted)?;
     let a = assignment(alloc, words)?;
-    breaks_first(alloc, m, &a, wanted)
+    breaks_first(alloc, model, &a, wanted)
 }
 
 fn breaks_first(
     alloc: Global,
-    m: &Model,
-    a: &Assignment,
+    model: &Model,
+    assignment: &Assignment,
     wanted: Option<Broken>,
 ) -> Result<bool, Fail> {
-    if !fits(m, a) {
+    if !fits(model, assignment) {
         return Err(Fail::new("no assignment to the model"));
     }
-    let totals = sums(alloc, m, a)?;
-    Ok(is_realization(m, a, totals.as_slice()) == wanted)
+    let totals = sums(alloc, model, assignment)?;
+    Ok(is_realization(model, assignment, totals.as_slice()) == wanted)
 }
 
 fn rule(words: &str) -> Result<Option<Broken>, Fail> {

@@ -25,36 +25,36 @@ pub(crate) enum Shown<'t> {
 /// Whether the entries of a certificate show this.
 pub(crate) fn is_shown(
     alloc: Global,
-    m: &Model,
+    model: &Model,
     earlier: &Earlier,
     certificate: &str,
     wanted: &Shown<'_>,
 ) -> Result<bool, Fail> {
     let entries = read_cert(alloc, certificate.as_bytes())?;
-    is_shown_by(alloc, m, earlier, entries.as_slice(), wanted)
+    is_shown_by(alloc, model, earlier, entries.as_slice(), wanted)
 }
 
 fn is_shown_by(
     alloc: Global,
-    m: &Model,
+    model: &Model,
     earlier: &Earlier,
     entries: &[Entry],
     wanted: &Shown<'_>,
 ) -> Result<bool, Fail> {
-    let verified = verify(alloc, m, earlier, entries)?;
-    is_verified(alloc, m, &verified, wanted)
+    let verified = verify(alloc, model, earlier, entries)?;
+    is_verified(alloc, model, &verified, wanted)
 }
 
 fn is_verified(
     alloc: Global,
-    m: &Model,
+    model: &Model,
     verified: &Verified,
     wanted: &Shown<'_>,
 ) -> Result<bool, Fail> {
     match verified {
         Verified::Refused { .. } => Ok(false),
         Verified::Shown(Answer::Realized { found, .. }) => match wanted {
-            Shown::Least(lines) => has_lines(alloc, m, found, lines),
+            Shown::Least(lines) => has_lines(alloc, model, found, lines),
             _ => Ok(false),
         },
         Verified::Shown(Answer::Unrealizable { .. }) => Ok(matches!(wanted, Shown::Never)),
@@ -63,32 +63,32 @@ fn is_verified(
 }
 
 /// Whether what is found can be shown, and has these lines.
-fn has_lines(alloc: Global, m: &Model, found: &Found, lines: &str) -> Result<bool, Fail> {
-    if !can_show(m, found) {
+fn has_lines(alloc: Global, model: &Model, found: &Found, lines: &str) -> Result<bool, Fail> {
+    if !can_show(model, found) {
         return Ok(false);
     }
-    Ok(found_lines(alloc, m, found)?.as_slice() == lines.as_bytes())
+    Ok(found_lines(alloc, model, found)?.as_slice() == lines.as_bytes())
 }
 
-fn can_show(m: &Model, found: &Found) -> bool
-    ensures { IsTrue result → IsShowable (lists_of m.now) found.now }
+fn can_show(model: &Model, found: &Found) -> bool
+    ensures { IsTrue result → IsShowable (lists_of model.now) found.now }
 {
-    if !fits(m, &found.assignment) {
+    if !fits(model, &found.assignment) {
         return false;
     }
-    found.vector.as_slice().len() == m.objectives.as_slice().len()
+    found.vector.as_slice().len() == model.objectives.as_slice().len()
 }
 
 /// Whether an assignment and its vector are shown by these lines.
 pub(crate) fn are_lines(
     alloc: Global,
-    m: &Model,
+    model: &Model,
     words: &str,
     vector: &str,
     lines: &str,
 ) -> Result<bool, Fail> {
     let found = found_of(alloc, words, vector)?;
-    has_lines(alloc, m, &found, lines)
+    has_lines(alloc, model, &found, lines)
 }
 
 fn found_of(alloc: Global, words: &str, vector: &str) -> Result<Found, Fail> {

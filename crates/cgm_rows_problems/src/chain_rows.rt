@@ -58,9 +58,9 @@ fn is_told(alloc: Global, text: &str, wanted: &str) -> Result<bool, Fail> {
     told
 }
 
-fn is_told_of(alloc: Global, p: &Problem, text: &str, wanted: &str) -> Result<bool, Fail> {
+fn is_told_of(alloc: Global, problem: &Problem, text: &str, wanted: &str) -> Result<bool, Fail> {
     let entries = read_cert(alloc, text.as_bytes())?;
-    is_told_by(alloc, p, entries.as_slice(), wanted)
+    is_told_by(alloc, problem, entries.as_slice(), wanted)
 }
 
 /// Whether the empty lemma, behind these lemmas, shows that the chain has no solution.

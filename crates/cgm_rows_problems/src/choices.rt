@@ -18,21 +18,21 @@ const MOST: u32 = 100;
 /// Whether what a statement says of decisions is so. Variables are raised on the way.
 pub(crate) fn is_chosen(
     alloc: Global,
-    p: &Problem,
-    t: &Trail,
+    problem: &Problem,
+    trail: &Trail,
     activity: &mut Activity,
     statement: &str,
 ) -> Result<bool, Fail>
-    requires problem { t.now.problem ≡ p.now }
-    requires order { length activity.old.weights ≡ var_count p.now }
-    ensures { length activity.new.weights ≡ var_count p.now }
+    requires problem { trail.now.problem ≡ problem.now }
+    requires order { length activity.old.weights ≡ var_count problem.now }
+    ensures { length activity.new.weights ≡ var_count problem.now }
 {
     let (head, rest) = parted(statement);
     match head {
-        "order" => is_ordered(alloc, p, t, rest),
-        "all" => are_all(alloc, p, rest),
-        "raise" => raise(p, activity, rest),
-        "heaviest" => is_heaviest(p, t, activity, rest),
+        "order" => is_ordered(alloc, problem, trail, rest),
+        "all" => are_all(alloc, problem, rest),
+        "raise" => raise(problem, activity, rest),
+        "heaviest" => is_heaviest(problem, trail, activity, rest),
         _ => Ok(true),
     }
 }
@@ -46,57 +46,57 @@ fn is_choice(word: &str, found: Option<Atom>) -> Result<bool, Fail> {
 }
 
 /// The order of a worker by a seed.
-fn order_of(alloc: Global, p: &Problem, seed: &str, worker: &str) -> Result<Order, Fail>
-    ensures { IfOk result (λ o. length o.variables ≡ var_count p.now) }
+fn order_of(alloc: Global, problem: &Problem, seed: &str, worker: &str) -> Result<Order, Fail>
+    ensures { IfOk result (λ o. length o.variables ≡ var_count problem.now) }
 {
     let seed = count(seed)?;
     let worker = place(worker)?;
-    Ok(Order::new(alloc, p, seed, worker)?)
+    Ok(Order::new(alloc, problem, seed, worker)?)
 }
 
-fn is_ordered(alloc: Global, p: &Problem, t: &Trail, words: &str) -> Result<bool, Fail>
-    requires { t.now.problem ≡ p.now }
+fn is_ordered(alloc: Global, problem: &Problem, trail: &Trail, words: &str) -> Result<bool, Fail>
+    requires { trail.now.problem ≡ problem.now }
 {
     let (seed, rest) = parted(words);
     let (worker, wanted) = parted(rest);
-    let mut order = order_of(alloc, p, seed, worker)?;
-    is_choice(wanted, decision(p, t, &mut order))
+    let mut order = order_of(alloc, problem, seed, worker)?;
+    is_choice(wanted, decision(problem, trail, &mut order))
 }
 
 /// What the order decides on the box of a trail.
-fn decision(p: &Problem, t: &Trail, order: &mut Order) -> Option<Atom>
-    requires problem { t.now.problem ≡ p.now }
-    requires order { length order.old.variables ≡ var_count p.now }
+fn decision(problem: &Problem, trail: &Trail, order: &mut Order) -> Option<Atom>
+    requires problem { trail.now.problem ≡ problem.now }
+    requires order { length order.old.variables ≡ var_count problem.now }
     ensures { order.new ≡ order.old }
 {
-    t.recall_trail();
-    next(t.state(), order)
+    trail.recall_trail();
+    next(trail.state(), order)
 }
 
-fn are_all(alloc: Global, p: &Problem, words: &str) -> Result<bool, Fail> {
+fn are_all(alloc: Global, problem: &Problem, words: &str) -> Result<bool, Fail> {
     let (seed, rest) = parted(words);
     let (worker, wanted) = parted(rest);
-    let mut order = order_of(alloc, p, seed, worker)?;
-    are_followed(alloc, p, &mut order, wanted)
+    let mut order = order_of(alloc, problem, seed, worker)?;
+    are_followed(alloc, problem, &mut order, wanted)
 }
 
-fn are_followed(alloc: Global, p: &Problem, order: &mut Order, wanted: &str) -> Result<bool, Fail>
-    requires { length order.old.variables ≡ var_count p.now }
+fn are_followed(alloc: Global, problem: &Problem, order: &mut Order, wanted: &str) -> Result<bool, Fail>
+    requires { length order.old.variables ≡ var_count problem.now }
 {
-    let mut t = Trail::new(alloc, p)?;
-    follow(p, &mut t, order, wanted)
+    let mut t = Trail::new(alloc, problem)?;
+    follow(problem, &mut t, order, wanted)
 }
 
 /// Whether there are so many decisions until all is fixed. Each is open when it is made.
-fn follow(p: &Problem, t: &mut Trail, order: &mut Order, wanted: &str) -> Result<bool, Fail>
-    requires problem { t.old.problem ≡ p.now }
-    requires order { length order.old.variables ≡ var_count p.now }
+fn follow(problem: &Problem, trail: &mut Trail, order: &mut Order, wanted: &str) -> Result<bool, Fail>
+    requires problem { trail.old.problem ≡ problem.now }
+    requires order { length order.old.variables ≡ var_count problem.now }
 {
     for made in 0..MOST {
-        match decision(p, t, order) {
+        match decision(problem, trail, order) {
             None => return Ok(is_count(wanted, u64::from(made))),
             Some(a) => {
-                if !make(p, t, Hint::Row(0), a)? {
+                if !make(problem, trail, Hint::Row(0), a)? {
                     return Ok(false);
                 }
             }
@@ -105,14 +105,14 @@ fn follow(p: &Problem, t: &mut Trail, order: &mut Order, wanted: &str) -> Result
     Ok(false)
 }
 
-fn raise(p: &Problem, activity: &mut Activity, words: &str) -> Result<bool, Fail>
-    requires { length activity.old.weights ≡ var_count p.now }
-    ensures { length activity.new.weights ≡ var_count p.now }
+fn raise(problem: &Problem, activity: &mut Activity, words: &str) -> Result<bool, Fail>
+    requires { length activity.old.weights ≡ var_count problem.now }
+    ensures { length activity.new.weights ≡ var_count problem.now }
 {
     let (x, times) = parted(words);
     let x = place(x)?;
     let times = place(times)?;
-    if x >= p.vars() {
+    if x >= problem.vars() {
         return Ok(false);
     }
     raise_often(activity, x, times);
@@ -131,10 +131,10 @@ fn raise_often(activity: &mut Activity, x: u32, times: u32)
     }
 }
 
-fn is_heaviest(p: &Problem, t: &Trail, activity: &Activity, wanted: &str) -> Result<bool, Fail>
-    requires problem { t.now.problem ≡ p.now }
-    requires order { length activity.now.weights ≡ var_count p.now }
+fn is_heaviest(problem: &Problem, trail: &Trail, activity: &Activity, wanted: &str) -> Result<bool, Fail>
+    requires problem { trail.now.problem ≡ problem.now }
+    requires order { length activity.now.weights ≡ var_count problem.now }
 {
-    t.recall_trail();
-    is_choice(wanted, activity.next(t.state()))
+    trail.recall_trail();
+    is_choice(wanted, activity.next(trail.state()))
 }

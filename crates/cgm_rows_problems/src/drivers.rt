@@ -44,16 +44,16 @@ fn failing<'t>(alloc: Global, driver: Driver, text: &'t str) -> Result<Option<&'
 fn failing_over<'t>(
     alloc: Global,
     driver: Driver,
-    p: &Problem,
+    problem: &Problem,
     text: &'t str,
 ) -> Result<Option<&'t str>, Fail> {
     match driver {
-        Driver::Narrowing => narrowing::failing(alloc, p, text),
-        Driver::Trails => trails::failing(alloc, p, text),
-        Driver::Values => values::failing(alloc, p, text),
-        Driver::Lessons => Ok(unless(lessons::is_taught(alloc, p, text)?, text)),
-        Driver::Runs => Ok(unless(runs::has_ended(alloc, p, text)?, text)),
-        Driver::Verdicts => Ok(unless(verdicts::is_told(alloc, p, text)?, text)),
+        Driver::Narrowing => narrowing::failing(alloc, problem, text),
+        Driver::Trails => trails::failing(alloc, problem, text),
+        Driver::Values => values::failing(alloc, problem, text),
+        Driver::Lessons => Ok(unless(lessons::is_taught(alloc, problem, text)?, text)),
+        Driver::Runs => Ok(unless(runs::has_ended(alloc, problem, text)?, text)),
+        Driver::Verdicts => Ok(unless(verdicts::is_told(alloc, problem, text)?, text)),
     }
 }
 

@@ -16,25 +16,25 @@ use std::test::Fail;
 /// Whether narrowing by what a hint names gives an open atom, with just its number.
 pub(crate) fn is_given(
     alloc: Global,
-    p: &Problem,
+    problem: &Problem,
     log: &IndexedLog<'_>,
-    b: &BoxState,
-    h: &Hint,
-    a: Atom,
+    bounds: &BoxState,
+    hint: &Hint,
+    atom: Atom,
 ) -> Result<bool, Fail>
-    requires accepted { IsAcceptedState p.now log.now }
-    requires in_box { IsBoxOf p.now.bounds b.now }
-    requires undecided { IsOpenIn b.now a }
-    ensures { IfOk result (λ given. IsTrue given → IsGivenBy p.now log.now b.now h.now a) }
+    requires accepted { IsAcceptedState problem.now log.now }
+    requires in_box { IsBoxOf problem.now.bounds bounds.now }
+    requires undecided { IsOpenIn bounds.now atom }
+    ensures { IfOk result (λ given. IsTrue given → IsGivenBy problem.now log.now bounds.now hint.now atom) }
 {
-    if !is_named(p, log, h) {
+    if !is_named(problem, log, hint) {
         return Ok(false);
     }
-    let made = copy_with(alloc, b, a)?;
-    let mut left = b.copy(alloc)?;
-    match narrow(p, log, &mut left, h) {
+    let made = copy_with(alloc, bounds, atom)?;
+    let mut left = bounds.copy(alloc)?;
+    match narrow(problem, log, &mut left, hint) {
         Narrowed::Same => Ok(false),
-        Narrowed::Tighter => Ok(is_same(&left, &made, a)),
+        Narrowed::Tighter => Ok(is_same(&left, &made, atom)),
         Narrowed::Conflict => Ok(false),
     }
 }
@@ -42,20 +42,20 @@ pub(crate) fn is_given(
 /// Whether what a hint names leaves nothing of a box.
 pub(crate) fn is_conflict(
     alloc: Global,
-    p: &Problem,
+    problem: &Problem,
     log: &IndexedLog<'_>,
-    b: &BoxState,
-    h: &Hint,
+    bounds: &BoxState,
+    hint: &Hint,
 ) -> Result<bool, Fail>
-    requires accepted { IsAcceptedState p.now log.now }
-    requires in_box { IsBoxOf p.now.bounds b.now }
-    ensures { IfOk result (λ found. IsTrue found → IsConflictIn p.now log.now [] b.now h.now) }
+    requires accepted { IsAcceptedState problem.now log.now }
+    requires in_box { IsBoxOf problem.now.bounds bounds.now }
+    ensures { IfOk result (λ found. IsTrue found → IsConflictIn problem.now log.now [] bounds.now hint.now) }
 {
-    if !is_named(p, log, h) {
+    if !is_named(problem, log, hint) {
         return Ok(false);
     }
-    let mut left = b.copy(alloc)?;
-    match narrow(p, log, &mut left, h) {
+    let mut left = bounds.copy(alloc)?;
+    match narrow(problem, log, &mut left, hint) {
         Narrowed::Same => Ok(false),
         Narrowed::Tighter => Ok(false),
         Narrowed::Conflict => Ok(true),
@@ -63,23 +63,23 @@ pub(crate) fn is_conflict(
 }
 
 /// Whether a hint names a clause or a row of the problem.
-fn is_named(p: &Problem, log: &IndexedLog<'_>, h: &Hint) -> bool
-    requires { IsAcceptedState p.now log.now }
-    ensures { IsTrue result → HasName p.now log.now h.now }
+fn is_named(problem: &Problem, log: &IndexedLog<'_>, hint: &Hint) -> bool
+    requires { IsAcceptedState problem.now log.now }
+    ensures { IsTrue result → HasName problem.now log.now hint.now }
 {
-    if !is_of_problem(h) {
+    if !is_of_problem(hint) {
         return false;
     }
-    match log.find(p, h) {
+    match log.find(problem, hint) {
         None => false,
         Some(_) => true,
     }
 }
 
-fn is_of_problem(h: &Hint) -> bool
-    ensures { IsTrue result → IsOfProblem h.now }
+fn is_of_problem(hint: &Hint) -> bool
+    ensures { IsTrue result → IsOfProblem hint.now }
 {
-    match *h {
+    match *hint {
         Hint::Clause(_) => true,
         Hint::Row(_) => true,
         Hint::Entry(_) => false,
@@ -88,28 +88,28 @@ fn is_of_problem(h: &Hint) -> bool
     }
 }
 
-fn copy_with(alloc: Global, b: &BoxState, a: Atom) -> Result<BoxState, Fail>
-    requires { IsOpenIn b.now a }
-    ensures { IfOk result (λ made. made ≡ made_true b.now a) }
+fn copy_with(alloc: Global, bounds: &BoxState, atom: Atom) -> Result<BoxState, Fail>
+    requires { IsOpenIn bounds.now atom }
+    ensures { IfOk result (λ made. made ≡ made_true bounds.now atom) }
 {
-    let mut made = b.copy(alloc)?;
-    made.assume(a);
+    let mut made = bounds.copy(alloc)?;
+    made.assume(atom);
     Ok(made)
 }
 
 /// Whether two boxes have the same bound of which an atom speaks, and the atom is true in the first.
-fn is_same(left: &BoxState, made: &BoxState, a: Atom) -> bool
-    requires left { a.var.0 < length left.now.lower }
-    requires made { a.var.0 < length made.now.lower }
-    ensures met { IsTrue result → IsTrue (is_true_in left.now a) }
-    ensures same { IsTrue result → bound_of left.now a ≡ bound_of made.now a }
+fn is_same(left: &BoxState, made: &BoxState, atom: Atom) -> bool
+    requires left { atom.var.0 < length left.now.lower }
+    requires made { atom.var.0 < length made.now.lower }
+    ensures met { IsTrue result → IsTrue (is_true_in left.now atom) }
+    ensures same { IsTrue result → bound_of left.now atom ≡ bound_of made.now atom }
 {
-    if !is_true(left, a) {
+    if !is_true(left, atom) {
         return false;
     }
-    if a.at_least {
-        left.lo(a.var) == made.lo(a.var)
+    if atom.at_least {
+        left.lo(atom.var) == made.lo(atom.var)
     } else {
-        left.hi(a.var) == made.hi(a.var)
+        left.hi(atom.var) == made.hi(atom.var)
     }
 }

@@ -18,62 +18,62 @@ use std::test::Fail;
 /// Opens a level by a decision.
 fn decide(
     alloc: Global,
-    p: &Problem,
+    problem: &Problem,
     log: &IndexedLog<'_>,
-    t: &mut Trail,
-    a: Atom,
+    trail: &mut Trail,
+    atom: Atom,
 ) -> Result<(), Fail>
-    requires { IsDriven p.now log.now t.old }
-    ensures { OnOk result (IsDriven p.now log.now t.new) }
+    requires { IsDriven problem.now log.now trail.old }
+    ensures { OnOk result (IsDriven problem.now log.now trail.new) }
 {
-    if !may_decide(alloc, p, t, a)? {
+    if !may_decide(alloc, problem, trail, atom)? {
         return Err(Fail::new("no decision"));
     }
-    t.open_level(a)?;
+    trail.open_level(atom)?;
     Ok(())
 }
 
 /// Makes an atom true that narrowing by a hint gives.
 fn follow(
     alloc: Global,
-    p: &Problem,
+    problem: &Problem,
     log: &IndexedLog<'_>,
-    t: &mut Trail,
+    trail: &mut Trail,
     by: Hint,
-    a: Atom,
+    atom: Atom,
 ) -> Result<(), Fail>
-    requires accepted { IsAcceptedState p.now log.now }
-    requires driven { IsDriven p.now log.now t.old }
-    ensures { OnOk result (IsDriven p.now log.now t.new) }
+    requires accepted { IsAcceptedState problem.now log.now }
+    requires driven { IsDriven problem.now log.now trail.old }
+    ensures { OnOk result (IsDriven problem.now log.now trail.new) }
 {
-    if !may_make(p, t, a) {
+    if !may_make(problem, trail, atom) {
         return Err(Fail::new("no open atom"));
     }
-    t.recall_trail();
-    if !is_given(alloc, p, log, t.state(), &by, a)? {
+    trail.recall_trail();
+    if !is_given(alloc, problem, log, trail.state(), &by, atom)? {
         return Err(Fail::new("no atom that the hint gives"));
     }
-    t.tighten(a, by)?;
+    trail.tighten(atom, by)?;
     Ok(())
 }
 
 fn take(
     alloc: Global,
-    p: &Problem,
+    problem: &Problem,
     log: &IndexedLog<'_>,
-    t: &mut Trail,
+    trail: &mut Trail,
     statement: &str,
 ) -> Result<(), Fail>
-    requires accepted { IsAcceptedState p.now log.now }
-    requires driven { IsDriven p.now log.now t.old }
-    ensures { OnOk result (IsDriven p.now log.now t.new) }
+    requires accepted { IsAcceptedState problem.now log.now }
+    requires driven { IsDriven problem.now log.now trail.old }
+    ensures { OnOk result (IsDriven problem.now log.now trail.new) }
 {
     let (head, rest) = parted(statement);
     match head {
-        "decide" => decide(alloc, p, log, t, atom(rest)?),
+        "decide" => decide(alloc, problem, log, trail, atom(rest)?),
         "follow" => {
             let (by, a) = reasoned(rest)?;
-            follow(alloc, p, log, t, by, a)
+            follow(alloc, problem, log, trail, by, a)
         }
         _ => Ok(()),
     }
@@ -82,17 +82,17 @@ fn take(
 /// Takes the steps of a text.
 fn drive(
     alloc: Global,
-    p: &Problem,
+    problem: &Problem,
     log: &IndexedLog<'_>,
-    t: &mut Trail,
+    trail: &mut Trail,
     text: &str,
 ) -> Result<(), Fail>
-    requires accepted { IsAcceptedState p.now log.now }
-    requires driven { IsDriven p.now log.now t.old }
-    ensures { OnOk result (IsDriven p.now log.now t.new) }
+    requires accepted { IsAcceptedState problem.now log.now }
+    requires driven { IsDriven problem.now log.now trail.old }
+    ensures { OnOk result (IsDriven problem.now log.now trail.new) }
 {
     for statement in text.split(';') {
-        take(alloc, p, log, t, statement)?;
+        take(alloc, problem, log, trail, statement)?;
     }
     Ok(())
 }
@@ -100,69 +100,69 @@ fn drive(
 /// What a conflict teaches that ends a trail.
 fn taught(
     alloc: Global,
-    p: &Problem,
+    problem: &Problem,
     log: &IndexedLog<'_>,
-    t: &Trail,
+    trail: &Trail,
     conflict: &Hint,
 ) -> Result<Learned, Fail>
-    requires accepted { IsAcceptedState p.now log.now }
+    requires accepted { IsAcceptedState problem.now log.now }
     requires still_open { log.now.closed ≡ false }
-    requires driven { IsDriven p.now log.now t.now }
+    requires driven { IsDriven problem.now log.now trail.now }
 {
-    t.recall_trail();
-    if !is_conflict(alloc, p, log, t.state(), conflict)? {
+    trail.recall_trail();
+    if !is_conflict(alloc, problem, log, trail.state(), conflict)? {
         return Err(Fail::new("no conflict"));
     }
-    Ok(analyse(alloc, p, t, log, &[], conflict)?)
+    Ok(analyse(alloc, problem, trail, log, &[], conflict)?)
 }
 
 /// What a conflict after some steps teaches, over a log.
 fn taught_after(
     alloc: Global,
-    p: &Problem,
+    problem: &Problem,
     log: &IndexedLog<'_>,
     text: &str,
     conflict: &Hint,
 ) -> Result<Learned, Fail>
-    requires accepted { IsAcceptedState p.now log.now }
+    requires accepted { IsAcceptedState problem.now log.now }
     requires still_open { log.now.closed ≡ false }
 {
-    let mut t = Trail::new(alloc, p)?;
-    drive(alloc, p, log, &mut t, text)?;
-    taught(alloc, p, log, &t, conflict)
+    let mut t = Trail::new(alloc, problem)?;
+    drive(alloc, problem, log, &mut t, text)?;
+    taught(alloc, problem, log, &t, conflict)
 }
 
 /// What a conflict after some steps teaches, over the empty log.
-fn lesson(alloc: Global, p: &Problem, text: &str) -> Result<Learned, Fail> {
+fn lesson(alloc: Global, problem: &Problem, text: &str) -> Result<Learned, Fail> {
     let conflict = hint(after(text, "conflict"))?;
     let index = LogIndex::new(alloc);
     let log = IndexedLog::of(&[], &index);
-    taught_after(alloc, p, &log, text, &conflict)
+    taught_after(alloc, problem, &log, text, &conflict)
 }
 
 /// Whether the lesson of a case is what it says.
-pub(crate) fn is_taught(alloc: Global, p: &Problem, text: &str) -> Result<bool, Fail> {
-    let l = lesson(alloc, p, text)?;
+pub(crate) fn is_taught(alloc: Global, problem: &Problem, text: &str) -> Result<bool, Fail> {
+    let l = lesson(alloc, problem, text)?;
     is_lesson(alloc, &l, after(text, "lemma"), after(text, "back"))
 }
 
-fn is_lesson(alloc: Global, l: &Learned, lemma: &str, back: &str) -> Result<bool, Fail> {
+fn is_lesson(alloc: Global, learned: &Learned, lemma: &str, back: &str) -> Result<bool, Fail> {
     let (bound, level) = parted(back);
-    if !is_count(bound, l.bound) {
+    if !is_count(bound, learned.bound) {
         return Ok(false);
     }
-    if !is_count(level, l.level) {
+    if !is_count(level, learned.level) {
         return Ok(false);
     }
     match lemma.split_once(": ") {
         None => Ok(false),
-        Some((wanted, named)) => is_lemma(alloc, l, wanted, named),
+        Some((wanted, named)) => is_lemma(alloc, learned, wanted, named),
     }
 }
 
-fn is_lemma(alloc: Global, l: &Learned, wanted: &str, named: &str) -> Result<bool, Fail> {
-    if !are_atoms(alloc, wanted, l.clause.atoms.as_slice())? {
+fn is_lemma(alloc: Global, learned: &Learned, wanted: &str, named: &str) -> Result<bool, Fail> {
+    if !are_atoms(alloc, wanted, learned.clause.atoms.as_slice())? {
         return Ok(false);
     }
-    are_hints(alloc, named, l.hints.as_slice())
+    are_hints(alloc, named, learned.hints.as_slice())
 }

@@ -12,24 +12,24 @@ use std::test::Fail;
 /// Does what each statement says to the box of a problem, and answers the first one that isn't so.
 pub(crate) fn failing<'t>(
     alloc: Global,
-    p: &Problem,
+    problem: &Problem,
     case: &'t str,
 ) -> Result<Option<&'t str>, Fail> {
-    let mut b = BoxState::of(alloc, p)?;
-    narrow_each(alloc, p, &mut b, case)
+    let mut b = BoxState::of(alloc, problem)?;
+    narrow_each(alloc, problem, &mut b, case)
 }
 
 fn narrow_each<'t>(
     alloc: Global,
-    p: &Problem,
-    b: &mut BoxState,
+    problem: &Problem,
+    bounds: &mut BoxState,
     case: &'t str,
 ) -> Result<Option<&'t str>, Fail>
-    requires { IsBoxOf p.now.bounds b.old }
+    requires { IsBoxOf problem.now.bounds bounds.old }
 {
     for statement in case.split(';') {
         let (head, rest) = parted(statement);
-        if !is_met(alloc, p, b, head, rest)? {
+        if !is_met(alloc, problem, bounds, head, rest)? {
             return Ok(Some(statement));
         }
     }
@@ -38,44 +38,44 @@ fn narrow_each<'t>(
 
 fn is_met(
     alloc: Global,
-    p: &Problem,
-    b: &mut BoxState,
+    problem: &Problem,
+    bounds: &mut BoxState,
     head: &str,
     rest: &str,
 ) -> Result<bool, Fail>
-    requires { IsBoxOf p.now.bounds b.old }
-    ensures { IsBoxOf p.now.bounds b.new }
+    requires { IsBoxOf problem.now.bounds bounds.old }
+    ensures { IsBoxOf problem.now.bounds bounds.new }
 {
     match head {
-        "assume" => is_assumed(p, b, rest),
-        "narrow" => is_narrowed(alloc, p, b, rest),
-        "box" => has_ranges(p, b, rest),
+        "assume" => is_assumed(problem, bounds, rest),
+        "narrow" => is_narrowed(alloc, problem, bounds, rest),
+        "box" => has_ranges(problem, bounds, rest),
         "reset" => {
-            b.reset(p);
+            bounds.reset(problem);
             Ok(true)
         }
         _ => Ok(true),
     }
 }
 
-fn is_assumed(p: &Problem, b: &mut BoxState, words: &str) -> Result<bool, Fail>
-    requires { IsBoxOf p.now.bounds b.old }
-    ensures { IsBoxOf p.now.bounds b.new }
+fn is_assumed(problem: &Problem, bounds: &mut BoxState, words: &str) -> Result<bool, Fail>
+    requires { IsBoxOf problem.now.bounds bounds.old }
+    ensures { IsBoxOf problem.now.bounds bounds.new }
 {
     let (a, wanted) = parted(words);
     let a = atom(a)?;
-    if a.var.0 >= p.vars() {
+    if a.var.0 >= problem.vars() {
         return Ok(false);
     }
-    Ok(b.assume(a) == (wanted == "= yes"))
+    Ok(bounds.assume(a) == (wanted == "= yes"))
 }
 
-fn is_narrowed(alloc: Global, p: &Problem, b: &mut BoxState, words: &str) -> Result<bool, Fail>
-    requires { IsBoxOf p.now.bounds b.old }
-    ensures { IsBoxOf p.now.bounds b.new }
+fn is_narrowed(alloc: Global, problem: &Problem, bounds: &mut BoxState, words: &str) -> Result<bool, Fail>
+    requires { IsBoxOf problem.now.bounds bounds.old }
+    ensures { IsBoxOf problem.now.bounds bounds.new }
 {
     let (by, wanted) = parted(words);
-    let narrowed = narrow_by(alloc, p, b, hint(by)?);
+    let narrowed = narrow_by(alloc, problem, bounds, hint(by)?);
     Ok(wanted == answer(narrowed))
 }
 
@@ -88,28 +88,28 @@ fn answer(narrowed: Narrowed) -> &'static str {
 }
 
 /// Narrows the box by a hint over the empty log.
-fn narrow_by(alloc: Global, p: &Problem, b: &mut BoxState, by: Hint) -> Narrowed
-    requires { IsBoxOf p.now.bounds b.old }
-    ensures { IsBoxOf p.now.bounds b.new }
+fn narrow_by(alloc: Global, problem: &Problem, bounds: &mut BoxState, by: Hint) -> Narrowed
+    requires { IsBoxOf problem.now.bounds bounds.old }
+    ensures { IsBoxOf problem.now.bounds bounds.new }
 {
     let index = LogIndex::new(alloc);
     let log = IndexedLog::of(&[], &index);
-    narrow(p, &log, b, &by)
+    narrow(problem, &log, bounds, &by)
 }
 
 /// Whether these are the values of all variables.
-pub(crate) fn has_ranges(p: &Problem, b: &BoxState, ranges: &str) -> Result<bool, Fail>
-    requires { IsBoxOf p.now.bounds b.now }
+pub(crate) fn has_ranges(problem: &Problem, bounds: &BoxState, ranges: &str) -> Result<bool, Fail>
+    requires { IsBoxOf problem.now.bounds bounds.now }
 {
     let mut x: u32 = 0;
     for word in ranges.split_whitespace() {
-        if x >= p.vars() {
+        if x >= problem.vars() {
             return Ok(false);
         }
-        if (b.lo(Var(x)), b.hi(Var(x))) != range(word)? {
+        if (bounds.lo(Var(x)), bounds.hi(Var(x))) != range(word)? {
             return Ok(false);
         }
         x += 1;
     }
-    Ok(x == p.vars())
+    Ok(x == problem.vars())
 }

@@ -19,8 +19,8 @@ pub(crate) fn problem_of(alloc: Global, text: &str) -> Result<Problem, Fail> {
 }
 
 /// Gives the memory of a problem back.
-pub(crate) fn discard(p: Problem) {
-    let _gone = p;
+pub(crate) fn discard(problem: Problem) {
+    let _gone = problem;
 }
 
 fn build(alloc: Global, builder: &mut ProblemBuilder, text: &str) -> Result<(), Fail>
@@ -108,13 +108,13 @@ fn are_atoms(count: u32, atoms: &[Atom]) -> bool
     true
 }
 
-fn is_atom(count: u32, a: Atom) -> bool
-    ensures { IsTrue result → IsAtomOf count a }
+fn is_atom(count: u32, atom: Atom) -> bool
+    ensures { IsTrue result → IsAtomOf count atom }
 {
-    if a.var.0 >= count {
+    if atom.var.0 >= count {
         return false;
     }
-    a.k.unsigned_abs() <= MAX_ATOM_NUMBER
+    atom.k.unsigned_abs() <= MAX_ATOM_NUMBER
 }
 
 fn add_rows(alloc: Global, builder: &mut ProblemBuilder, count: u32, text: &str) -> Result<(), Fail>
@@ -218,16 +218,16 @@ fn is_term(count: u32, term: (i64, Var)) -> bool
 }
 
 /// Whether no term has this variable.
-fn is_absent(x: Var, terms: &[(i64, Var)]) -> bool
-    ensures { IsTrue result → IsAbsent x.0 terms.now }
+fn is_absent(variable: Var, terms: &[(i64, Var)]) -> bool
+    ensures { IsTrue result → IsAbsent variable.0 terms.now }
 {
     match terms.split_first() {
         None => true,
         Some((first, rest)) => {
-            if first.1.0 == x.0 {
+            if first.1.0 == variable.0 {
                 return false;
             }
-            is_absent(x, rest)
+            is_absent(variable, rest)
         }
     }
 }

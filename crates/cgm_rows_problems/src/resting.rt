@@ -13,45 +13,45 @@ use cgm_atom::{
 use std::alloc::Global;
 use std::test::Fail;
 
-pub(crate) fn is_open(b: &BoxState, a: Atom) -> bool
-    requires { a.var.0 < length b.now.lower }
-    ensures { IsTrue result → IsOpenIn b.now a }
+pub(crate) fn is_open(bounds: &BoxState, atom: Atom) -> bool
+    requires { atom.var.0 < length bounds.now.lower }
+    ensures { IsTrue result → IsOpenIn bounds.now atom }
 {
-    if is_true(b, a) {
+    if is_true(bounds, atom) {
         return false;
     }
-    !is_false(b, a)
+    !is_false(bounds, atom)
 }
 
-pub(crate) fn is_at_rest(alloc: Global, p: &Problem, b: &BoxState) -> Result<bool, Fail>
-    requires { IsBoxOf p.now.bounds b.now }
-    ensures { IfOk result (λ rests. IsTrue rests → IsAtRest p.now b.now) }
+pub(crate) fn is_at_rest(alloc: Global, problem: &Problem, bounds: &BoxState) -> Result<bool, Fail>
+    requires { IsBoxOf problem.now.bounds bounds.now }
+    ensures { IfOk result (λ rests. IsTrue rests → IsAtRest problem.now bounds.now) }
 {
-    if !do_clauses_rest(alloc, p, b)? {
+    if !do_clauses_rest(alloc, problem, bounds)? {
         return Ok(false);
     }
-    do_rows_rest(alloc, p, b)
+    do_rows_rest(alloc, problem, bounds)
 }
 
-fn do_clauses_rest(alloc: Global, p: &Problem, b: &BoxState) -> Result<bool, Fail>
-    requires { IsBoxOf p.now.bounds b.now }
-    ensures { IfOk result (λ rests. IsTrue rests → All (λ c. left_by_clause b.now c ≡ Some b.now) p.now.clauses) }
+fn do_clauses_rest(alloc: Global, problem: &Problem, bounds: &BoxState) -> Result<bool, Fail>
+    requires { IsBoxOf problem.now.bounds bounds.now }
+    ensures { IfOk result (λ rests. IsTrue rests → All (λ c. left_by_clause bounds.now c ≡ Some bounds.now) problem.now.clauses) }
 {
-    for n in 0..p.clauses() {
-        if !does_clause_rest(alloc, p, b, n)? {
+    for n in 0..problem.clauses() {
+        if !does_clause_rest(alloc, problem, bounds, n)? {
             return Ok(false);
         }
     }
     Ok(true)
 }
 
-fn does_clause_rest(alloc: Global, p: &Problem, b: &BoxState, n: u32) -> Result<bool, Fail>
-    requires known { n < length p.now.clauses }
-    requires in_box { IsBoxOf p.now.bounds b.now }
-    ensures { IfOk result (λ rests. IsTrue rests → HoldsAt (λ c. left_by_clause b.now c ≡ Some b.now) p.now.clauses n) }
+fn does_clause_rest(alloc: Global, problem: &Problem, bounds: &BoxState, n: u32) -> Result<bool, Fail>
+    requires known { n < length problem.now.clauses }
+    requires in_box { IsBoxOf problem.now.bounds bounds.now }
+    ensures { IfOk result (λ rests. IsTrue rests → HoldsAt (λ c. left_by_clause bounds.now c ≡ Some bounds.now) problem.now.clauses n) }
 {
-    let mut left = b.copy(alloc)?;
-    let atoms = ClauseAtoms::Listed(p.clause(n).atoms.as_slice());
+    let mut left = bounds.copy(alloc)?;
+    let atoms = ClauseAtoms::Listed(problem.clause(n).atoms.as_slice());
     match narrow_by_atoms(&mut left, atoms) {
         Narrowed::Same => Ok(true),
         Narrowed::Tighter => Ok(false),
@@ -59,26 +59,26 @@ fn does_clause_rest(alloc: Global, p: &Problem, b: &BoxState, n: u32) -> Result<
     }
 }
 
-fn do_rows_rest(alloc: Global, p: &Problem, b: &BoxState) -> Result<bool, Fail>
-    requires { IsBoxOf p.now.bounds b.now }
-    ensures { IfOk result (λ rests. IsTrue rests → All (λ r. left_by_row b.now r ≡ Some b.now) p.now.rows) }
+fn do_rows_rest(alloc: Global, problem: &Problem, bounds: &BoxState) -> Result<bool, Fail>
+    requires { IsBoxOf problem.now.bounds bounds.now }
+    ensures { IfOk result (λ rests. IsTrue rests → All (λ r. left_by_row bounds.now r ≡ Some bounds.now) problem.now.rows) }
 {
-    for n in 0..p.rows() {
-        if !does_row_rest(alloc, p, b, n)? {
+    for n in 0..problem.rows() {
+        if !does_row_rest(alloc, problem, bounds, n)? {
             return Ok(false);
         }
     }
     Ok(true)
 }
 
-fn does_row_rest(alloc: Global, p: &Problem, b: &BoxState, n: u32) -> Result<bool, Fail>
-    requires known { n < length p.now.rows }
-    requires in_box { IsBoxOf p.now.bounds b.now }
-    ensures { IfOk result (λ rests. IsTrue rests → HoldsAt (λ r. left_by_row b.now r ≡ Some b.now) p.now.rows n) }
+fn does_row_rest(alloc: Global, problem: &Problem, bounds: &BoxState, n: u32) -> Result<bool, Fail>
+    requires known { n < length problem.now.rows }
+    requires in_box { IsBoxOf problem.now.bounds bounds.now }
+    ensures { IfOk result (λ rests. IsTrue rests → HoldsAt (λ r. left_by_row bounds.now r ≡ Some bounds.now) problem.now.rows n) }
 {
-    let mut left = b.copy(alloc)?;
-    p.recall_well_formed();
-    match narrow_by_row(&mut left, p.row(n)) {
+    let mut left = bounds.copy(alloc)?;
+    problem.recall_well_formed();
+    match narrow_by_row(&mut left, problem.row(n)) {
         Narrowed::Same => Ok(true),
         Narrowed::Tighter => Ok(false),
         Narrowed::Conflict => Ok(false),

@@ -62,7 +62,7 @@ fn may_follow(before: u64, point: u32) -> bool {
 /// The worker's number.
 const NUMBER: u32 = 3;
 
-fn worker(alloc: Global, p: &Problem, budget: u64) -> Result<Worker<Alone>, Fail>
+fn worker(alloc: Global, problem: &Problem, budget: u64) -> Result<Worker<Alone>, Fail>
     requires { budget ≤ 2 ^ 40 }
 {
     let plan = Plan {
@@ -70,20 +70,20 @@ fn worker(alloc: Global, p: &Problem, budget: u64) -> Result<Worker<Alone>, Fail
         restarts: 10,
         seed: 7,
     };
-    let log = Log::new(alloc, p.copy(alloc)?);
-    match Worker::new(alloc, p, Alone::new(log), NUMBER, plan) {
+    let log = Log::new(alloc, problem.copy(alloc)?);
+    match Worker::new(alloc, problem, Alone::new(log), NUMBER, plan) {
         Ok(w) => Ok(w),
         Err(_) => Err(OutOfMemory.into()),
     }
 }
 
 /// Whether a worker ends as the case says.
-pub(crate) fn has_ended(alloc: Global, p: &Problem, case: &str) -> Result<bool, Fail> {
+pub(crate) fn has_ended(alloc: Global, problem: &Problem, case: &str) -> Result<bool, Fail> {
     let budget = count(after(case, "budget"))?;
     if budget > 1_000_000 {
         return Err(Fail::new("too great a budget"));
     }
-    ends_so(worker(alloc, p, budget)?, after(case, "ends"))
+    ends_so(worker(alloc, problem, budget)?, after(case, "ends"))
 }
 
 fn ends_so(mut w: Worker<Alone>, wanted: &str) -> Result<bool, Fail> {

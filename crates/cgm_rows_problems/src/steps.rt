@@ -25,98 +25,98 @@ const MANY: u64 = 1_000_000;
 /// at most; the answer and the steps that are left follow.
 pub(crate) fn take(
     alloc: Global,
-    p: &Problem,
-    s: &mut ClauseStore,
-    t: &mut Trail,
+    problem: &Problem,
+    store: &mut ClauseStore,
+    trail: &mut Trail,
     statement: &str,
 ) -> Result<bool, Fail>
-    requires problem { t.old.problem ≡ p.now }
-    requires store { IsStoreOf p.now s.old }
-    ensures problem { t.new.problem ≡ p.now }
-    ensures store { IsStoreOf p.now s.new }
+    requires problem { trail.old.problem ≡ problem.now }
+    requires store { IsStoreOf problem.now store.old }
+    ensures problem { trail.new.problem ≡ problem.now }
+    ensures store { IsStoreOf problem.now store.new }
 {
     let (head, rest) = parted(statement);
     match head {
-        "by-clauses" => sweep_clauses(p, s, t, rest),
-        other => step(alloc, p, t, other, rest),
+        "by-clauses" => sweep_clauses(problem, store, trail, rest),
+        other => step(alloc, problem, trail, other, rest),
     }
 }
 
 /// Takes a step that no store takes part in.
-fn step(alloc: Global, p: &Problem, t: &mut Trail, head: &str, rest: &str) -> Result<bool, Fail>
-    requires { t.old.problem ≡ p.now }
-    ensures { t.new.problem ≡ p.now }
+fn step(alloc: Global, problem: &Problem, trail: &mut Trail, head: &str, rest: &str) -> Result<bool, Fail>
+    requires { trail.old.problem ≡ problem.now }
+    ensures { trail.new.problem ≡ problem.now }
 {
     match head {
-        "decide" => decide(alloc, p, t, rest),
-        "follow" => follow(p, t, rest),
-        "jump" => jump(alloc, p, t, rest),
-        "restart" => Ok(restart(p, t)),
-        "land" => land(p, t, rest),
-        "by-row" => sweep_row(p, t, rest),
+        "decide" => decide(alloc, problem, trail, rest),
+        "follow" => follow(problem, trail, rest),
+        "jump" => jump(alloc, problem, trail, rest),
+        "restart" => Ok(restart(problem, trail)),
+        "land" => land(problem, trail, rest),
+        "by-row" => sweep_row(problem, trail, rest),
         _ => Ok(true),
     }
 }
 
 /// Whether an atom may be made true: it is open, and moves are left.
-pub(crate) fn may_make(p: &Problem, t: &Trail, a: Atom) -> bool
-    requires { t.now.problem ≡ p.now }
-    ensures undecided { IsTrue result → IsOpenIn (box_of t.now) a }
-    ensures room { IsTrue result → t.now.moves < 1000000 }
+pub(crate) fn may_make(problem: &Problem, trail: &Trail, atom: Atom) -> bool
+    requires { trail.now.problem ≡ problem.now }
+    ensures undecided { IsTrue result → IsOpenIn (box_of trail.now) atom }
+    ensures room { IsTrue result → trail.now.moves < 1000000 }
 {
-    if a.var.0 >= p.vars() {
+    if atom.var.0 >= problem.vars() {
         return false;
     }
-    t.recall_trail();
-    if t.moves() >= MANY {
+    trail.recall_trail();
+    if trail.moves() >= MANY {
         return false;
     }
-    is_open(t.state(), a)
+    is_open(trail.state(), atom)
 }
 
 /// Whether a level may be opened by an atom: it may be made true, and nothing propagates.
-pub(crate) fn may_decide(alloc: Global, p: &Problem, t: &Trail, a: Atom) -> Result<bool, Fail>
-    requires { t.now.problem ≡ p.now }
-    ensures undecided { IfOk result (λ may. IsTrue may → IsOpenIn (box_of t.now) a) }
-    ensures room { IfOk result (λ may. IsTrue may → t.now.moves < 1000000) }
-    ensures rest { IfOk result (λ may. IsTrue may → IsAtRest p.now (box_of t.now)) }
+pub(crate) fn may_decide(alloc: Global, problem: &Problem, trail: &Trail, atom: Atom) -> Result<bool, Fail>
+    requires { trail.now.problem ≡ problem.now }
+    ensures undecided { IfOk result (λ may. IsTrue may → IsOpenIn (box_of trail.now) atom) }
+    ensures room { IfOk result (λ may. IsTrue may → trail.now.moves < 1000000) }
+    ensures rest { IfOk result (λ may. IsTrue may → IsAtRest problem.now (box_of trail.now)) }
 {
-    if !may_make(p, t, a) {
+    if !may_make(problem, trail, atom) {
         return Ok(false);
     }
-    t.recall_trail();
-    is_at_rest(alloc, p, t.state())
+    trail.recall_trail();
+    is_at_rest(alloc, problem, trail.state())
 }
 
-fn decide(alloc: Global, p: &Problem, t: &mut Trail, word: &str) -> Result<bool, Fail>
-    requires { t.old.problem ≡ p.now }
-    ensures { t.new.problem ≡ p.now }
+fn decide(alloc: Global, problem: &Problem, trail: &mut Trail, word: &str) -> Result<bool, Fail>
+    requires { trail.old.problem ≡ problem.now }
+    ensures { trail.new.problem ≡ problem.now }
 {
     let a = atom(word)?;
-    if !may_decide(alloc, p, t, a)? {
+    if !may_decide(alloc, problem, trail, a)? {
         return Ok(false);
     }
-    t.open_level(a)?;
+    trail.open_level(a)?;
     Ok(true)
 }
 
-fn follow(p: &Problem, t: &mut Trail, words: &str) -> Result<bool, Fail>
-    requires { t.old.problem ≡ p.now }
-    ensures { t.new.problem ≡ p.now }
+fn follow(problem: &Problem, trail: &mut Trail, words: &str) -> Result<bool, Fail>
+    requires { trail.old.problem ≡ problem.now }
+    ensures { trail.new.problem ≡ problem.now }
 {
     let (by, a) = reasoned(words)?;
-    make(p, t, by, a)
+    make(problem, trail, by, a)
 }
 
 /// Makes an atom true for a reason, if it may be.
-pub(crate) fn make(p: &Problem, t: &mut Trail, by: Hint, a: Atom) -> Result<bool, Fail>
-    requires { t.old.problem ≡ p.now }
-    ensures { t.new.problem ≡ p.now }
+pub(crate) fn make(problem: &Problem, trail: &mut Trail, by: Hint, atom: Atom) -> Result<bool, Fail>
+    requires { trail.old.problem ≡ problem.now }
+    ensures { trail.new.problem ≡ problem.now }
 {
-    if !may_make(p, t, a) {
+    if !may_make(problem, trail, atom) {
         return Ok(false);
     }
-    t.tighten(a, by)?;
+    trail.tighten(atom, by)?;
     Ok(true)
 }
 
@@ -126,135 +126,135 @@ pub(crate) fn reasoned(words: &str) -> Result<(Hint, Atom), Fail> {
     Ok((hint(by)?, atom(a)?))
 }
 
-fn jump(alloc: Global, p: &Problem, t: &mut Trail, words: &str) -> Result<bool, Fail>
-    requires { t.old.problem ≡ p.now }
-    ensures { t.new.problem ≡ p.now }
+fn jump(alloc: Global, problem: &Problem, trail: &mut Trail, words: &str) -> Result<bool, Fail>
+    requires { trail.old.problem ≡ problem.now }
+    ensures { trail.new.problem ≡ problem.now }
 {
     let (level, rest) = parted(words);
     let level = count(level)?;
     let (by, a) = reasoned(rest)?;
-    if !may_jump(alloc, p, t, level, a)? {
+    if !may_jump(alloc, problem, trail, level, a)? {
         return Ok(false);
     }
-    t.jump(level, a, by)?;
+    trail.jump(level, a, by)?;
     Ok(true)
 }
 
 /// Whether a jump to a level may make an atom true: it is open there, and moves are left.
-fn may_jump(alloc: Global, p: &Problem, t: &Trail, level: u64, a: Atom) -> Result<bool, Fail>
-    requires { t.now.problem ≡ p.now }
-    ensures earlier { IfOk result (λ may. IsTrue may → level < level_of t.now.changes) }
-    ensures undecided { IfOk result (λ may. IsTrue may → IsOpenIn (box_of (cut_trail level t.now)) a) }
-    ensures room { IfOk result (λ may. IsTrue may → t.now.moves < 1000000) }
+fn may_jump(alloc: Global, problem: &Problem, trail: &Trail, level: u64, atom: Atom) -> Result<bool, Fail>
+    requires { trail.now.problem ≡ problem.now }
+    ensures earlier { IfOk result (λ may. IsTrue may → level < level_of trail.now.changes) }
+    ensures undecided { IfOk result (λ may. IsTrue may → IsOpenIn (box_of (cut_trail level trail.now)) atom) }
+    ensures room { IfOk result (λ may. IsTrue may → trail.now.moves < 1000000) }
 {
-    if a.var.0 >= p.vars() {
+    if atom.var.0 >= problem.vars() {
         return Ok(false);
     }
-    if level >= t.level() {
+    if level >= trail.level() {
         return Ok(false);
     }
-    if t.moves() >= MANY {
+    if trail.moves() >= MANY {
         return Ok(false);
     }
-    is_open_at(alloc, t, level, a)
+    is_open_at(alloc, trail, level, atom)
 }
 
 /// Whether an atom is open in the box before the levels after this one.
-fn is_open_at(alloc: Global, t: &Trail, level: u64, a: Atom) -> Result<bool, Fail>
-    requires known { a.var.0 < length t.now.problem.bounds.lower }
-    requires earlier { level < level_of t.now.changes }
-    ensures { IfOk result (λ found. IsTrue found → IsOpenIn (box_of (cut_trail level t.now)) a) }
+fn is_open_at(alloc: Global, trail: &Trail, level: u64, atom: Atom) -> Result<bool, Fail>
+    requires known { atom.var.0 < length trail.now.problem.bounds.lower }
+    requires earlier { level < level_of trail.now.changes }
+    ensures { IfOk result (λ found. IsTrue found → IsOpenIn (box_of (cut_trail level trail.now)) atom) }
 {
     if level >= MANY {
         return Ok(false);
     }
-    let b = box_at(alloc, t, level)?;
-    Ok(is_open(&b, a))
+    let b = box_at(alloc, trail, level)?;
+    Ok(is_open(&b, atom))
 }
 
-fn restart(p: &Problem, t: &mut Trail) -> bool
-    requires { t.old.problem ≡ p.now }
-    ensures { t.new.problem ≡ p.now }
+fn restart(problem: &Problem, trail: &mut Trail) -> bool
+    requires { trail.old.problem ≡ problem.now }
+    ensures { trail.new.problem ≡ problem.now }
 {
-    if t.moves() >= MANY {
+    if trail.moves() >= MANY {
         return false;
     }
-    if t.restarts() >= 1_000 {
+    if trail.restarts() >= 1_000 {
         return false;
     }
-    t.restart();
+    trail.restart();
     true
 }
 
-fn land(p: &Problem, t: &mut Trail, word: &str) -> Result<bool, Fail>
-    requires { t.old.problem ≡ p.now }
-    ensures { t.new.problem ≡ p.now }
+fn land(problem: &Problem, trail: &mut Trail, word: &str) -> Result<bool, Fail>
+    requires { trail.old.problem ≡ problem.now }
+    ensures { trail.new.problem ≡ problem.now }
 {
     let first = count(word)?;
     if first >= MANY {
         return Ok(false);
     }
-    if !can_land(t, first) {
+    if !can_land(trail, first) {
         return Ok(false);
     }
-    t.land(first);
+    trail.land(first);
     Ok(true)
 }
 
 /// Whether the trail may make so many moves more.
-fn has_room(t: &Trail, left: u64) -> bool
-    ensures { IsTrue result → t.now.moves + left ≤ 2 ^ 62 }
+fn has_room(trail: &Trail, left: u64) -> bool
+    ensures { IsTrue result → trail.now.moves + left ≤ 2 ^ 62 }
 {
     if left >= MANY {
         return false;
     }
-    t.moves() < MANY
+    trail.moves() < MANY
 }
 
-fn sweep_clauses(p: &Problem, s: &mut ClauseStore, t: &mut Trail, words: &str) -> Result<bool, Fail>
-    requires problem { t.old.problem ≡ p.now }
-    requires store { IsStoreOf p.now s.old }
-    ensures problem { t.new.problem ≡ p.now }
-    ensures store { IsStoreOf p.now s.new }
+fn sweep_clauses(problem: &Problem, store: &mut ClauseStore, trail: &mut Trail, words: &str) -> Result<bool, Fail>
+    requires problem { trail.old.problem ≡ problem.now }
+    requires store { IsStoreOf problem.now store.old }
+    ensures problem { trail.new.problem ≡ problem.now }
+    ensures store { IsStoreOf problem.now store.new }
 {
     let (steps, wanted) = parted(words);
     let mut left = count(steps)?;
-    if !has_room(t, left) {
+    if !has_room(trail, left) {
         return Ok(false);
     }
-    let swept = s.propagate(t, &mut left)?;
-    is_answer(p, swept, left, wanted)
+    let swept = store.propagate(trail, &mut left)?;
+    is_answer(problem, swept, left, wanted)
 }
 
-fn sweep_row(p: &Problem, t: &mut Trail, words: &str) -> Result<bool, Fail>
-    requires { t.old.problem ≡ p.now }
-    ensures { t.new.problem ≡ p.now }
+fn sweep_row(problem: &Problem, trail: &mut Trail, words: &str) -> Result<bool, Fail>
+    requires { trail.old.problem ≡ problem.now }
+    ensures { trail.new.problem ≡ problem.now }
 {
     let (n, rest) = parted(words);
     let (steps, wanted) = parted(rest);
     let n = place(n)?;
-    if n >= p.rows() {
+    if n >= problem.rows() {
         return Ok(false);
     }
-    sweep_by(p, n, t, count(steps)?, wanted)
+    sweep_by(problem, n, trail, count(steps)?, wanted)
 }
 
-fn sweep_by(p: &Problem, n: u32, t: &mut Trail, steps: u64, wanted: &str) -> Result<bool, Fail>
-    requires problem { t.old.problem ≡ p.now }
-    requires known { n < length p.now.rows }
-    ensures { t.new.problem ≡ p.now }
+fn sweep_by(problem: &Problem, n: u32, trail: &mut Trail, steps: u64, wanted: &str) -> Result<bool, Fail>
+    requires problem { trail.old.problem ≡ problem.now }
+    requires known { n < length problem.now.rows }
+    ensures { trail.new.problem ≡ problem.now }
 {
     let mut left = steps;
-    if !has_room(t, left) {
+    if !has_room(trail, left) {
         return Ok(false);
     }
-    let swept = propagate_row(p, n, t, &mut left)?;
-    is_answer(p, swept, left, wanted)
+    let swept = propagate_row(problem, n, trail, &mut left)?;
+    is_answer(problem, swept, left, wanted)
 }
 
 /// Whether the answer and the steps that are left are the wanted ones. `clause` stands for a conflict
 /// with any clause of the problem, and a hint for one with what it names.
-fn is_answer(p: &Problem, swept: Swept, left: u64, wanted: &str) -> Result<bool, Fail> {
+fn is_answer(problem: &Problem, swept: Swept, left: u64, wanted: &str) -> Result<bool, Fail> {
     let (answer, rest) = parted(wanted);
     if !is_count(rest, left) {
         return Ok(false);
@@ -262,25 +262,25 @@ fn is_answer(p: &Problem, swept: Swept, left: u64, wanted: &str) -> Result<bool,
     match answer {
         "quiet" => Ok(swept == Swept::Quiet),
         "spent" => Ok(swept == Swept::Spent),
-        "clause" => Ok(is_clause_of(p, swept)),
+        "clause" => Ok(is_clause_of(problem, swept)),
         named => Ok(swept == Swept::Conflict(hint(named)?)),
     }
 }
 
-fn is_clause_of(p: &Problem, swept: Swept) -> bool {
+fn is_clause_of(problem: &Problem, swept: Swept) -> bool {
     match swept {
-        Swept::Conflict(Hint::Clause(n)) => n < p.clauses(),
+        Swept::Conflict(Hint::Clause(n)) => n < problem.clauses(),
         _ => false,
     }
 }
 
 /// Whether the lemmas that the reasons name count from 1.
-fn can_land(t: &Trail, first: u64) -> bool
+fn can_land(trail: &Trail, first: u64) -> bool
     requires { first < 1000000 }
-    ensures { IsTrue result → CanChangesLand first t.now.changes }
+    ensures { IsTrue result → CanChangesLand first trail.now.changes }
 {
-    for n in 0..t.changes() {
-        if !can_change_land(t.change(n), first) {
+    for n in 0..trail.changes() {
+        if !can_change_land(trail.change(n), first) {
             return false;
         }
     }
@@ -299,26 +299,26 @@ fn can_change_land(change: &Change, first: u64) -> bool
 }
 
 /// The box before the levels after this one.
-fn box_at(alloc: Global, t: &Trail, level: u64) -> Result<BoxState, Fail>
-    requires known { level < level_of t.now.changes }
+fn box_at(alloc: Global, trail: &Trail, level: u64) -> Result<BoxState, Fail>
+    requires known { level < level_of trail.now.changes }
     requires small { level < 1000000 }
-    ensures cut { IfOk result (λ b. b ≡ box_of (cut_trail level t.now)) }
-    ensures count { IfOk result (λ b. length b.lower ≡ length t.now.problem.bounds.lower) }
+    ensures cut { IfOk result (λ b. b ≡ box_of (cut_trail level trail.now)) }
+    ensures count { IfOk result (λ b. length b.lower ≡ length trail.now.problem.bounds.lower) }
 {
-    let mut b = t.state().copy(alloc)?;
-    take_back(t, &mut b, t.level_start(level + 1));
+    let mut b = trail.state().copy(alloc)?;
+    take_back(trail, &mut b, trail.level_start(level + 1));
     Ok(b)
 }
 
 /// Takes back the changes from a number on.
-fn take_back(t: &Trail, b: &mut BoxState, from: u64)
-    requires state { b.old ≡ box_of t.now }
-    requires known { from ≤ length t.now.changes }
-    ensures { b.new ≡ box_after t.now.problem.bounds (take from t.now.changes) }
+fn take_back(trail: &Trail, bounds: &mut BoxState, from: u64)
+    requires state { bounds.old ≡ box_of trail.now }
+    requires known { from ≤ length trail.now.changes }
+    ensures { bounds.new ≡ box_after trail.now.problem.bounds (take from trail.now.changes) }
 {
-    let mut at = t.changes();
+    let mut at = trail.changes();
     while at > from {
         at -= 1;
-        b.relax(t.change(at).earlier());
+        bounds.relax(trail.change(at).earlier());
     }
 }

@@ -12,43 +12,43 @@ use std::alloc::Global;
 use std::test::Fail;
 
 /// The store of a problem after what a text does to it.
-pub(crate) fn store_of(alloc: Global, p: &Problem, text: &str) -> Result<ClauseStore, Fail>
-    ensures { IfOk result (λ s. IsStoreOf p.now s) }
+pub(crate) fn store_of(alloc: Global, problem: &Problem, text: &str) -> Result<ClauseStore, Fail>
+    ensures { IfOk result (λ s. IsStoreOf problem.now s) }
 {
-    let mut s = ClauseStore::new(alloc, p)?;
-    fill(alloc, p, &mut s, text)?;
+    let mut s = ClauseStore::new(alloc, problem)?;
+    fill(alloc, problem, &mut s, text)?;
     Ok(s)
 }
 
 /// Does to a store what a text does.
-fn fill(alloc: Global, p: &Problem, s: &mut ClauseStore, text: &str) -> Result<(), Fail>
-    requires store { IsStoreOf p.now s.old }
-    requires empty { s.old.added ≡ [] }
-    ensures { IsStoreOf p.now s.new }
+fn fill(alloc: Global, problem: &Problem, store: &mut ClauseStore, text: &str) -> Result<(), Fail>
+    requires store { IsStoreOf problem.now store.old }
+    requires empty { store.old.added ≡ [] }
+    ensures { IsStoreOf problem.now store.new }
 {
-    add_named(alloc, p, s, text)?;
-    forget(p, s, after(text, "forget"))
+    add_named(alloc, problem, store, text)?;
+    forget(problem, store, after(text, "forget"))
 }
 
 /// Adds the clauses of a text, of which the first lemma may land then.
-fn add_named(alloc: Global, p: &Problem, s: &mut ClauseStore, text: &str) -> Result<(), Fail>
-    requires store { IsStoreOf p.now s.old }
-    requires empty { s.old.added ≡ [] }
-    ensures { IsStoreOf p.now s.new }
+fn add_named(alloc: Global, problem: &Problem, store: &mut ClauseStore, text: &str) -> Result<(), Fail>
+    requires store { IsStoreOf problem.now store.old }
+    requires empty { store.old.added ≡ [] }
+    ensures { IsStoreOf problem.now store.new }
 {
     let place = after(text, "names");
     if place.is_empty() {
-        return add_all(alloc, p, s, text, 1);
+        return add_all(alloc, problem, store, text, 1);
     }
-    add_landed(alloc, p, s, text, count(place)?)
+    add_landed(alloc, problem, store, text, count(place)?)
 }
 
-fn forget(p: &Problem, s: &mut ClauseStore, name: &str) -> Result<(), Fail>
-    requires { IsStoreOf p.now s.old }
-    ensures { IsStoreOf p.now s.new }
+fn forget(problem: &Problem, store: &mut ClauseStore, name: &str) -> Result<(), Fail>
+    requires { IsStoreOf problem.now store.old }
+    ensures { IsStoreOf problem.now store.new }
 {
     if !name.is_empty() {
-        s.forget(&hint(name)?);
+        store.forget(&hint(name)?);
     }
     Ok(())
 }
@@ -56,50 +56,50 @@ fn forget(p: &Problem, s: &mut ClauseStore, name: &str) -> Result<(), Fail>
 /// Adds clauses, of which the first lemma then lands at a place.
 fn add_landed(
     alloc: Global,
-    p: &Problem,
-    s: &mut ClauseStore,
+    problem: &Problem,
+    store: &mut ClauseStore,
     text: &str,
     first: u64,
 ) -> Result<(), Fail>
-    requires store { IsStoreOf p.now s.old }
-    requires empty { s.old.added ≡ [] }
-    ensures { IsStoreOf p.now s.new }
+    requires store { IsStoreOf problem.now store.old }
+    requires empty { store.old.added ≡ [] }
+    ensures { IsStoreOf problem.now store.new }
 {
-    add_all(alloc, p, s, text, first)?;
-    s.land(first);
+    add_all(alloc, problem, store, text, first)?;
+    store.land(first);
     Ok(())
 }
 
 /// Adds clauses whose names can land where the first lemma gets this place.
 fn add_all(
     alloc: Global,
-    p: &Problem,
-    s: &mut ClauseStore,
+    problem: &Problem,
+    store: &mut ClauseStore,
     text: &str,
     first: u64,
 ) -> Result<(), Fail>
-    requires store { IsStoreOf p.now s.old }
-    requires empty { s.old.added ≡ [] }
-    ensures store { IsStoreOf p.now s.new }
-    ensures names { OnOk result (CanNamesLand first s.new.added) }
+    requires store { IsStoreOf problem.now store.old }
+    requires empty { store.old.added ≡ [] }
+    ensures store { IsStoreOf problem.now store.new }
+    ensures names { OnOk result (CanNamesLand first store.new.added) }
 {
     for statement in text.split(';') {
-        add(alloc, p, s, statement, first)?;
+        add(alloc, problem, store, statement, first)?;
     }
     Ok(())
 }
 
 fn add(
     alloc: Global,
-    p: &Problem,
-    s: &mut ClauseStore,
+    problem: &Problem,
+    store: &mut ClauseStore,
     statement: &str,
     first: u64,
 ) -> Result<(), Fail>
-    requires store { IsStoreOf p.now s.old }
-    requires names { CanNamesLand first s.old.added }
-    ensures store { IsStoreOf p.now s.new }
-    ensures names { OnOk result (CanNamesLand first s.new.added) }
+    requires store { IsStoreOf problem.now store.old }
+    requires names { CanNamesLand first store.old.added }
+    ensures store { IsStoreOf problem.now store.new }
+    ensures names { OnOk result (CanNamesLand first store.new.added) }
 {
     let (head, rest) = parted(statement);
     if head != "add" {
@@ -110,7 +110,7 @@ fn add(
     if !can_land(name, first) {
         return Err(Fail::new("no name that can land"));
     }
-    s.add(clause_of(alloc, p.vars(), atoms)?, name)?;
+    store.add(clause_of(alloc, problem.vars(), atoms)?, name)?;
     Ok(())
 }
 

@@ -22,53 +22,53 @@ use std::test::Fail;
 /// Takes the steps of a case, and answers the first statement that isn't so.
 pub(crate) fn failing<'t>(
     alloc: Global,
-    p: &Problem,
+    problem: &Problem,
     case: &'t str,
 ) -> Result<Option<&'t str>, Fail> {
-    let mut s = store_of(alloc, p, case)?;
-    failing_over(alloc, p, &mut s, case)
+    let mut s = store_of(alloc, problem, case)?;
+    failing_over(alloc, problem, &mut s, case)
 }
 
 fn failing_over<'t>(
     alloc: Global,
-    p: &Problem,
-    s: &mut ClauseStore,
+    problem: &Problem,
+    store: &mut ClauseStore,
     case: &'t str,
 ) -> Result<Option<&'t str>, Fail>
-    requires { IsStoreOf p.now s.old }
+    requires { IsStoreOf problem.now store.old }
 {
-    let mut t = Trail::new(alloc, p)?;
-    failing_on(alloc, p, s, &mut t, case)
+    let mut t = Trail::new(alloc, problem)?;
+    failing_on(alloc, problem, store, &mut t, case)
 }
 
 fn failing_on<'t>(
     alloc: Global,
-    p: &Problem,
-    s: &mut ClauseStore,
-    t: &mut Trail,
+    problem: &Problem,
+    store: &mut ClauseStore,
+    trail: &mut Trail,
     case: &'t str,
 ) -> Result<Option<&'t str>, Fail>
-    requires problem { t.old.problem ≡ p.now }
-    requires store { IsStoreOf p.now s.old }
+    requires problem { trail.old.problem ≡ problem.now }
+    requires store { IsStoreOf problem.now store.old }
 {
-    let mut activity = Activity::new(alloc, p, 0, 0)?;
-    follow_all(alloc, p, s, t, &mut activity, case)
+    let mut activity = Activity::new(alloc, problem, 0, 0)?;
+    follow_all(alloc, problem, store, trail, &mut activity, case)
 }
 
 fn follow_all<'t>(
     alloc: Global,
-    p: &Problem,
-    s: &mut ClauseStore,
-    t: &mut Trail,
+    problem: &Problem,
+    store: &mut ClauseStore,
+    trail: &mut Trail,
     activity: &mut Activity,
     case: &'t str,
 ) -> Result<Option<&'t str>, Fail>
-    requires problem { t.old.problem ≡ p.now }
-    requires store { IsStoreOf p.now s.old }
-    requires order { length activity.old.weights ≡ var_count p.now }
+    requires problem { trail.old.problem ≡ problem.now }
+    requires store { IsStoreOf problem.now store.old }
+    requires order { length activity.old.weights ≡ var_count problem.now }
 {
     for statement in case.split(';') {
-        if !is_so(alloc, p, s, t, activity, statement)? {
+        if !is_so(alloc, problem, store, trail, activity, statement)? {
             return Ok(Some(statement));
         }
     }
@@ -78,81 +78,81 @@ fn follow_all<'t>(
 /// Whether a statement's step may be taken, and what it says is so.
 fn is_so(
     alloc: Global,
-    p: &Problem,
-    s: &mut ClauseStore,
-    t: &mut Trail,
+    problem: &Problem,
+    store: &mut ClauseStore,
+    trail: &mut Trail,
     activity: &mut Activity,
     statement: &str,
 ) -> Result<bool, Fail>
-    requires problem { t.old.problem ≡ p.now }
-    requires store { IsStoreOf p.now s.old }
-    requires order { length activity.old.weights ≡ var_count p.now }
-    ensures problem { t.new.problem ≡ p.now }
-    ensures store { IsStoreOf p.now s.new }
-    ensures order { length activity.new.weights ≡ var_count p.now }
+    requires problem { trail.old.problem ≡ problem.now }
+    requires store { IsStoreOf problem.now store.old }
+    requires order { length activity.old.weights ≡ var_count problem.now }
+    ensures problem { trail.new.problem ≡ problem.now }
+    ensures store { IsStoreOf problem.now store.new }
+    ensures order { length activity.new.weights ≡ var_count problem.now }
 {
-    if !take(alloc, p, s, t, statement)? {
+    if !take(alloc, problem, store, trail, statement)? {
         return Ok(false);
     }
-    if !is_chosen(alloc, p, t, activity, statement)? {
+    if !is_chosen(alloc, problem, trail, activity, statement)? {
         return Ok(false);
     }
-    is_met(p, t, statement)
+    is_met(problem, trail, statement)
 }
 
 /// Whether what a statement says of the trail is so.
-fn is_met(p: &Problem, t: &Trail, statement: &str) -> Result<bool, Fail>
-    requires { t.now.problem ≡ p.now }
+fn is_met(problem: &Problem, trail: &Trail, statement: &str) -> Result<bool, Fail>
+    requires { trail.now.problem ≡ problem.now }
 {
     let (head, rest) = parted(statement);
     match head {
-        "counts" => Ok(has_counts(t, rest)),
-        "bounds" => has_bounds(p, t, rest),
-        "start" => has_start(t, rest),
-        "change" => has_change(t, rest),
+        "counts" => Ok(has_counts(trail, rest)),
+        "bounds" => has_bounds(problem, trail, rest),
+        "start" => has_start(trail, rest),
+        "change" => has_change(trail, rest),
         _ => Ok(true),
     }
 }
 
-fn has_counts(t: &Trail, words: &str) -> bool {
+fn has_counts(trail: &Trail, words: &str) -> bool {
     let (moves, rest) = parted(words);
     let (level, rest) = parted(rest);
     let (restarts, changes) = parted(rest);
-    is_count(moves, t.moves())
-        && is_count(level, t.level())
-        && is_count(restarts, u64::from(t.restarts()))
-        && is_count(changes, t.changes())
+    is_count(moves, trail.moves())
+        && is_count(level, trail.level())
+        && is_count(restarts, u64::from(trail.restarts()))
+        && is_count(changes, trail.changes())
 }
 
 /// Whether the box of the trail is one of those that are told, parted by `or`.
-fn has_bounds(p: &Problem, t: &Trail, words: &str) -> Result<bool, Fail>
-    requires { t.now.problem ≡ p.now }
+fn has_bounds(problem: &Problem, trail: &Trail, words: &str) -> Result<bool, Fail>
+    requires { trail.now.problem ≡ problem.now }
 {
-    t.recall_trail();
+    trail.recall_trail();
     for ranges in words.split('|') {
-        if has_ranges(p, t.state(), ranges)? {
+        if has_ranges(problem, trail.state(), ranges)? {
             return Ok(true);
         }
     }
     Ok(false)
 }
 
-fn has_start(t: &Trail, words: &str) -> Result<bool, Fail> {
+fn has_start(trail: &Trail, words: &str) -> Result<bool, Fail> {
     let (level, start) = parted(words);
     let level = count(level)?;
-    if level > t.level() {
+    if level > trail.level() {
         return Ok(false);
     }
-    Ok(is_count(start, t.level_start(level)))
+    Ok(is_count(start, trail.level_start(level)))
 }
 
-fn has_change(t: &Trail, words: &str) -> Result<bool, Fail> {
+fn has_change(trail: &Trail, words: &str) -> Result<bool, Fail> {
     let (n, rest) = parted(words);
     let n = count(n)?;
-    if n >= t.changes() {
+    if n >= trail.changes() {
         return Ok(false);
     }
-    Ok(is_change(t.change(n), change(rest)?))
+    Ok(is_change(trail.change(n), change(rest)?))
 }
 
 /// Whether this is the change, and keeps its earlier bound.

@@ -13,18 +13,18 @@ use std::test::Fail;
 /// The first statement of a case that isn't so of a copy of its problem.
 pub(crate) fn failing<'t>(
     alloc: Global,
-    p: &Problem,
+    problem: &Problem,
     case: &'t str,
 ) -> Result<Option<&'t str>, Fail> {
-    let copy = p.copy(alloc)?;
+    let copy = problem.copy(alloc)?;
     let failing = failing_of(alloc, &copy, case);
     discard(copy);
     failing
 }
 
-fn failing_of<'t>(alloc: Global, p: &Problem, case: &'t str) -> Result<Option<&'t str>, Fail> {
+fn failing_of<'t>(alloc: Global, problem: &Problem, case: &'t str) -> Result<Option<&'t str>, Fail> {
     for statement in case.split(';') {
-        if !is_met(alloc, p, statement)? {
+        if !is_met(alloc, problem, statement)? {
             return Ok(Some(statement));
         }
     }
@@ -32,35 +32,35 @@ fn failing_of<'t>(alloc: Global, p: &Problem, case: &'t str) -> Result<Option<&'
 }
 
 /// Whether a statement about values is met.
-fn is_met(alloc: Global, p: &Problem, statement: &str) -> Result<bool, Fail> {
+fn is_met(alloc: Global, problem: &Problem, statement: &str) -> Result<bool, Fail> {
     let (head, rest) = parted(statement);
     match head {
-        "holds" => is_solved(alloc, p, rest),
-        "breaks" => is_broken(alloc, p, rest),
-        "sizes" => Ok(has_sizes(p, rest)),
-        "atoms" => has_atoms(alloc, p, rest),
+        "holds" => is_solved(alloc, problem, rest),
+        "breaks" => is_broken(alloc, problem, rest),
+        "sizes" => Ok(has_sizes(problem, rest)),
+        "atoms" => has_atoms(alloc, problem, rest),
         _ => Ok(true),
     }
 }
 
-fn is_solved(alloc: Global, p: &Problem, values: &str) -> Result<bool, Fail> {
-    Ok(satisfied(p, numbers(alloc, values)?.as_slice()))
+fn is_solved(alloc: Global, problem: &Problem, values: &str) -> Result<bool, Fail> {
+    Ok(satisfied(problem, numbers(alloc, values)?.as_slice()))
 }
 
-fn is_broken(alloc: Global, p: &Problem, rest: &str) -> Result<bool, Fail> {
+fn is_broken(alloc: Global, problem: &Problem, rest: &str) -> Result<bool, Fail> {
     match rest.split_once(" : ") {
         None => Err(Fail::new("no values")),
-        Some((part, values)) => breaks(alloc, p, violated(part)?, values),
+        Some((part, values)) => breaks(alloc, problem, violated(part)?, values),
     }
 }
 
 /// Whether the values violate this first.
-fn breaks(alloc: Global, p: &Problem, first: Violated, values: &str) -> Result<bool, Fail> {
+fn breaks(alloc: Global, problem: &Problem, first: Violated, values: &str) -> Result<bool, Fail> {
     let values = numbers(alloc, values)?;
-    if satisfied(p, values.as_slice()) {
+    if satisfied(problem, values.as_slice()) {
         return Ok(false);
     }
-    Ok(first_violated(p, values.as_slice()) == Some(first))
+    Ok(first_violated(problem, values.as_slice()) == Some(first))
 }
 
 fn violated(words: &str) -> Result<Violated, Fail> {
@@ -73,21 +73,21 @@ fn violated(words: &str) -> Result<Violated, Fail> {
     }
 }
 
-fn has_sizes(p: &Problem, words: &str) -> bool {
+fn has_sizes(problem: &Problem, words: &str) -> bool {
     let (variables, rest) = parted(words);
     let (clauses, rows) = parted(rest);
-    is_count(variables, u64::from(p.vars()))
-        && is_count(clauses, u64::from(p.clauses()))
-        && is_count(rows, u64::from(p.rows()))
+    is_count(variables, u64::from(problem.vars()))
+        && is_count(clauses, u64::from(problem.clauses()))
+        && is_count(rows, u64::from(problem.rows()))
 }
 
-fn has_atoms(alloc: Global, p: &Problem, words: &str) -> Result<bool, Fail> {
+fn has_atoms(alloc: Global, problem: &Problem, words: &str) -> Result<bool, Fail> {
     let (n, wanted) = parted(words);
     let n = place(n)?;
-    if n >= p.clauses() {
+    if n >= problem.clauses() {
         return Ok(false);
     }
-    are_atoms(alloc, wanted, p.clause(n).atoms.as_slice())
+    are_atoms(alloc, wanted, problem.clause(n).atoms.as_slice())
 }
 
 /// Whether the builder refuses a case's variable or row as it says.

@@ -7,19 +7,19 @@ use std::alloc::Global;
 use std::test::Fail;
 
 /// Whether the verdict on a text's entries is what the text says.
-pub(crate) fn is_told(alloc: Global, p: &Problem, text: &str) -> Result<bool, Fail> {
+pub(crate) fn is_told(alloc: Global, problem: &Problem, text: &str) -> Result<bool, Fail> {
     let entries = entries_of(alloc, text)?;
-    is_told_by(alloc, p, entries.as_slice(), after(text, "verdict"))
+    is_told_by(alloc, problem, entries.as_slice(), after(text, "verdict"))
 }
 
 /// Whether the verdict on entries is the wanted one.
 pub(crate) fn is_told_by(
     alloc: Global,
-    p: &Problem,
+    problem: &Problem,
     entries: &[Entry],
     wanted: &str,
 ) -> Result<bool, Fail> {
-    let verdict = check(alloc, p, entries)?;
+    let verdict = check(alloc, problem, entries)?;
     is_verdict(alloc, &verdict, wanted)
 }
 

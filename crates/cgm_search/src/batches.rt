@@ -60,13 +60,13 @@ pub(crate) fn candidate_batch(alloc: Global, worker: u32, values: Vec<i64>) -> B
 }
 
 /// An equal batch.
-pub(crate) fn copy_batch(alloc: Global, b: &Batch) -> Result<Batch, OutOfMemory>
-    ensures { IfOk result (λ c. c ≡ b.now) }
+pub(crate) fn copy_batch(alloc: Global, batch: &Batch) -> Result<Batch, OutOfMemory>
+    ensures { IfOk result (λ c. c ≡ batch.now) }
 {
-    let lemmas = copy_entries(alloc, b.lemmas.as_slice())?;
-    let candidate = copy_candidate(alloc, &b.candidate)?;
+    let lemmas = copy_entries(alloc, batch.lemmas.as_slice())?;
+    let candidate = copy_candidate(alloc, &batch.candidate)?;
     Ok(Batch {
-        by: b.by,
+        by: batch.by,
         lemmas,
         candidate,
     })

@@ -18,12 +18,12 @@ pub(crate) struct Ended {
 }
 
 /// Runs a worker on the problem, which begins with an empty log.
-pub(crate) fn run_worker(alloc: Global, p: &Problem, plan: Plan) -> Result<Ended, OutOfMemory>
+pub(crate) fn run_worker(alloc: Global, problem: &Problem, plan: Plan) -> Result<Ended, OutOfMemory>
     requires { IsPlan plan }
-    ensures { IfOk result (λ ended. IsEnded p.now plan ended) }
+    ensures { IfOk result (λ ended. IsEnded problem.now plan ended) }
 {
-    let trader = Alone::new(Log::new(alloc, p.copy(alloc)?));
-    match Worker::new(alloc, p, trader, 0, plan) {
+    let trader = Alone::new(Log::new(alloc, problem.copy(alloc)?));
+    match Worker::new(alloc, problem, trader, 0, plan) {
         Err(_) => Err(OutOfMemory),
         Ok(worker) => Ok(run_to_end(worker)),
     }

@@ -28,15 +28,15 @@ use std::alloc::Global;
 /// Condition: the numbers of the plan are within their limits.
 pub fn solve_alone(
     alloc: Global,
-    m: &Model,
-    e: &Earlier,
+    model: &Model,
+    earlier: &Earlier,
     plan: Plan,
     work: &mut Work,
 ) -> Result<Answer, SolveStop>
     requires { IsPlan plan }
-    ensures { IsSolveAnswer (lists_of m.now) e.now.pairs plan work.old work.new result }
+    ensures { IsSolveAnswer (lists_of model.now) earlier.now.pairs plan work.old work.new result }
 {
-    let encoded = encode(alloc, m, e)?;
+    let encoded = encode(alloc, model, earlier)?;
     match search(alloc, &encoded, plan, work) {
         Ok(answer) => Ok(answer),
         Err(_) => Err(SolveStop::Memory),

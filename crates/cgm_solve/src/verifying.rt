@@ -29,13 +29,13 @@ pub enum Verified {
 /// `Exhausted` never comes. `SolveStop::Row` comes exactly where the model has no encoding.
 pub fn verify(
     alloc: Global,
-    m: &Model,
-    e: &Earlier,
+    model: &Model,
+    earlier: &Earlier,
     entries: &[Entry],
 ) -> Result<Verified, SolveStop>
-    ensures { IsVerifyAnswer (lists_of m.now) e.now.pairs entries.now result }
+    ensures { IsVerifyAnswer (lists_of model.now) earlier.now.pairs entries.now result }
 {
-    let encoded = encode(alloc, m, e)?;
+    let encoded = encode(alloc, model, earlier)?;
     match verify_copy(alloc, &encoded, entries) {
         Ok(verified) => Ok(verified),
         Err(_) => Err(SolveStop::Memory),

@@ -43,12 +43,12 @@ impl Model for Activity {
 impl Activity {
     /// The order for a problem, a seed and a worker, with all weights 0. `OutOfMemory` where memory
     /// ran out.
-    pub fn new(alloc: Global, p: &Problem, seed: u64, worker: u32) -> Result<Activity, OutOfMemory>
-        ensures unweighed { IfOk result (λ a. a ≡ unweighed (order_of (var_count p.now) seed worker)) }
-        ensures each_once { IfOk result (λ a. IsEachOnce (var_count p.now) a.variables) }
-        ensures count { IfOk result (λ a. length a.weights ≡ var_count p.now) }
+    pub fn new(alloc: Global, problem: &Problem, seed: u64, worker: u32) -> Result<Activity, OutOfMemory>
+        ensures unweighed { IfOk result (λ a. a ≡ unweighed (order_of (var_count problem.now) seed worker)) }
+        ensures each_once { IfOk result (λ a. IsEachOnce (var_count problem.now) a.variables) }
+        ensures count { IfOk result (λ a. length a.weights ≡ var_count problem.now) }
     {
-        let variables = variable_order(alloc, p.vars(), seed, worker)?;
+        let variables = variable_order(alloc, problem.vars(), seed, worker)?;
         let weights = vec![in alloc; 0; variables.len()]?;
         Ok(Activity {
             variables,
@@ -60,21 +60,21 @@ impl Activity {
     /// Makes a variable heavier. No other that wasn't heavier than some variable becomes so: the
     /// others keep their order, save that weights may become equal where all are divided to keep
     /// them small. Takes no memory.
-    pub fn raise(&mut self, v: Var)
-        requires { v.0 < length self.old.weights }
-        ensures raised { self.new ≡ raised self.old v.0 }
-        ensures order { (x y : ℕ) → x ≢ v.0 → weight_of self.old.weights x ≤ weight_of self.old.weights y
+    pub fn raise(&mut self, variable: Var)
+        requires { variable.0 < length self.old.weights }
+        ensures raised { self.new ≡ raised self.old variable.0 }
+        ensures order { (x y : ℕ) → x ≢ variable.0 → weight_of self.old.weights x ≤ weight_of self.old.weights y
             → weight_of self.new.weights x ≤ weight_of self.new.weights y }
         ensures count { length self.new.weights ≡ length self.old.weights }
     {
-        self.lift(v);
+        self.lift(variable);
     }
 
-    fn lift(&mut self, v: Var)
-        requires { v.0 < length self.old.weights }
-        ensures { self.new ≡ raised self.old v.0 }
+    fn lift(&mut self, variable: Var)
+        requires { variable.0 < length self.old.weights }
+        ensures { self.new ≡ raised self.old variable.0 }
     {
-        let place = v.0 as usize;
+        let place = variable.0 as usize;
         let weight = self.weights[place] + self.increment;
         let increment = grown_increment(self.increment);
         self.weights[place] = weight;
@@ -88,15 +88,15 @@ impl Activity {
     /// The lower half of a variable that isn't fixed in the box and than which no other that isn't
     /// fixed is heavier, and None where all are fixed. Takes no memory.
     /// Condition: box and order are of the same problem.
-    pub fn next(&self, b: &BoxState) -> Option<Atom>
-        requires { length b.now.lower ≡ length self.now.weights }
-        ensures none { IsNone result ↔ IsPoint b.now }
+    pub fn next(&self, bounds: &BoxState) -> Option<Atom>
+        requires { length bounds.now.lower ≡ length self.now.weights }
+        ensures none { IsNone result ↔ IsPoint bounds.now }
         ensures heaviest { IfSome result
-            (λ a. IsHeaviest b.now self.now.weights self.now.variables a.var) }
-        ensures half { IfSome result (λ a. IsLowerHalf b.now a.var a) }
+            (λ a. IsHeaviest bounds.now self.now.weights self.now.variables a.var) }
+        ensures half { IfSome result (λ a. IsLowerHalf bounds.now a.var a) }
     {
-        let v = heaviest_choice(b, self.weights(), self.variables())?;
-        Some(lower_half(b, v))
+        let v = heaviest_choice(bounds, self.weights(), self.variables())?;
+        Some(lower_half(bounds, v))
     }
 
     fn weights(&self) -> &[u64]
@@ -135,57 +135,57 @@ fn rescale(weights: &mut [u64])
 }
 
 /// The first of the heaviest variables that aren't fixed, of a list with each variable once.
-fn heaviest_choice(b: &BoxState, weights: &[u64], variables: &[Var]) -> Option<Var>
-    requires count { length b.now.lower ≡ length weights.now }
+fn heaviest_choice(bounds: &BoxState, weights: &[u64], variables: &[Var]) -> Option<Var>
+    requires count { length bounds.now.lower ≡ length weights.now }
     requires each_once { IsEachOnce (length weights.now) variables.now }
-    ensures none { IsNone result ↔ IsPoint b.now }
-    ensures known { IfSome result (λ v. v.0 < length b.now.lower) }
-    ensures heaviest { IfSome result (λ v. IsHeaviest b.now weights.now variables.now v) }
+    ensures none { IsNone result ↔ IsPoint bounds.now }
+    ensures known { IfSome result (λ v. v.0 < length bounds.now.lower) }
+    ensures heaviest { IfSome result (λ v. IsHeaviest bounds.now weights.now variables.now v) }
 {
-    is_proper(b, variables);
-    heaviest_of(b, weights, variables)
+    is_proper(bounds, variables);
+    heaviest_of(bounds, weights, variables)
 }
 
 /// The first of the heaviest variables that aren't fixed.
-fn heaviest_of(b: &BoxState, weights: &[u64], variables: &[Var]) -> Option<Var>
-    requires count { length b.now.lower ≡ length weights.now }
+fn heaviest_of(bounds: &BoxState, weights: &[u64], variables: &[Var]) -> Option<Var>
+    requires count { length bounds.now.lower ≡ length weights.now }
     requires known { All (λ v. v.0 < length weights.now) variables.now }
-    ensures { MatchOption result (All (λ v. unfixed b.now v ≡ false) variables.now)
-        (λ v. (v.0 < length weights.now) × IsHeaviest b.now weights.now variables.now v) }
+    ensures { MatchOption result (All (λ v. unfixed bounds.now v ≡ false) variables.now)
+        (λ v. (v.0 < length weights.now) × IsHeaviest bounds.now weights.now variables.now v) }
 {
     let mut best = None;
     for v in variables {
-        best = heavier_of(b, weights, *v, best);
+        best = heavier_of(bounds, weights, *v, best);
     }
     best
 }
 
 /// The best so far, or the next variable where that is heavier.
-fn heavier_of(b: &BoxState, weights: &[u64], v: Var, best: Option<Var>) -> Option<Var>
-    requires count { length b.now.lower ≡ length weights.now }
-    requires known { v.0 < length weights.now }
+fn heavier_of(bounds: &BoxState, weights: &[u64], variable: Var, best: Option<Var>) -> Option<Var>
+    requires count { length bounds.now.lower ≡ length weights.now }
+    requires known { variable.0 < length weights.now }
     requires best_known { IfSome best (λ u. u.0 < length weights.now) }
-    ensures { result ≡ (if comes_before b.now weights.now v best then Some v else best) }
+    ensures { result ≡ (if comes_before bounds.now weights.now variable best then Some variable else best) }
 {
-    if is_before(b, weights, v, best) {
-        Some(v)
+    if is_before(bounds, weights, variable, best) {
+        Some(variable)
     } else {
         best
     }
 }
 
 /// Whether a variable isn't fixed and is heavier than the best so far.
-fn is_before(b: &BoxState, weights: &[u64], v: Var, best: Option<Var>) -> bool
-    requires count { length b.now.lower ≡ length weights.now }
-    requires known { v.0 < length weights.now }
+fn is_before(bounds: &BoxState, weights: &[u64], variable: Var, best: Option<Var>) -> bool
+    requires count { length bounds.now.lower ≡ length weights.now }
+    requires known { variable.0 < length weights.now }
     requires best_known { IfSome best (λ u. u.0 < length weights.now) }
-    ensures { result ≡ comes_before b.now weights.now v best }
+    ensures { result ≡ comes_before bounds.now weights.now variable best }
 {
-    if !is_unfixed(b, v) {
+    if !is_unfixed(bounds, variable) {
         return false;
     }
     match best {
         None => true,
-        Some(u) => weights[u.0 as usize] < weights[v.0 as usize],
+        Some(u) => weights[u.0 as usize] < weights[variable.0 as usize],
     }
 }

@@ -7,34 +7,34 @@ ghost use Rattle.cgm_split.specs.Halving.{IsLowerHalf, IsMiddle, is_unfixed as u
 use cgm_atom::{Atom, BoxState, Var};
 
 /// Whether a variable has more than one value.
-pub(crate) fn is_unfixed(b: &BoxState, v: Var) -> bool
-    requires { v.0 < length b.now.lower }
-    ensures value { result ≡ unfixed b.now v }
-    ensures proper { IsProper b.now }
+pub(crate) fn is_unfixed(bounds: &BoxState, variable: Var) -> bool
+    requires { variable.0 < length bounds.now.lower }
+    ensures value { result ≡ unfixed bounds.now variable }
+    ensures proper { IsProper bounds.now }
 {
-    b.lo(v) < b.hi(v)
+    bounds.lo(variable) < bounds.hi(variable)
 }
 
 /// Brings in that the least values of a box that has a variable are at most its greatest.
-pub(crate) fn is_proper(b: &BoxState, variables: &[Var])
-    requires { All (λ v. v.0 < length b.now.lower) variables.now }
-    ensures { 0 < length variables.now → IsProper b.now }
+pub(crate) fn is_proper(bounds: &BoxState, variables: &[Var])
+    requires { All (λ v. v.0 < length bounds.now.lower) variables.now }
+    ensures { 0 < length variables.now → IsProper bounds.now }
 {
     match variables {
         [] => {}
         [v, ..] => {
-            let _least = b.lo(*v);
+            let _least = bounds.lo(*v);
         }
     }
 }
 
 /// The first variable of a list that isn't fixed.
-pub(crate) fn first_unfixed(b: &BoxState, variables: &[Var]) -> Option<Var>
-    requires { All (λ v. v.0 < length b.now.lower) variables.now }
-    ensures { result ≡ find (unfixed b.now) variables.now }
+pub(crate) fn first_unfixed(bounds: &BoxState, variables: &[Var]) -> Option<Var>
+    requires { All (λ v. v.0 < length bounds.now.lower) variables.now }
+    ensures { result ≡ find (unfixed bounds.now) variables.now }
 {
     for v in variables {
-        if is_unfixed(b, *v) {
+        if is_unfixed(bounds, *v) {
             return Some(*v);
         }
     }
@@ -42,15 +42,15 @@ pub(crate) fn first_unfixed(b: &BoxState, variables: &[Var]) -> Option<Var>
 }
 
 /// The atom that asks for the lower half of a variable that isn't fixed.
-pub(crate) fn lower_half(b: &BoxState, v: Var) -> Atom
-    requires known { v.0 < length b.now.lower }
-    requires unfixed { IsTrue (unfixed b.now v) }
-    ensures { IsLowerHalf b.now v result }
+pub(crate) fn lower_half(bounds: &BoxState, variable: Var) -> Atom
+    requires known { variable.0 < length bounds.now.lower }
+    requires unfixed { IsTrue (unfixed bounds.now variable) }
+    ensures { IsLowerHalf bounds.now variable result }
 {
     Atom {
-        var: v,
+        var: variable,
         at_least: false,
-        k: middle(b.lo(v), b.hi(v)),
+        k: middle(bounds.lo(variable), bounds.hi(variable)),
     }
 }
 

@@ -33,15 +33,15 @@ impl Model for Order {
 
 impl Order {
     /// The order for a problem, a seed and a worker. `OutOfMemory` where memory ran out.
-    pub fn new(alloc: Global, p: &Problem, seed: u64, worker: u32) -> Result<Order, OutOfMemory>
-        ensures objectives { IfOk result (λ o. o.objectives ≡ p.now.objectives) }
-        ensures variables { IfOk result (λ o. o.variables ≡ order_of (var_count p.now) seed worker) }
-        ensures each_once { IfOk result (λ o. IsEachOnce (var_count p.now) o.variables) }
-        ensures count { IfOk result (λ o. length o.variables ≡ var_count p.now) }
+    pub fn new(alloc: Global, problem: &Problem, seed: u64, worker: u32) -> Result<Order, OutOfMemory>
+        ensures objectives { IfOk result (λ o. o.objectives ≡ problem.now.objectives) }
+        ensures variables { IfOk result (λ o. o.variables ≡ order_of (var_count problem.now) seed worker) }
+        ensures each_once { IfOk result (λ o. IsEachOnce (var_count problem.now) o.variables) }
+        ensures count { IfOk result (λ o. length o.variables ≡ var_count problem.now) }
         ensures by_number { worker ≡ 0 → IfOk result (λ o. IsByNumber o) }
     {
-        let objectives = Vec::from_slice(alloc, p.objectives())?;
-        let variables = variable_order(alloc, p.vars(), seed, worker)?;
+        let objectives = Vec::from_slice(alloc, problem.objectives())?;
+        let variables = variable_order(alloc, problem.vars(), seed, worker)?;
         Ok(Order {
             objectives,
             variables,
@@ -66,41 +66,41 @@ impl Order {
 
 /// The lower half of the first variable in the order that isn't fixed in the box, and None where
 /// all are fixed. Takes no memory. Condition: box and order are of the same problem.
-pub fn next(b: &BoxState, order: &mut Order) -> Option<Atom>
-    requires { length b.now.lower ≡ length order.old.variables }
-    ensures none { IsNone result ↔ IsPoint b.now }
-    ensures variable { option_map (λ a. a.var) result ≡ preferred b.now order.old }
-    ensures half { IfSome result (λ a. IsLowerHalf b.now a.var a) }
-    ensures lowest { IsByNumber order.old → All (λ v. IsFixed b.now v.0) order.old.objectives
-        → IfSome result (λ a. (x : ℕ) → x < a.var.0 → IsFixed b.now x) }
+pub fn next(bounds: &BoxState, order: &mut Order) -> Option<Atom>
+    requires { length bounds.now.lower ≡ length order.old.variables }
+    ensures none { IsNone result ↔ IsPoint bounds.now }
+    ensures variable { option_map (λ a. a.var) result ≡ preferred bounds.now order.old }
+    ensures half { IfSome result (λ a. IsLowerHalf bounds.now a.var a) }
+    ensures lowest { IsByNumber order.old → All (λ v. IsFixed bounds.now v.0) order.old.objectives
+        → IfSome result (λ a. (x : ℕ) → x < a.var.0 → IsFixed bounds.now x) }
     ensures unchanged { order.new ≡ order.old }
 {
-    let v = first_choice(b, order)?;
-    Some(lower_half(b, v))
+    let v = first_choice(bounds, order)?;
+    Some(lower_half(bounds, v))
 }
 
-fn first_choice(b: &BoxState, order: &Order) -> Option<Var>
-    requires { length b.now.lower ≡ length order.now.variables }
-    ensures first { result ≡ preferred b.now order.now }
-    ensures none { IsNone result ↔ IsPoint b.now }
-    ensures known { IfSome result (λ v. v.0 < length b.now.lower) }
-    ensures unfixed { IfSome result (λ v. IsTrue (is_unfixed b.now v)) }
-    ensures lowest { IsByNumber order.now → All (λ v. IsFixed b.now v.0) order.now.objectives
-        → IfSome result (λ v. (x : ℕ) → x < v.0 → IsFixed b.now x) }
+fn first_choice(bounds: &BoxState, order: &Order) -> Option<Var>
+    requires { length bounds.now.lower ≡ length order.now.variables }
+    ensures first { result ≡ preferred bounds.now order.now }
+    ensures none { IsNone result ↔ IsPoint bounds.now }
+    ensures known { IfSome result (λ v. v.0 < length bounds.now.lower) }
+    ensures unfixed { IfSome result (λ v. IsTrue (is_unfixed bounds.now v)) }
+    ensures lowest { IsByNumber order.now → All (λ v. IsFixed bounds.now v.0) order.now.objectives
+        → IfSome result (λ v. (x : ℕ) → x < v.0 → IsFixed bounds.now x) }
 {
     let variables = order.variables();
-    is_proper(b, variables);
-    first_of_both(b, order.objectives(), variables)
+    is_proper(bounds, variables);
+    first_of_both(bounds, order.objectives(), variables)
 }
 
 #[tactic(auto, using(crate::proofs::Finding::found_before, crate::proofs::Finding::found_after))]
-fn first_of_both(b: &BoxState, objectives: &[Var], variables: &[Var]) -> Option<Var>
-    requires objectives { All (λ v. v.0 < length b.now.lower) objectives.now }
-    requires variables { All (λ v. v.0 < length b.now.lower) variables.now }
-    ensures { result ≡ find (is_unfixed b.now) (objectives.now ++ variables.now) }
+fn first_of_both(bounds: &BoxState, objectives: &[Var], variables: &[Var]) -> Option<Var>
+    requires objectives { All (λ v. v.0 < length bounds.now.lower) objectives.now }
+    requires variables { All (λ v. v.0 < length bounds.now.lower) variables.now }
+    ensures { result ≡ find (is_unfixed bounds.now) (objectives.now ++ variables.now) }
 {
-    match first_unfixed(b, objectives) {
+    match first_unfixed(bounds, objectives) {
         Some(v) => Some(v),
-        None => first_unfixed(b, variables),
+        None => first_unfixed(bounds, variables),
     }
 }

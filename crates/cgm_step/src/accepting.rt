@@ -28,57 +28,57 @@ use cgm_atom::{
 /// Condition: the log is accepted, and `work` is the problem's own box, which it is again afterwards.
 #[tactic(auto, unfolding(cgm_atom::specs::Acceptance::first_fault))]
 pub fn accepts_next(
-    p: &Problem,
+    problem: &Problem,
     log: &IndexedLog<'_>,
     next: &Entry,
     work: &mut BoxState,
 ) -> Result<(), BadStep>
-    requires accepted { IsAcceptedState p.now log.now }
-    requires own_box { work.old ≡ p.now.bounds }
-    ensures exact { IsVerdict (first_fault p.now log.now next.now) result }
-    ensures own_box { work.new ≡ p.now.bounds }
+    requires accepted { IsAcceptedState problem.now log.now }
+    requires own_box { work.old ≡ problem.now.bounds }
+    ensures exact { IsVerdict (first_fault problem.now log.now next.now) result }
+    ensures own_box { work.new ≡ problem.now.bounds }
 {
     match next {
-        Entry::Best { values, .. } => accepts_best(p, log, values.as_slice()),
+        Entry::Best { values, .. } => accepts_best(problem, log, values.as_slice()),
         Entry::Lemma {
             clause,
             hints,
             bound,
             ..
-        } => accepts_lemma(p, log, clause, hints.as_slice(), *bound, work),
+        } => accepts_lemma(problem, log, clause, hints.as_slice(), *bound, work),
     }
 }
 
 #[tactic(auto, unfolding(cgm_atom::specs::Acceptance::first_fault))]
-fn accepts_best(p: &Problem, log: &IndexedLog<'_>, values: &[i64]) -> Result<(), BadStep>
-    requires accepted { IsAcceptedState p.now log.now }
-    ensures { IsVerdict (first_fault p.now log.now (entry.Best 0 values.now)) result }
+fn accepts_best(problem: &Problem, log: &IndexedLog<'_>, values: &[i64]) -> Result<(), BadStep>
+    requires accepted { IsAcceptedState problem.now log.now }
+    ensures { IsVerdict (first_fault problem.now log.now (entry.Best 0 values.now)) result }
 {
     test_open(log)?;
-    test_values(p, values)?;
-    test_less(p, log, values)
+    test_values(problem, values)?;
+    test_less(problem, log, values)
 }
 
 #[tactic(auto, unfolding(cgm_atom::specs::Acceptance::first_fault))]
 fn accepts_lemma(
-    p: &Problem,
+    problem: &Problem,
     log: &IndexedLog<'_>,
     clause: &Clause,
     hints: &[Hint],
     bound: u64,
     work: &mut BoxState,
 ) -> Result<(), BadStep>
-    requires accepted { IsAcceptedState p.now log.now }
-    requires own_box { work.old ≡ p.now.bounds }
-    ensures exact { IsVerdict (first_fault p.now log.now (entry.Lemma 0 clause.now
+    requires accepted { IsAcceptedState problem.now log.now }
+    requires own_box { work.old ≡ problem.now.bounds }
+    ensures exact { IsVerdict (first_fault problem.now log.now (entry.Lemma 0 clause.now
         hints.now bound)) result }
-    ensures own_box { work.new ≡ p.now.bounds }
+    ensures own_box { work.new ≡ problem.now.bounds }
 {
     test_open(log)?;
-    test_atoms(p, clause.atoms.as_slice())?;
-    let found = test_hints(p, log, hints)?;
+    test_atoms(problem, clause.atoms.as_slice())?;
+    let found = test_hints(problem, log, hints)?;
     test_bound(found, bound)?;
-    test_refuted(p, log, clause, hints, work)
+    test_refuted(problem, log, clause, hints, work)
 }
 
 /// No lemma without atoms stands in the log.
@@ -92,13 +92,13 @@ fn test_open(log: &IndexedLog<'_>) -> Result<(), BadStep>
 }
 
 /// The values are a solution.
-fn test_values(p: &Problem, values: &[i64]) -> Result<(), BadStep>
-    ensures exact { IsVerdict (option_map (fault_of (length values.now)) (first_violation p.now
+fn test_values(problem: &Problem, values: &[i64]) -> Result<(), BadStep>
+    ensures exact { IsVerdict (option_map (fault_of (length values.now)) (first_violation problem.now
         values.now)) result }
-    ensures fit { OnOk result (AreValuesOf p.now values.now) }
+    ensures fit { OnOk result (AreValuesOf problem.now values.now) }
 {
-    p.recall_well_formed();
-    match first_violated(p, values) {
+    problem.recall_well_formed();
+    match first_violated(problem, values) {
         Some(violated) => Err(fault_for(values.len() as u64, violated)),
         None => Ok(()),
     }
@@ -116,14 +116,14 @@ fn fault_for(given: u64, violated: Violated) -> BadStep
 }
 
 /// The vector of the values is less than that of the last best, if there is one.
-fn test_less(p: &Problem, log: &IndexedLog<'_>, values: &[i64]) -> Result<(), BadStep>
-    requires accepted { IsAcceptedState p.now log.now }
-    requires values { AreValuesOf p.now values.now }
+fn test_less(problem: &Problem, log: &IndexedLog<'_>, values: &[i64]) -> Result<(), BadStep>
+    requires accepted { IsAcceptedState problem.now log.now }
+    requires values { AreValuesOf problem.now values.now }
     ensures { IsVerdict
-        (fault_unless (is_below (vector p.now values.now) (option_map (vector p.now) (last_best log.now))) fault.NotLess)
+        (fault_unless (is_below (vector problem.now values.now) (option_map (vector problem.now) (last_best log.now))) fault.NotLess)
         result }
 {
-    let objectives = p.objectives();
+    let objectives = problem.objectives();
     match log.last_best() {
         Some(best) => {
             if is_less(objectives, values, best) {
@@ -156,15 +156,15 @@ pub fn is_less(objectives: &[Var], values: &[i64], others: &[i64]) -> bool
 }
 
 /// The variables of the atoms exist.
-fn test_atoms(p: &Problem, atoms: &[Atom]) -> Result<(), BadStep>
+fn test_atoms(problem: &Problem, atoms: &[Atom]) -> Result<(), BadStep>
     ensures exact { IsVerdict
-        (option_map (λ i. fault.Atom (i + 1)) (position_from (λ a. not (nat_lt a.var.0 (var_count p.now))) 0 atoms.now))
+        (option_map (λ i. fault.Atom (i + 1)) (position_from (λ a. not (nat_lt a.var.0 (var_count problem.now))) 0 atoms.now))
         result }
-    ensures known { OnOk result (AreKnown (var_count p.now) atoms.now) }
+    ensures known { OnOk result (AreKnown (var_count problem.now) atoms.now) }
 {
     for (i, a) in atoms.iter().enumerate() {
         let place = i as u64 + 1;
-        if a.var.0 >= p.vars() {
+        if a.var.0 >= problem.vars() {
             return Err(BadStep::Atom { place });
         }
     }
@@ -172,17 +172,17 @@ fn test_atoms(p: &Problem, atoms: &[Atom]) -> Result<(), BadStep>
 }
 
 /// The hints name something. Answers the greatest that they carry.
-fn test_hints<'l>(p: &'l Problem, log: &IndexedLog<'l>, hints: &[Hint]) -> Result<u64, BadStep>
-    requires accepted { IsAcceptedState p.now log.now }
+fn test_hints<'l>(problem: &'l Problem, log: &IndexedLog<'l>, hints: &[Hint]) -> Result<u64, BadStep>
+    requires accepted { IsAcceptedState problem.now log.now }
     ensures exact { IsVerdict
-        (option_map (λ i. fault.Hint (i + 1)) (position_from (λ h. is_none (named p.now log.now h)) 0 hints.now))
+        (option_map (λ i. fault.Hint (i + 1)) (position_from (λ h. is_none (named problem.now log.now h)) 0 hints.now))
         result }
     ensures greatest { IfOk result (λ found. found ≡ greatest_carried log.now hints.now) }
 {
     let mut greatest = 0;
     for (i, h) in hints.iter().enumerate() {
         let place = i as u64 + 1;
-        match log.find(p, h) {
+        match log.find(problem, h) {
             Some(found) => greatest = found.carried.max(greatest),
             None => return Err(BadStep::Hint { place }),
         }
@@ -202,20 +202,20 @@ fn test_bound(found: u64, bound: u64) -> Result<(), BadStep>
 
 /// From the problem's bounds with each atom's negation, the hints reach conflict.
 fn test_refuted(
-    p: &Problem,
+    problem: &Problem,
     log: &IndexedLog<'_>,
     clause: &Clause,
     hints: &[Hint],
     work: &mut BoxState,
 ) -> Result<(), BadStep>
-    requires accepted { IsAcceptedState p.now log.now }
-    requires own_box { work.old ≡ p.now.bounds }
-    requires known { AreKnown (var_count p.now) clause.now.atoms }
-    ensures exact { IsVerdict (fault_unless (is_refuted p.now log.now clause.now hints.now)
+    requires accepted { IsAcceptedState problem.now log.now }
+    requires own_box { work.old ≡ problem.now.bounds }
+    requires known { AreKnown (var_count problem.now) clause.now.atoms }
+    ensures exact { IsVerdict (fault_unless (is_refuted problem.now log.now clause.now hints.now)
         fault.NoConflict) result }
-    ensures own_box { work.new ≡ p.now.bounds }
+    ensures own_box { work.new ≡ problem.now.bounds }
 {
-    if refutes(p, log, work, clause.atoms.as_slice(), hints) {
+    if refutes(problem, log, work, clause.atoms.as_slice(), hints) {
         return Ok(());
     }
     Err(BadStep::NoConflict)

@@ -38,14 +38,14 @@ impl LogIndex {
 
     /// Adds the next entry of the log. Without memory for it the index stays as it was.
     /// Condition: fewer than 2^63 entries so far.
-    pub fn add(&mut self, e: &Entry) -> Result<(), OutOfMemory>
+    pub fn add(&mut self, entry: &Entry) -> Result<(), OutOfMemory>
         requires { self.old.entries < 2 ^ 63 }
-        ensures ok { OnOk result (self.new ≡ index_with self.old e.now) }
+        ensures ok { OnOk result (self.new ≡ index_with self.old entry.now) }
         ensures own { OnOk result
-            ((log : List Entry) → IsIndexOf self.old log → IsIndexOf self.new (log ++ e.now ∷ [])) }
+            ((log : List Entry) → IsIndexOf self.old log → IsIndexOf self.new (log ++ entry.now ∷ [])) }
         ensures err { OnErr result (self.new ≡ self.old) }
     {
-        match e {
+        match entry {
             Entry::Best { .. } => self.bests.push(self.entries + 1)?,
             Entry::Lemma { clause, .. } => {
                 if clause.atoms.as_slice().is_empty() {

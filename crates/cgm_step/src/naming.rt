@@ -31,26 +31,26 @@ pub struct Found<'a> {
 impl<'l> IndexedLog<'l> {
     /// The clause or row that a hint names, if it is there, and what the hint carries.
     /// Condition: the log is accepted.
-    pub fn find(&self, p: &'l Problem, h: &Hint) -> Option<Found<'l>>
-        requires { IsAcceptedState p.now self.now }
-        ensures { IsFound p.now self.now h.now result }
+    pub fn find(&self, problem: &'l Problem, hint: &Hint) -> Option<Found<'l>>
+        requires { IsAcceptedState problem.now self.now }
+        ensures { IsFound problem.now self.now hint.now result }
     {
-        p.recall_well_formed();
-        match *h {
-            Hint::Clause(n) => with_carried(find_clause(p, n), 0),
-            Hint::Row(n) => with_carried(find_row(p, n), 0),
-            Hint::Entry(place) => self.find_lemma(p, place),
+        problem.recall_well_formed();
+        match *hint {
+            Hint::Clause(n) => with_carried(find_clause(problem, n), 0),
+            Hint::Row(n) => with_carried(find_row(problem, n), 0),
+            Hint::Entry(place) => self.find_lemma(problem, place),
             Hint::Own(_) => None,
             Hint::Cut { best, part } => match self.best(best) {
-                Some(values) => with_carried(find_part(p, values, part), best),
+                Some(values) => with_carried(find_part(problem, values, part), best),
                 None => None,
             },
         }
     }
 
-    fn find_lemma(&self, p: &Problem, place: u64) -> Option<Found<'l>>
-        requires { IsAcceptedState p.now self.now }
-        ensures { IsFound p.now self.now (hint.Entry place) result }
+    fn find_lemma(&self, problem: &Problem, place: u64) -> Option<Found<'l>>
+        requires { IsAcceptedState problem.now self.now }
+        ensures { IsFound problem.now self.now (hint.Entry place) result }
     {
         match self.live(place) {
             None => None,
@@ -72,30 +72,30 @@ fn with_carried(named: Option<Named<'_>>, carried: u64) -> Option<Found<'_>>
     }
 }
 
-fn find_clause(p: &Problem, n: u32) -> Option<Named<'_>>
-    ensures { IsNamed p.now (option_map of_clause (slice_get p.now.clauses n)) result }
+fn find_clause(problem: &Problem, n: u32) -> Option<Named<'_>>
+    ensures { IsNamed problem.now (option_map of_clause (slice_get problem.now.clauses n)) result }
 {
-    if n >= p.clauses() {
+    if n >= problem.clauses() {
         return None;
     }
-    Some(Named::Clause(ClauseAtoms::Listed(p.clause(n).atoms.as_slice())))
+    Some(Named::Clause(ClauseAtoms::Listed(problem.clause(n).atoms.as_slice())))
 }
 
-fn find_row(p: &Problem, n: u32) -> Option<Named<'_>>
-    ensures { IsNamed p.now (option_map of_row (slice_get p.now.rows n)) result }
+fn find_row(problem: &Problem, n: u32) -> Option<Named<'_>>
+    ensures { IsNamed problem.now (option_map of_row (slice_get problem.now.rows n)) result }
 {
-    if n >= p.rows() {
+    if n >= problem.rows() {
         return None;
     }
-    Some(Named::Row(p.row(n)))
+    Some(Named::Row(problem.row(n)))
 }
 
-fn find_part<'a>(p: &'a Problem, values: &'a [i64], part: u32) -> Option<Named<'a>>
-    requires { AreValuesOf p.now values.now }
-    ensures { IsNamed p.now (option_map of_clause (slice_get (cut p.now.objectives (vector p.now
+fn find_part<'a>(problem: &'a Problem, values: &'a [i64], part: u32) -> Option<Named<'a>>
+    requires { AreValuesOf problem.now values.now }
+    ensures { IsNamed problem.now (option_map of_clause (slice_get (cut problem.now.objectives (vector problem.now
         values.now)) part)) result }
 {
-    let objectives = p.objectives();
+    let objectives = problem.objectives();
     let part = part as usize;
     if part >= objectives.len().max(1) {
         return None;

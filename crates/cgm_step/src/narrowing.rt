@@ -17,53 +17,53 @@ use cgm_atom::{BoxState, Hint, Narrowed, Problem, narrow_by_atoms, narrow_by_row
 /// `Conflict` comes where it leaves nothing of the box, which then is as it was, and `Tighter` where a bound
 /// has changed. Values of the box that meet the clause or row stay in it. Takes no memory.
 /// Condition: the log is accepted, and the box is one of the problem.
-pub fn narrow(p: &Problem, log: &IndexedLog<'_>, b: &mut BoxState, h: &Hint) -> Narrowed
-    requires accepted { IsAcceptedState p.now log.now }
-    requires in_box { IsBoxOf p.now.bounds b.old }
-    ensures exact { IsNarrowing (narrowed p.now log.now b.old h.now) b.old b.new result }
-    ensures within { IsBoxOf p.now.bounds b.new }
-    ensures kept { KeepsValues (named p.now log.now h.now) b.old b.new }
-    ensures conflict { result ≡ Narrowed.Conflict → HasNoValues (named p.now log.now
-        h.now) b.old }
+pub fn narrow(problem: &Problem, log: &IndexedLog<'_>, bounds: &mut BoxState, hint: &Hint) -> Narrowed
+    requires accepted { IsAcceptedState problem.now log.now }
+    requires in_box { IsBoxOf problem.now.bounds bounds.old }
+    ensures exact { IsNarrowing (narrowed problem.now log.now bounds.old hint.now) bounds.old bounds.new result }
+    ensures within { IsBoxOf problem.now.bounds bounds.new }
+    ensures kept { KeepsValues (named problem.now log.now hint.now) bounds.old bounds.new }
+    ensures conflict { result ≡ Narrowed.Conflict → HasNoValues (named problem.now log.now
+        hint.now) bounds.old }
 {
-    match log.find(p, h) {
-        Some(found) => narrow_by(p, b, found.named),
+    match log.find(problem, hint) {
+        Some(found) => narrow_by(problem, bounds, found.named),
         None => Narrowed::Same,
     }
 }
 
 /// Narrows a box by a clause or row.
-fn narrow_by(p: &Problem, b: &mut BoxState, by: Named<'_>) -> Narrowed
-    requires known { IsNamedIn p.now by }
-    requires in_box { IsBoxOf p.now.bounds b.old }
-    ensures exact { IsNarrowing (left_by b.old (constraint_of by.entry)) b.old b.new result }
-    ensures within { IsBoxOf p.now.bounds b.new }
+fn narrow_by(problem: &Problem, bounds: &mut BoxState, by: Named<'_>) -> Narrowed
+    requires known { IsNamedIn problem.now by }
+    requires in_box { IsBoxOf problem.now.bounds bounds.old }
+    ensures exact { IsNarrowing (left_by bounds.old (constraint_of by.entry)) bounds.old bounds.new result }
+    ensures within { IsBoxOf problem.now.bounds bounds.new }
 {
-    p.recall_well_formed();
+    problem.recall_well_formed();
     match by {
-        Named::Clause(atoms) => narrow_by_atoms(b, atoms),
-        Named::Row(row) => narrow_by_row(b, row),
+        Named::Clause(atoms) => narrow_by_atoms(bounds, atoms),
+        Named::Row(row) => narrow_by_row(bounds, row),
     }
 }
 
 /// The place, from 0, of the hint that conflicts with what those before it leave, if there is one.
 /// The box is then what those before it leave, and otherwise what all leave.
 pub(crate) fn conflict_at(
-    p: &Problem,
+    problem: &Problem,
     log: &IndexedLog<'_>,
-    b: &mut BoxState,
+    bounds: &mut BoxState,
     hints: &[Hint],
 ) -> Option<usize>
-    requires accepted { IsAcceptedState p.now log.now }
-    requires in_box { IsBoxOf p.now.bounds b.old }
-    ensures exact { is_some result ≡ is_none (all_narrowed p.now log.now b.old hints.now) }
+    requires accepted { IsAcceptedState problem.now log.now }
+    requires in_box { IsBoxOf problem.now.bounds bounds.old }
+    ensures exact { is_some result ≡ is_none (all_narrowed problem.now log.now bounds.old hints.now) }
     ensures place { IfSome result (λ place. place ≤ length hints.now) }
-    ensures touched { ChangesOnly (vars_of_hints p.now log.now (hints_before result hints.now))
-        b.old b.new }
-    ensures within { IsBoxOf p.now.bounds b.new }
+    ensures touched { ChangesOnly (vars_of_hints problem.now log.now (hints_before result hints.now))
+        bounds.old bounds.new }
+    ensures within { IsBoxOf problem.now.bounds bounds.new }
 {
     for (i, h) in hints.iter().enumerate() {
-        match narrow(p, log, b, h) {
+        match narrow(problem, log, bounds, h) {
             Narrowed::Conflict => return Some(i),
             Narrowed::Same => {}
             Narrowed::Tighter => {}

@@ -16,26 +16,26 @@ use cgm_atom::{Atom, BoxState, ClauseAtoms, Hint, Problem, make_true, negated};
 /// Whether the hints, in their order, reach conflict from the box with each atom's negation.
 /// The box is the problem's own, and is so again afterwards.
 pub(crate) fn refutes(
-    p: &Problem,
+    problem: &Problem,
     log: &IndexedLog<'_>,
     work: &mut BoxState,
     atoms: &[Atom],
     hints: &[Hint],
 ) -> bool
-    requires accepted { IsAcceptedState p.now log.now }
-    requires own_box { work.old ≡ p.now.bounds }
-    requires known { AreKnown (var_count p.now) atoms.now }
-    ensures exact { result ≡ is_refuted p.now log.now (record { atoms = atoms.now }) hints.now }
-    ensures own_box { work.new ≡ p.now.bounds }
+    requires accepted { IsAcceptedState problem.now log.now }
+    requires own_box { work.old ≡ problem.now.bounds }
+    requires known { AreKnown (var_count problem.now) atoms.now }
+    ensures exact { result ≡ is_refuted problem.now log.now (record { atoms = atoms.now }) hints.now }
+    ensures own_box { work.new ≡ problem.now.bounds }
 {
-    p.recall_well_formed();
+    problem.recall_well_formed();
     if !assume_negations(work, atoms) {
-        restore_atoms(p, work, ClauseAtoms::Listed(atoms));
+        restore_atoms(problem, work, ClauseAtoms::Listed(atoms));
         return true;
     }
-    let conflict = conflict_at(p, log, work, hints);
-    restore_atoms(p, work, ClauseAtoms::Listed(atoms));
-    restore_hints(p, log, work, used_hints(hints, conflict));
+    let conflict = conflict_at(problem, log, work, hints);
+    restore_atoms(problem, work, ClauseAtoms::Listed(atoms));
+    restore_hints(problem, log, work, used_hints(hints, conflict));
     conflict.is_some()
 }
 
@@ -51,16 +51,16 @@ fn used_hints(hints: &[Hint], conflict: Option<usize>) -> &[Hint]
 }
 
 /// Makes the negations of the atoms true, in their order. Answers false where one is false.
-fn assume_negations(b: &mut BoxState, atoms: &[Atom]) -> bool
-    requires { AreKnown (length b.old.lower) atoms.now }
+fn assume_negations(bounds: &mut BoxState, atoms: &[Atom]) -> bool
+    requires { AreKnown (length bounds.old.lower) atoms.now }
     ensures exact { MatchBool result
-        (all_assumed b.old (map negation atoms.now) ≡ Some b.new) (all_assumed b.old (map negation atoms.now) ≡ None) }
-    ensures touched { ChangesOnly (vars_of_atoms atoms.now) b.old b.new }
-    ensures within { (limits : Bounds) → IsBoxOf limits b.old → IsBoxOf limits b.new }
+        (all_assumed bounds.old (map negation atoms.now) ≡ Some bounds.new) (all_assumed bounds.old (map negation atoms.now) ≡ None) }
+    ensures touched { ChangesOnly (vars_of_atoms atoms.now) bounds.old bounds.new }
+    ensures within { (limits : Bounds) → IsBoxOf limits bounds.old → IsBoxOf limits bounds.new }
 {
     for a in atoms {
-        match negated(b, *a) {
-            Some(opposite) => make_true(b, opposite),
+        match negated(bounds, *a) {
+            Some(opposite) => make_true(bounds, opposite),
             None => return false,
         };
     }

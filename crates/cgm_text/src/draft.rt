@@ -28,10 +28,10 @@ pub(crate) struct ModelDraft {
     rule_lines: Vec<u32>,
 }
 
-fn is_rule(s: &Statement) -> bool
-    ensures { (line : ℕ) → rule_line line s.now ≡ (if result then line ∷ [] else []) }
+fn is_rule(statement: &Statement) -> bool
+    ensures { (line : ℕ) → rule_line line statement.now ≡ (if result then line ∷ [] else []) }
 {
-    match s {
+    match statement {
         Statement::Rule(_) => true,
         _ => false,
     }
@@ -73,13 +73,13 @@ impl ModelDraft {
     }
 
     /// Adds a statement of the line with this number.
-    fn add(&mut self, s: Statement, number: u32) -> Result<(), LineStop>
-        requires { IsProper self.old.builder s }
-        ensures put { OnOk result (IsPut number s self.old self.new) }
-        ensures stop { IfErr result (IsStop (IsJudged self.old.builder s)) }
+    fn add(&mut self, statement: Statement, number: u32) -> Result<(), LineStop>
+        requires { IsProper self.old.builder statement }
+        ensures put { OnOk result (IsPut number statement self.old self.new) }
+        ensures stop { IfErr result (IsStop (IsJudged self.old.builder statement)) }
     {
-        let has_line = is_rule(&s);
-        match self.builder.add(s) {
+        let has_line = is_rule(&statement);
+        match self.builder.add(statement) {
             Ok(()) => {}
             Err(stop) => return Err(add_stop(stop)),
         }

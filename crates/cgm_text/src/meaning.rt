@@ -23,48 +23,48 @@ use sqlite_items::Boxed;
 use std::alloc::{AllocError as OutOfMemory, Global};
 
 /// The number of the element with this name; 0 where there is none, here and below.
-fn element(builder: &ModelBuilder, line: &[u8], w: Word) -> u32
-    ensures { result ≡ element_named builder.now (word_in line.now w) }
+fn element(builder: &ModelBuilder, line: &[u8], word: Word) -> u32
+    ensures { result ≡ element_named builder.now (word_in line.now word) }
 {
-    match builder.find(bytes_in(line, w)) {
+    match builder.find(bytes_in(line, word)) {
         Some(Thing::Element(k)) => k,
         _ => 0,
     }
 }
 
-fn refinement(builder: &ModelBuilder, line: &[u8], w: Word) -> u32
-    ensures { result ≡ refinement_named builder.now (word_in line.now w) }
+fn refinement(builder: &ModelBuilder, line: &[u8], word: Word) -> u32
+    ensures { result ≡ refinement_named builder.now (word_in line.now word) }
 {
-    match builder.find(bytes_in(line, w)) {
+    match builder.find(bytes_in(line, word)) {
         Some(Thing::Refinement(k)) => k,
         _ => 0,
     }
 }
 
-fn truth(builder: &ModelBuilder, line: &[u8], w: Word) -> Truth
-    ensures { result ≡ truth_named builder.now (word_in line.now w) }
+fn truth(builder: &ModelBuilder, line: &[u8], word: Word) -> Truth
+    ensures { result ≡ truth_named builder.now (word_in line.now word) }
 {
-    match builder.find(bytes_in(line, w)) {
+    match builder.find(bytes_in(line, word)) {
         Some(Thing::Element(k)) => Truth::Element(k),
         Some(Thing::Refinement(k)) => Truth::Refinement(k),
         _ => Truth::Element(0),
     }
 }
 
-fn number(builder: &ModelBuilder, line: &[u8], w: Word) -> Number
-    ensures { result ≡ number_named builder.now (word_in line.now w) }
+fn number(builder: &ModelBuilder, line: &[u8], word: Word) -> Number
+    ensures { result ≡ number_named builder.now (word_in line.now word) }
 {
-    match builder.find(bytes_in(line, w)) {
+    match builder.find(bytes_in(line, word)) {
         Some(Thing::Var(k)) => Number::Var(k),
         Some(Thing::Sum(k)) => Number::Sum(k),
         _ => Number::Var(0),
     }
 }
 
-fn sum(builder: &ModelBuilder, line: &[u8], w: Word) -> u32
-    ensures { result ≡ sum_named builder.now (word_in line.now w) }
+fn sum(builder: &ModelBuilder, line: &[u8], word: Word) -> u32
+    ensures { result ≡ sum_named builder.now (word_in line.now word) }
 {
-    match builder.find(bytes_in(line, w)) {
+    match builder.find(bytes_in(line, word)) {
         Some(Thing::Sum(k)) => k,
         _ => 0,
     }

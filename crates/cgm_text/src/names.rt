@@ -78,10 +78,10 @@ fn thing_fault(wanted: Wanted, thing: Option<Thing>) -> Option<BadKind>
 }
 
 /// What is wrong with a name in this place, if anything is.
-fn word_fault(builder: &ModelBuilder, line: &[u8], wanted: Wanted, w: Word) -> Option<BadKind>
-    ensures { result ≡ thing_fault wanted (thing_named builder.now (word_in line.now w)) }
+fn word_fault(builder: &ModelBuilder, line: &[u8], wanted: Wanted, word: Word) -> Option<BadKind>
+    ensures { result ≡ thing_fault wanted (thing_named builder.now (word_in line.now word)) }
 {
-    thing_fault(wanted, builder.find(bytes_in(line, w)))
+    thing_fault(wanted, builder.find(bytes_in(line, word)))
 }
 
 fn two_words_fault(

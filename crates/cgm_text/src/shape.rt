@@ -162,11 +162,11 @@ pub(crate) fn direction_and_word(line: &[u8], tokens: &[Token]) -> Option<(Direc
     }
 }
 
-fn push(words: &mut Items<Word>, w: Word) -> Result<(), FormStop>
-    ensures pushed { OnOk result (words.new ≡ words.old ++ w ∷ []) }
+fn push(words: &mut Items<Word>, word: Word) -> Result<(), FormStop>
+    ensures pushed { OnOk result (words.new ≡ words.old ++ word ∷ []) }
     ensures memory { IfErr result (λ stop. stop ≡ FormStop.Memory) }
 {
-    match words.push(w) {
+    match words.push(word) {
         Ok(()) => Ok(()),
         Err(_) => Err(FormStop::Memory),
     }

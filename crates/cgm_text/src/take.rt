@@ -89,11 +89,11 @@ pub(crate) fn take_colon(tokens: &[Token]) -> Option<&[Token]>
 }
 
 /// The bytes of a word of this line.
-pub(crate) fn bytes_in<'l>(line: &'l [u8], w: Word) -> &'l [u8]
-    ensures { result.now ≡ word_in line.now w }
+pub(crate) fn bytes_in<'l>(line: &'l [u8], word: Word) -> &'l [u8]
+    ensures { result.now ≡ word_in line.now word }
 {
-    let to = (w.to as usize).min(line.len());
-    let from = (w.from as usize).min(to);
+    let to = (word.to as usize).min(line.len());
+    let from = (word.from as usize).min(to);
     &line[from..to]
 }
 

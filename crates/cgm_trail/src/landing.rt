@@ -8,11 +8,11 @@ use cgm_atom::Hint;
 /// The hint after the lemmas that had no place yet landed, the first of them at the place `first`
 /// of the log: `Own(i)` is then the entry at `first + i - 1`, and any other hint stays.
 /// `i` is at least 1, and the place fits 64 bits.
-pub fn landed(h: Hint, first: u64) -> Hint
-    requires { CanLand first h }
-    ensures { result ≡ landed_hint first h }
+pub fn landed(hint: Hint, first: u64) -> Hint
+    requires { CanLand first hint }
+    ensures { result ≡ landed_hint first hint }
 {
-    match h {
+    match hint {
         Hint::Own(i) => Hint::Entry(first + (i as u64 - 1)),
         other => other,
     }

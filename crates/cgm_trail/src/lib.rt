@@ -18,9 +18,9 @@ pub use trails::Trail;
 pub use works::Work;
 
 // A trail and a work can be moved to a thread.
-fn cross_threads(t: &Trail, w: &Work) {
-    can_be_moved(t);
-    can_be_moved(w);
+fn cross_threads(trail: &Trail, work: &Work) {
+    can_be_moved(trail);
+    can_be_moved(work);
 }
 
 fn can_be_moved<T: Send>(_: &T) {}

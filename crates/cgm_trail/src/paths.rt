@@ -33,12 +33,12 @@ impl Model for Path {
 }
 
 impl Path {
-    pub(crate) fn new(alloc: Global, p: &Problem) -> Result<Path, OutOfMemory>
-        ensures { IfOk result (λ t. t ≡ record { problem = p.now; changes = [] }) }
+    pub(crate) fn new(alloc: Global, original: &Problem) -> Result<Path, OutOfMemory>
+        ensures { IfOk result (λ t. t ≡ record { problem = original.now; changes = [] }) }
     {
-        p.recall_well_formed();
-        let problem = p.copy(alloc)?;
-        let state = BoxState::of(alloc, p)?;
+        original.recall_well_formed();
+        let problem = original.copy(alloc)?;
+        let state = BoxState::of(alloc, original)?;
         Ok(Path {
             problem,
             state,
@@ -75,31 +75,31 @@ impl Path {
     }
 
     /// Makes an open atom true, as narrowing by the hint does.
-    pub(crate) fn tighten(&mut self, a: Atom, by: Hint) -> Result<(), OutOfMemory>
-        requires { IsOpenIn (box_after self.old.problem.bounds self.old.changes) a }
-        ensures ok { OnOk result (self.new ≡ path_with self.old a (Reason.By by)) }
+    pub(crate) fn tighten(&mut self, atom: Atom, by: Hint) -> Result<(), OutOfMemory>
+        requires { IsOpenIn (box_after self.old.problem.bounds self.old.changes) atom }
+        ensures ok { OnOk result (self.new ≡ path_with self.old atom (Reason.By by)) }
         ensures err { OnErr result (self.new ≡ self.old) }
     {
-        let change = change_from(&self.state, a, Reason::By(by));
+        let change = change_from(&self.state, atom, Reason::By(by));
         self.changes.push(change)?;
-        self.state.assume(a);
+        self.state.assume(atom);
         Ok(())
     }
 
     /// Makes an open atom true, as the decision that opens a level.
-    pub(crate) fn decide(&mut self, a: Atom) -> Result<(), OutOfMemory>
-        requires { IsOpenIn (box_after self.old.problem.bounds self.old.changes) a }
-        ensures ok { OnOk result (self.new ≡ path_with self.old a Reason.Decision) }
+    pub(crate) fn decide(&mut self, atom: Atom) -> Result<(), OutOfMemory>
+        requires { IsOpenIn (box_after self.old.problem.bounds self.old.changes) atom }
+        ensures ok { OnOk result (self.new ≡ path_with self.old atom Reason.Decision) }
         ensures err { OnErr result (self.new ≡ self.old) }
     {
-        let change = change_from(&self.state, a, Reason::Decision);
+        let change = change_from(&self.state, atom, Reason::Decision);
         let level = self.starts.len();
         self.starts.push(self.changes.len())?;
         if let Err(error) = self.changes.push(change) {
             self.starts.truncate(level);
             return Err(error.into());
         }
-        self.state.assume(a);
+        self.state.assume(atom);
         Ok(())
     }
 
@@ -123,10 +123,10 @@ impl Path {
 
     /// Takes back the changes of all levels after this one, and makes an atom true that is then
     /// open. The new change stands where the next level's decision stood, so this takes no memory.
-    pub(crate) fn jump(&mut self, level: usize, a: Atom, by: Hint)
+    pub(crate) fn jump(&mut self, level: usize, atom: Atom, by: Hint)
         requires earlier { level < level_of self.old.changes }
-        requires undecided { IsOpenIn (box_after self.old.problem.bounds (cut_path level self.old).changes) a }
-        ensures { self.new ≡ path_with (cut_path level self.old) a (Reason.By by) }
+        requires undecided { IsOpenIn (box_after self.old.problem.bounds (cut_path level self.old).changes) atom }
+        ensures { self.new ≡ path_with (cut_path level self.old) atom (Reason.By by) }
     {
         let from = self.starts[level];
         take_back(
@@ -135,10 +135,10 @@ impl Path {
             self.changes.as_slice(),
             from,
         );
-        let change = change_from(&self.state, a, Reason::By(by));
+        let change = change_from(&self.state, atom, Reason::By(by));
         replace_rest(&mut self.changes, from, change);
         self.starts.truncate(level);
-        self.state.assume(a);
+        self.state.assume(atom);
     }
 
     /// Renames the reasons that name lemmas without a place to the places where these landed.
@@ -151,13 +151,13 @@ impl Path {
 }
 
 /// The change of a box by which an atom is made true.
-fn change_from(b: &BoxState, a: Atom, reason: Reason) -> Change
-    requires { a.var.0 < length b.now.lower }
-    ensures { result ≡ change_of b.now a reason }
+fn change_from(bounds: &BoxState, atom: Atom, reason: Reason) -> Change
+    requires { atom.var.0 < length bounds.now.lower }
+    ensures { result ≡ change_of bounds.now atom reason }
 {
     Change {
-        atom: a,
-        was: if a.at_least { b.lo(a.var) } else { b.hi(a.var) },
+        atom,
+        was: if atom.at_least { bounds.lo(atom.var) } else { bounds.hi(atom.var) },
         reason,
     }
 }
@@ -172,11 +172,11 @@ fn replace_rest(changes: &mut Vec<Change>, from: usize, change: Change)
 }
 
 /// Takes back the changes from a place on.
-fn take_back(p: &Problem, state: &mut BoxState, changes: &[Change], from: usize)
-    requires changes { AreChanges p.now.bounds changes.now }
-    requires state { state.old ≡ box_after p.now.bounds changes.now }
+fn take_back(problem: &Problem, state: &mut BoxState, changes: &[Change], from: usize)
+    requires changes { AreChanges problem.now.bounds changes.now }
+    requires state { state.old ≡ box_after problem.now.bounds changes.now }
     requires known { from ≤ length changes.now }
-    ensures { state.new ≡ box_after p.now.bounds (take from changes.now) }
+    ensures { state.new ≡ box_after problem.now.bounds (take from changes.now) }
 {
     let mut at = changes.len();
     while at > from {

@@ -33,10 +33,10 @@ impl Model for Trail {
 
 impl Trail {
     /// A trail without changes, over a copy of the problem.
-    pub fn new(alloc: Global, p: &Problem) -> Result<Trail, OutOfMemory>
-        ensures { IfOk result (λ t. t ≡ started p.now) }
+    pub fn new(alloc: Global, problem: &Problem) -> Result<Trail, OutOfMemory>
+        ensures { IfOk result (λ t. t ≡ started problem.now) }
     {
-        let path = Path::new(alloc, p)?;
+        let path = Path::new(alloc, problem)?;
         Ok(Trail {
             path,
             moves: 0,
@@ -113,42 +113,42 @@ impl Trail {
 
     /// Makes an atom true that is neither true nor false, as narrowing by the hint does.
     /// There were fewer than 2^62 moves.
-    pub fn tighten(&mut self, a: Atom, by: Hint) -> Result<(), OutOfMemory>
-        requires undecided { IsOpenIn (box_of self.old) a }
+    pub fn tighten(&mut self, atom: Atom, by: Hint) -> Result<(), OutOfMemory>
+        requires undecided { IsOpenIn (box_of self.old) atom }
         requires room { self.old.moves < 2 ^ 62 }
-        ensures ok { OnOk result (self.new ≡ tightened self.old a by) }
+        ensures ok { OnOk result (self.new ≡ tightened self.old atom by) }
         ensures err { OnErr result (self.new ≡ self.old) }
     {
-        self.path.tighten(a, by)?;
+        self.path.tighten(atom, by)?;
         self.moves += 1;
         Ok(())
     }
 
     /// Opens a level by making an atom true that is neither true nor false. Every clause and every
     /// row of the problem leaves the trail's box as it is. There were fewer than 2^62 moves.
-    pub fn open_level(&mut self, a: Atom) -> Result<(), OutOfMemory>
-        requires undecided { IsOpenIn (box_of self.old) a }
+    pub fn open_level(&mut self, atom: Atom) -> Result<(), OutOfMemory>
+        requires undecided { IsOpenIn (box_of self.old) atom }
         requires rest { IsAtRest self.old.problem (box_of self.old) }
         requires room { self.old.moves < 2 ^ 62 }
-        ensures ok { OnOk result (self.new ≡ decided self.old a) }
+        ensures ok { OnOk result (self.new ≡ decided self.old atom) }
         ensures err { OnErr result (self.new ≡ self.old) }
     {
-        self.path.decide(a)?;
+        self.path.decide(atom)?;
         self.moves += 1;
         Ok(())
     }
 
     /// Cuts to an earlier level and makes an atom true there that is then neither true nor false.
     /// There were fewer than 2^62 moves. It takes no memory, so it is never refused.
-    pub fn jump(&mut self, level: u64, a: Atom, by: Hint) -> Result<(), OutOfMemory>
+    pub fn jump(&mut self, level: u64, atom: Atom, by: Hint) -> Result<(), OutOfMemory>
         requires earlier { level < level_of self.old.changes }
-        requires undecided { IsOpenIn (box_of (cut_trail level self.old)) a }
+        requires undecided { IsOpenIn (box_of (cut_trail level self.old)) atom }
         requires room { self.old.moves < 2 ^ 62 }
         ensures never_refused { IsOk result }
-        ensures after { self.new ≡ jumped self.old level a by }
+        ensures after { self.new ≡ jumped self.old level atom by }
     {
         self.path.recall_path();
-        self.path.jump(level as usize, a, by);
+        self.path.jump(level as usize, atom, by);
         self.moves += 1;
         Ok(())
     }

@@ -6,7 +6,7 @@ use Rattle.cgm_check.proofs.check.Given as goal
 
 abbrev pub invariant-loop-i : goal.invariant-loop-i
 invariant-loop-i l = record {
-  accepted : IsAccepted l.p (take l.i l.entries);
+  accepted : IsAccepted l.problem (take l.i l.entries);
   own : IsIndexOf l.index (take l.i l.entries);
-  own_box : l.work ≡ l.p.bounds;
+  own_box : l.work ≡ l.problem.bounds;
 }

@@ -17,5 +17,5 @@ loop-coefficient-preserved c =
     let coefficient : to_z w64 (of_z w64 (get_or terms i none).0) ≡ (get_or terms i none).0 = to_z-of_z w64 (get_or terms i none).0 fits in
     let new : to_z w64 (of_z w64 c.sum_of-sum.result) ≡ sum +ℤ term = search rules in
     rw new
-    (IsSumBefore-more c.args.values.now c.args.p.now.bounds (var_count c.args.p.now) terms i none sum term c.loop-coefficient-test.true
+    (IsSumBefore-more c.args.values.now c.args.problem.now.bounds (var_count c.args.problem.now) terms i none sum term c.loop-coefficient-test.true
     (rw coefficient at c.term_value.ensures.value) (rw coefficient at c.term_value.ensures.size) c.loop-coefficient.invariant)

@@ -6,4 +6,4 @@ use Rattle.cgm_atom.proofs.checks.first_outside.Goals as goal
 
 pub returns-clause-none : goal.returns-clause-none
 returns-clause-none c =
-    within_exactly c.args.p.now.bounds c.args.values.now None c.recall_well_formed.ensures.proper c.requires (grind (arith, common_steps))
+    within_exactly c.args.problem.now.bounds c.args.values.now None c.recall_well_formed.ensures.proper c.requires (grind (arith, common_steps))

@@ -8,8 +8,8 @@ use Rattle.cgm_atom.proofs.checks.first_violated.Goals as goal
 pub returns-in-Some-first_false_clause-clause-none :
     goal.returns-in-Some-first_false_clause-clause-none
 returns-in-Some-first_false_clause-clause-none c =
-    none_exactly c.args.p.now c.args.values.now (Some (violated.Clause c.in-Some-first_false_clause.n)) c.vars.ensures.valid.proper (search rules)
+    none_exactly c.args.problem.now c.args.values.now (Some (violated.Clause c.in-Some-first_false_clause.n)) c.vars.ensures.valid.proper (search rules)
 
 pub returns-clause-none : goal.returns-clause-none
 returns-clause-none c =
-    none_exactly c.args.p.now c.args.values.now c.map.result c.vars.ensures.valid.proper (grind (arith, common_steps))
+    none_exactly c.args.problem.now c.args.values.now c.map.result c.vars.ensures.valid.proper (grind (arith, common_steps))

@@ -5,4 +5,4 @@ use Rattle.cgm_atom.proofs.checks.is_clause_true.Given as goal
 
 abbrev pub invariant-loop-atom : goal.invariant-loop-atom
 invariant-loop-atom l =
-    list_any (atom_true l.values) l.c.atoms ≡ list_any (atom_true l.values) (drop l.atom-index l.c.atoms)
+    list_any (atom_true l.values) l.clause.atoms ≡ list_any (atom_true l.values) (drop l.atom-index l.clause.atoms)

@@ -6,8 +6,8 @@ use Rattle.cgm_atom.proofs.checks.term_value.Goals as goal
 
 pub returns-clause-size : goal.returns-clause-size
 returns-clause-size c =
-    let x = c.args.v.0 in
-    let b = c.args.p.now.bounds in
+    let x = c.args.variable.0 in
+    let b = c.args.problem.now.bounds in
     let v = value_of c.args.values.now x in
     let size : unsigned_abs (to_z w64 (of_z w64 c.product.result)) ≡ unsigned_abs c.args.coefficient * unsigned_abs v = search rules in
     let between = c.requires.within x in

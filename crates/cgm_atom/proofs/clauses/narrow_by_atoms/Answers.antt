@@ -12,15 +12,15 @@ make_true-requires-clause-known c =
     rw (← get_or_from_slice_get (atoms_of c.args.atoms) c.in-Some.only a a c.atom.ensures) (c.requires.known c.in-Some.only a c.in-Some.ensures.first.0)
 
 pub returns-in-None-clause-exact : goal.returns-in-None-clause-exact
-returns-in-None-clause-exact c = (none_left c.args.b.now (atoms_of c.args.atoms) c.in-None.ensures.first, refl)
+returns-in-None-clause-exact c = (none_left c.args.bounds.now (atoms_of c.args.atoms) c.in-None.ensures.first, refl)
 
 pub returns-in-None-first_left-clause-exact : goal.returns-in-None-first_left-clause-exact
 returns-in-None-first_left-clause-exact c =
-    narrowing_from _ c.args.b.now c.make_true.new.b c.make_true.result
-    (one_left c.args.b.now (atoms_of c.args.atoms) c.in-Some.only c.atom.result c.in-Some.ensures.first c.atom.ensures c.in-None-first_left.ensures.first
+    narrowing_from _ c.args.bounds.now c.make_true.new.bounds c.make_true.result
+    (one_left c.args.bounds.now (atoms_of c.args.atoms) c.in-Some.only c.atom.result c.in-Some.ensures.first c.atom.ensures c.in-None-first_left.ensures.first
     ∙ ap Some (sym c.make_true.ensures.after))
     c.make_true.ensures.answer
 
 pub returns-in-Some-first_left-clause-exact : goal.returns-in-Some-first_left-clause-exact
 returns-in-Some-first_left-clause-exact c =
-    (more_left c.args.b.now (atoms_of c.args.atoms) c.in-Some.only c.in-Some-first_left.field-0 c.in-Some.ensures.first c.in-Some-first_left.ensures.first, refl)
+    (more_left c.args.bounds.now (atoms_of c.args.atoms) c.in-Some.only c.in-Some-first_left.field-0 c.in-Some.ensures.first c.in-Some-first_left.ensures.first, refl)

@@ -8,7 +8,7 @@ use Rattle.cgm_atom.proofs.rows.greatest_activity.Goals as goal
 
 pub loop-term-preserved : goal.loop-term-preserved
 loop-term-preserved c =
-    let b = c.args.b.now in
+    let b = c.args.bounds.now in
     let terms = c.args.terms.now in
     let i = c.loop-term.term-index in
     let t = get_or terms i (pos 0, record { 0 = 0 }) in

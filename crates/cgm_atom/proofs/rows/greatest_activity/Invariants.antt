@@ -3,4 +3,4 @@ use Rattle.cgm_atom.proofs.RowSums.{IsSumSoFar}
 use Rattle.cgm_atom.proofs.rows.greatest_activity.Given as goal
 
 abbrev pub invariant-loop-term : goal.invariant-loop-term
-invariant-loop-term l = IsSumSoFar l.b l.terms (drop l.term-index l.terms) l.sum
+invariant-loop-term l = IsSumSoFar l.bounds l.terms (drop l.term-index l.terms) l.sum

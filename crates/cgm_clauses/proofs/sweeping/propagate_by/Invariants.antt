@@ -5,9 +5,9 @@ use Rattle.cgm_clauses.proofs.sweeping.propagate_by.Given as goal
 
 abbrev pub invariant-loop-h : goal.invariant-loop-h
 invariant-loop-h l = record {
-  made : IsPropagated (IsNamedIn (l.clauses ++ l.added)) l.fn.t l.t l.fn.left l.left;
-  problem : l.t.problem ≡ l.fn.t.problem;
-  room : l.t.moves + l.left ≤ 2 ^ 62;
+  made : IsPropagated (IsNamedIn (l.clauses ++ l.added)) l.fn.t l.trail l.fn.left l.left;
+  problem : l.trail.problem ≡ l.fn.t.problem;
+  room : l.trail.moves + l.left ≤ 2 ^ 62;
 }
 
 abbrev pub decreases-loop-h : goal.decreases-loop-h

@@ -12,8 +12,8 @@ use Rattle.cgm_enc_formula.proofs.definitions.define_all.Goals as goal
 
 pub add_pairs-requires : goal.add_pairs-requires
 add_pairs-requires c =
-    let b = c.args.b.now in
-    let p = c.new_name.new.b in
+    let b = c.args.builder.now in
+    let p = c.new_name.new.builder in
     let n = var_count b in
     let ls = c.args.literals.now in
     let all = definition_clauses n (all_of ls) in
@@ -23,9 +23,9 @@ add_pairs-requires c =
 
 pub add_one_of-requires : goal.add_one_of-requires
 add_one_of-requires c =
-    let b = c.args.b.now in
-    let p = c.new_name.new.b in
-    let q = c.add_pairs.new.b in
+    let b = c.args.builder.now in
+    let p = c.new_name.new.builder in
+    let q = c.add_pairs.new.builder in
     let n = var_count b in
     let ls = c.args.literals.now in
     let all = definition_clauses n (all_of ls) in

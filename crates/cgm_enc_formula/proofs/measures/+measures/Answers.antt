@@ -16,49 +16,49 @@ Known m c = All (λ t. IsKnownNumber m t.1) c.0.terms
 
 pub has_small_measures-has_small_measures-requires : goal.has_small_measures-has_small_measures-requires
 has_small_measures-has_small_measures-requires t c =
-    let m = lists_of c.args.m.now in (
+    let m = lists_of c.args.model.now in (
       search (rules, the_lemmas),
       (c.requires.variables, subst (HasKnownNumbers m) (sym c.get.ensures) (of_negation (Known m) c.in-Not.part (subst (HasKnownNumbers m) c.in-Not.is c.requires.known))),
     )
 
 pub has_small_measures-have_small_measures-requires : goal.has_small_measures-have_small_measures-requires
 has_small_measures-have_small_measures-requires t c =
-    let m = lists_of c.args.m.now in (
+    let m = lists_of c.args.model.now in (
       search (rules, the_lemmas),
       (c.requires.variables, subst (All (HasKnownNumbers m)) (sym c.as_slice.ensures) (of_conjunction (Known m) c.in-And.parts (subst (HasKnownNumbers m) c.in-And.is c.requires.known))),
     )
 
 pub has_small_measures-have_small_measures-requires-in-Or : goal.has_small_measures-have_small_measures-requires-in-Or
 has_small_measures-have_small_measures-requires-in-Or t c =
-    let m = lists_of c.args.m.now in (
+    let m = lists_of c.args.model.now in (
       search (rules, the_lemmas),
       (c.requires.variables, subst (All (HasKnownNumbers m)) (sym c.as_slice-in-Or.ensures) (of_disjunction (Known m) c.in-Or.parts (subst (HasKnownNumbers m) c.in-Or.is c.requires.known))),
     )
 
 pub has_small_measures-has_small_measures-premise-requires : goal.has_small_measures-has_small_measures-premise-requires
 has_small_measures-has_small_measures-premise-requires t c =
-    let m = lists_of c.args.m.now in (
+    let m = lists_of c.args.model.now in (
       search (rules, the_lemmas),
       (c.requires.variables, subst (HasKnownNumbers m) (sym c.get-in-Implies.ensures) (of_implication (Known m) c.in-Implies.premise c.in-Implies.conclusion (subst (HasKnownNumbers m) c.in-Implies.is c.requires.known)).0),
     )
 
 pub has_small_measures-has_small_measures-conclusion-requires : goal.has_small_measures-has_small_measures-conclusion-requires
 has_small_measures-has_small_measures-conclusion-requires t c =
-    let m = lists_of c.args.m.now in (
+    let m = lists_of c.args.model.now in (
       search (rules, the_lemmas),
       (c.requires.variables, subst (HasKnownNumbers m) (sym c.get-in-Implies-2.ensures) (of_implication (Known m) c.in-Implies.premise c.in-Implies.conclusion (subst (HasKnownNumbers m) c.in-Implies.is c.requires.known)).1),
     )
 
 pub has_small_measures-has_small_measures-one-requires : goal.has_small_measures-has_small_measures-one-requires
 has_small_measures-has_small_measures-one-requires t c =
-    let m = lists_of c.args.m.now in (
+    let m = lists_of c.args.model.now in (
       search (rules, the_lemmas),
       (c.requires.variables, subst (HasKnownNumbers m) (sym c.get-in-Iff.ensures) (of_equivalence (Known m) c.in-Iff.one c.in-Iff.other (subst (HasKnownNumbers m) c.in-Iff.is c.requires.known)).0),
     )
 
 pub has_small_measures-has_small_measures-other-requires : goal.has_small_measures-has_small_measures-other-requires
 has_small_measures-has_small_measures-other-requires t c =
-    let m = lists_of c.args.m.now in (
+    let m = lists_of c.args.model.now in (
       search (rules, the_lemmas),
       (c.requires.variables, subst (HasKnownNumbers m) (sym c.get-in-Iff-2.ensures) (of_equivalence (Known m) c.in-Iff.one c.in-Iff.other (subst (HasKnownNumbers m) c.in-Iff.is c.requires.known)).1),
     )
@@ -66,29 +66,29 @@ has_small_measures-has_small_measures-other-requires t c =
 pub has_small_measures-is_small-requires-clause-known :
     goal.has_small_measures-is_small-requires-clause-known
 has_small_measures-is_small-requires-clause-known t c =
-    let m = lists_of c.args.m.now in
+    let m = lists_of c.args.model.now in
     of_at_most (Known m) c.in-AtMost.linear c.in-AtMost.k (subst (HasKnownNumbers m) c.in-AtMost.is c.requires.known)
 
 pub has_small_measures-is_small-requires-in-AtLeast-clause-known :
     goal.has_small_measures-is_small-requires-in-AtLeast-clause-known
 has_small_measures-is_small-requires-in-AtLeast-clause-known t c =
-    let m = lists_of c.args.m.now in
+    let m = lists_of c.args.model.now in
     of_at_least (Known m) c.in-AtLeast.linear c.in-AtLeast.k (subst (HasKnownNumbers m) c.in-AtLeast.is c.requires.known)
 
 pub has_small_measures-is_small-requires-in-Equal-clause-known :
     goal.has_small_measures-is_small-requires-in-Equal-clause-known
 has_small_measures-is_small-requires-in-Equal-clause-known t c =
-    let m = lists_of c.args.m.now in
+    let m = lists_of c.args.model.now in
     of_equality (Known m) c.in-Equal.linear c.in-Equal.k (subst (HasKnownNumbers m) c.in-Equal.is c.requires.known)
 
 pub has_small_measures-returns-in-And : goal.has_small_measures-returns-in-And
 has_small_measures-returns-in-And t c =
-    let small = has_small_measures (lists_of c.args.m.now) c.args.b.now.bounds in
+    let small = has_small_measures (lists_of c.args.model.now) c.args.builder.now.bounds in
     c.have_small_measures.ensures ∙ ap (list_all small) c.as_slice.ensures
-    ∙ sym (small-And (lists_of c.args.m.now) c.args.b.now.bounds c.in-And.parts) ∙ ap small (sym c.in-And.is)
+    ∙ sym (small-And (lists_of c.args.model.now) c.args.builder.now.bounds c.in-And.parts) ∙ ap small (sym c.in-And.is)
 
 pub has_small_measures-returns-in-Or : goal.has_small_measures-returns-in-Or
 has_small_measures-returns-in-Or t c =
-    let small = has_small_measures (lists_of c.args.m.now) c.args.b.now.bounds in
+    let small = has_small_measures (lists_of c.args.model.now) c.args.builder.now.bounds in
     c.have_small_measures-in-Or.ensures ∙ ap (list_all small) c.as_slice-in-Or.ensures
-    ∙ sym (small-Or (lists_of c.args.m.now) c.args.b.now.bounds c.in-Or.parts) ∙ ap small (sym c.in-Or.is)
+    ∙ sym (small-Or (lists_of c.args.model.now) c.args.builder.now.bounds c.in-Or.parts) ∙ ap small (sym c.in-Or.is)

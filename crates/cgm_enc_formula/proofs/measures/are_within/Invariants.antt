@@ -6,5 +6,5 @@ use Rattle.cgm_enc_formula.proofs.measures.are_within.Given as goal
 
 abbrev pub invariant-loop-term : goal.invariant-loop-term
 invariant-loop-term l =
-    l.room + measure l.b.bounds (variable_terms (lists_of l.m) l.terms)
-    ≡ l.most + measure l.b.bounds (variable_terms (lists_of l.m) (drop l.term-index l.terms))
+    l.room + measure l.builder.bounds (variable_terms (lists_of l.model) l.terms)
+    ≡ l.most + measure l.builder.bounds (variable_terms (lists_of l.model) (drop l.term-index l.terms))

@@ -6,4 +6,4 @@ use Rattle.cgm_enc_formula.proofs.measures.first_past.Given as goal
 
 abbrev pub invariant-loop-number : goal.invariant-loop-number
 invariant-loop-number l =
-    Settles (IsWithinMeasure (lists_of l.m) l.b.bounds) l.rules (drop l.number l.rules) l.number
+    Settles (IsWithinMeasure (lists_of l.model) l.builder.bounds) l.rules (drop l.number l.rules) l.number

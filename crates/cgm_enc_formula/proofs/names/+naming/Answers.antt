@@ -21,19 +21,19 @@ use Rattle.cgm_enc_formula.proofs.names.+naming.Goals as goal
 pub name_formula-truth_variable-requires :
     goal.name_formula-truth_variable-requires
 name_formula-truth_variable-requires t c =
-    let m = lists_of c.args.m.now in
-    let b = c.args.b.now in
+    let m = lists_of c.args.model.now in
+    let b = c.args.builder.now in
     let n = var_count b in
-    let f = c.args.f.now in
+    let f = c.args.formula.now in
     encodable_name m c.in-Name.name (subst (IsEncodableFormula m) c.in-Name.is c.requires.formula)
 
 pub name_formula-name_formula-requires :
     goal.name_formula-name_formula-requires
 name_formula-name_formula-requires t c =
-    let m = lists_of c.args.m.now in
-    let b = c.args.b.now in
+    let m = lists_of c.args.model.now in
+    let b = c.args.builder.now in
     let n = var_count b in
-    let f = c.args.f.now in
+    let f = c.args.formula.now in
     let room = subst (λ (x : Named). Fits b x.definitions) (naming-Not m f c.in-Not.part n c.in-Not.is) c.requires.room in (
       search (rules, the_lemmas),
       (
@@ -48,10 +48,10 @@ name_formula-name_formula-requires t c =
 pub name_formula-name_each-requires :
     goal.name_formula-name_each-requires
 name_formula-name_each-requires t c =
-    let m = lists_of c.args.m.now in
-    let b = c.args.b.now in
+    let m = lists_of c.args.model.now in
+    let b = c.args.builder.now in
     let n = var_count b in
-    let f = c.args.f.now in
+    let f = c.args.formula.now in
     let parts = c.in-And.parts in
     let room = subst (λ (x : Named). Fits b x.definitions) (naming-And m f parts n c.in-And.is) c.requires.room in (
       search (rules, the_lemmas),
@@ -68,10 +68,10 @@ name_formula-name_each-requires t c =
 pub name_formula-name_each-requires-in-Or :
     goal.name_formula-name_each-requires-in-Or
 name_formula-name_each-requires-in-Or t c =
-    let m = lists_of c.args.m.now in
-    let b = c.args.b.now in
+    let m = lists_of c.args.model.now in
+    let b = c.args.builder.now in
     let n = var_count b in
-    let f = c.args.f.now in
+    let f = c.args.formula.now in
     let parts = c.in-Or.parts in
     let room = subst (λ (x : Named). Fits b x.definitions) (naming-Or m f parts n c.in-Or.is) c.requires.room in (
       search (rules, the_lemmas),
@@ -88,10 +88,10 @@ name_formula-name_each-requires-in-Or t c =
 pub name_formula-name_formula-requires-in-Implies :
     goal.name_formula-name_formula-requires-in-Implies
 name_formula-name_formula-requires-in-Implies t c =
-    let m = lists_of c.args.m.now in
-    let b = c.args.b.now in
+    let m = lists_of c.args.model.now in
+    let b = c.args.builder.now in
     let n = var_count b in
-    let f = c.args.f.now in
+    let f = c.args.formula.now in
     let first = c.in-Implies.premise in
     let second = c.in-Implies.conclusion in
     let room = subst (λ (x : Named). Fits b x.definitions) (naming-Implies m f first second n c.in-Implies.is) c.requires.room in (
@@ -108,10 +108,10 @@ name_formula-name_formula-requires-in-Implies t c =
 pub name_formula-name_formula-requires-in-Iff :
     goal.name_formula-name_formula-requires-in-Iff
 name_formula-name_formula-requires-in-Iff t c =
-    let m = lists_of c.args.m.now in
-    let b = c.args.b.now in
+    let m = lists_of c.args.model.now in
+    let b = c.args.builder.now in
     let n = var_count b in
-    let f = c.args.f.now in
+    let f = c.args.formula.now in
     let first = c.in-Iff.one in
     let second = c.in-Iff.other in
     let room = subst (λ (x : Named). Fits b x.definitions) (naming-Iff m f first second n c.in-Iff.is) c.requires.room in (
@@ -128,10 +128,10 @@ name_formula-name_formula-requires-in-Iff t c =
 pub name_formula-name_at_most-requires-clause-comparison :
     goal.name_formula-name_at_most-requires-clause-comparison
 name_formula-name_at_most-requires-clause-comparison t c =
-    let m = lists_of c.args.m.now in
-    let b = c.args.b.now in
+    let m = lists_of c.args.model.now in
+    let b = c.args.builder.now in
     let n = var_count b in
-    let f = c.args.f.now in
+    let f = c.args.formula.now in
     let k : to_z w64 (of_z w64 c.in-AtMost.k) ≡ c.in-AtMost.k = search rules in
     subst (λ (z : ℤ). IsEncodable m (c.in-AtMost.linear, z)) (sym k)
     (of_at_most (IsEncodable m) c.in-AtMost.linear c.in-AtMost.k (subst (IsEncodableFormula m) c.in-AtMost.is c.requires.formula).comparisons)
@@ -139,10 +139,10 @@ name_formula-name_at_most-requires-clause-comparison t c =
 pub name_formula-name_at_least-requires-clause-comparison :
     goal.name_formula-name_at_least-requires-clause-comparison
 name_formula-name_at_least-requires-clause-comparison t c =
-    let m = lists_of c.args.m.now in
-    let b = c.args.b.now in
+    let m = lists_of c.args.model.now in
+    let b = c.args.builder.now in
     let n = var_count b in
-    let f = c.args.f.now in
+    let f = c.args.formula.now in
     let k : to_z w64 (of_z w64 c.in-AtLeast.k) ≡ c.in-AtLeast.k = search rules in
     subst (λ (z : ℤ). IsEncodable m (c.in-AtLeast.linear, z)) (sym k)
     (of_at_least (IsEncodable m) c.in-AtLeast.linear c.in-AtLeast.k (subst (IsEncodableFormula m) c.in-AtLeast.is c.requires.formula).comparisons)
@@ -150,10 +150,10 @@ name_formula-name_at_least-requires-clause-comparison t c =
 pub name_formula-name_equal-requires-clause-comparison :
     goal.name_formula-name_equal-requires-clause-comparison
 name_formula-name_equal-requires-clause-comparison t c =
-    let m = lists_of c.args.m.now in
-    let b = c.args.b.now in
+    let m = lists_of c.args.model.now in
+    let b = c.args.builder.now in
     let n = var_count b in
-    let f = c.args.f.now in
+    let f = c.args.formula.now in
     let k : to_z w64 (of_z w64 c.in-Equal.k) ≡ c.in-Equal.k = search rules in
     subst (λ (z : ℤ). IsEncodable m (c.in-Equal.linear, z)) (sym k)
     (of_equality (IsEncodable m) c.in-Equal.linear c.in-Equal.k (subst (IsEncodableFormula m) c.in-Equal.is c.requires.formula).comparisons)
@@ -161,12 +161,12 @@ name_formula-name_equal-requires-clause-comparison t c =
 pub name_formula-define_all-requires-clause-known :
     goal.name_formula-define_all-requires-clause-known
 name_formula-define_all-requires-clause-known t c =
-    let m = lists_of c.args.m.now in
-    let b = c.args.b.now in
+    let m = lists_of c.args.model.now in
+    let b = c.args.builder.now in
     let n = var_count b in
-    let f = c.args.f.now in
+    let f = c.args.formula.now in
     let parts = c.in-And.parts in
-    let p = c.name_each.new.b in
+    let p = c.name_each.new.builder in
     let ds = (parts_at m parts n).definitions in
     let ls = (parts_at m parts n).literals in
     let added : Adds b ds p = subst (λ (xs : List Formula). Adds b (parts_at m xs n).definitions p) c.as_slice.ensures c.in_ok-literals-in-And.ensures.added in
@@ -177,12 +177,12 @@ name_formula-define_all-requires-clause-known t c =
 pub name_formula-define_all-requires-clause-room :
     goal.name_formula-define_all-requires-clause-room
 name_formula-define_all-requires-clause-room t c =
-    let m = lists_of c.args.m.now in
-    let b = c.args.b.now in
+    let m = lists_of c.args.model.now in
+    let b = c.args.builder.now in
     let n = var_count b in
-    let f = c.args.f.now in
+    let f = c.args.formula.now in
     let parts = c.in-And.parts in
-    let p = c.name_each.new.b in
+    let p = c.name_each.new.builder in
     let ds = (parts_at m parts n).definitions in
     let ls = (parts_at m parts n).literals in
     let added : Adds b ds p = subst (λ (xs : List Formula). Adds b (parts_at m xs n).definitions p) c.as_slice.ensures c.in_ok-literals-in-And.ensures.added in
@@ -193,12 +193,12 @@ name_formula-define_all-requires-clause-room t c =
 pub name_formula-returns-in_ok-literals-in-And-clause-literal :
     goal.name_formula-returns-in_ok-literals-in-And-clause-literal
 name_formula-returns-in_ok-literals-in-And-clause-literal t c =
-    let m = lists_of c.args.m.now in
-    let b = c.args.b.now in
+    let m = lists_of c.args.model.now in
+    let b = c.args.builder.now in
     let n = var_count b in
-    let f = c.args.f.now in
+    let f = c.args.formula.now in
     let parts = c.in-And.parts in
-    let p = c.name_each.new.b in
+    let p = c.name_each.new.builder in
     let ds = (parts_at m parts n).definitions in
     let ls = (parts_at m parts n).literals in
     let added : Adds b ds p = subst (λ (xs : List Formula). Adds b (parts_at m xs n).definitions p) c.as_slice.ensures c.in_ok-literals-in-And.ensures.added in
@@ -210,17 +210,17 @@ name_formula-returns-in_ok-literals-in-And-clause-literal t c =
 pub name_formula-returns-in_ok-literals-in-And-clause-added :
     goal.name_formula-returns-in_ok-literals-in-And-clause-added
 name_formula-returns-in_ok-literals-in-And-clause-added t c =
-    let m = lists_of c.args.m.now in
-    let b = c.args.b.now in
+    let m = lists_of c.args.model.now in
+    let b = c.args.builder.now in
     let n = var_count b in
-    let f = c.args.f.now in
+    let f = c.args.formula.now in
     let parts = c.in-And.parts in
-    let p = c.name_each.new.b in
+    let p = c.name_each.new.builder in
     let ds = (parts_at m parts n).definitions in
     let ls = (parts_at m parts n).literals in
     let added : Adds b ds p = subst (λ (xs : List Formula). Adds b (parts_at m xs n).definitions p) c.as_slice.ensures c.in_ok-literals-in-And.ensures.added in
     let same : c.as_slice-in-And.result.now ≡ ls = c.as_slice-in-And.ensures.value ∙ c.in_ok-literals-in-And.ensures.literals ∙ ap (λ (xs : List Formula). (parts_at m xs n).literals) c.as_slice.ensures in
-    let last = c.define_all.new.b in
+    let last = c.define_all.new.builder in
     on_ok_weaker c.define_all.result
     (λ h. subst (λ (x : Named). Adds b x.definitions last) (sym (naming-And m f parts n c.in-And.is))
     (whole_added b p last ds (all_of ls) added (h ∙ ap (λ (xs : List Literal). with_part p (definition_part (var_count p) (all_of xs))) same)))
@@ -229,12 +229,12 @@ name_formula-returns-in_ok-literals-in-And-clause-added t c =
 pub name_formula-define_any-requires-clause-known :
     goal.name_formula-define_any-requires-clause-known
 name_formula-define_any-requires-clause-known t c =
-    let m = lists_of c.args.m.now in
-    let b = c.args.b.now in
+    let m = lists_of c.args.model.now in
+    let b = c.args.builder.now in
     let n = var_count b in
-    let f = c.args.f.now in
+    let f = c.args.formula.now in
     let parts = c.in-Or.parts in
-    let p = c.name_each-in-Or.new.b in
+    let p = c.name_each-in-Or.new.builder in
     let ds = (parts_at m parts n).definitions in
     let ls = (parts_at m parts n).literals in
     let added : Adds b ds p = subst (λ (xs : List Formula). Adds b (parts_at m xs n).definitions p) c.as_slice-in-Or.ensures c.in_ok-literals-in-Or.ensures.added in
@@ -245,12 +245,12 @@ name_formula-define_any-requires-clause-known t c =
 pub name_formula-define_any-requires-clause-room :
     goal.name_formula-define_any-requires-clause-room
 name_formula-define_any-requires-clause-room t c =
-    let m = lists_of c.args.m.now in
-    let b = c.args.b.now in
+    let m = lists_of c.args.model.now in
+    let b = c.args.builder.now in
     let n = var_count b in
-    let f = c.args.f.now in
+    let f = c.args.formula.now in
     let parts = c.in-Or.parts in
-    let p = c.name_each-in-Or.new.b in
+    let p = c.name_each-in-Or.new.builder in
     let ds = (parts_at m parts n).definitions in
     let ls = (parts_at m parts n).literals in
     let added : Adds b ds p = subst (λ (xs : List Formula). Adds b (parts_at m xs n).definitions p) c.as_slice-in-Or.ensures c.in_ok-literals-in-Or.ensures.added in
@@ -261,12 +261,12 @@ name_formula-define_any-requires-clause-room t c =
 pub name_formula-returns-in_ok-literals-in-Or-clause-literal :
     goal.name_formula-returns-in_ok-literals-in-Or-clause-literal
 name_formula-returns-in_ok-literals-in-Or-clause-literal t c =
-    let m = lists_of c.args.m.now in
-    let b = c.args.b.now in
+    let m = lists_of c.args.model.now in
+    let b = c.args.builder.now in
     let n = var_count b in
-    let f = c.args.f.now in
+    let f = c.args.formula.now in
     let parts = c.in-Or.parts in
-    let p = c.name_each-in-Or.new.b in
+    let p = c.name_each-in-Or.new.builder in
     let ds = (parts_at m parts n).definitions in
     let ls = (parts_at m parts n).literals in
     let added : Adds b ds p = subst (λ (xs : List Formula). Adds b (parts_at m xs n).definitions p) c.as_slice-in-Or.ensures c.in_ok-literals-in-Or.ensures.added in
@@ -278,17 +278,17 @@ name_formula-returns-in_ok-literals-in-Or-clause-literal t c =
 pub name_formula-returns-in_ok-literals-in-Or-clause-added :
     goal.name_formula-returns-in_ok-literals-in-Or-clause-added
 name_formula-returns-in_ok-literals-in-Or-clause-added t c =
-    let m = lists_of c.args.m.now in
-    let b = c.args.b.now in
+    let m = lists_of c.args.model.now in
+    let b = c.args.builder.now in
     let n = var_count b in
-    let f = c.args.f.now in
+    let f = c.args.formula.now in
     let parts = c.in-Or.parts in
-    let p = c.name_each-in-Or.new.b in
+    let p = c.name_each-in-Or.new.builder in
     let ds = (parts_at m parts n).definitions in
     let ls = (parts_at m parts n).literals in
     let added : Adds b ds p = subst (λ (xs : List Formula). Adds b (parts_at m xs n).definitions p) c.as_slice-in-Or.ensures c.in_ok-literals-in-Or.ensures.added in
     let same : c.as_slice-in-Or-2.result.now ≡ ls = c.as_slice-in-Or-2.ensures.value ∙ c.in_ok-literals-in-Or.ensures.literals ∙ ap (λ (xs : List Formula). (parts_at m xs n).literals) c.as_slice-in-Or.ensures in
-    let last = c.define_any.new.b in
+    let last = c.define_any.new.builder in
     on_ok_weaker c.define_any.result
     (λ h. subst (λ (x : Named). Adds b x.definitions last) (sym (naming-Or m f parts n c.in-Or.is))
     (whole_added b p last ds (any_of ls) added (h ∙ ap (λ (xs : List Literal). with_part p (definition_part (var_count p) (any_of xs))) same)))
@@ -297,13 +297,13 @@ name_formula-returns-in_ok-literals-in-Or-clause-added t c =
 pub name_formula-name_formula-requires-in-Implies-2 :
     goal.name_formula-name_formula-requires-in-Implies-2
 name_formula-name_formula-requires-in-Implies-2 t c =
-    let m = lists_of c.args.m.now in
-    let b = c.args.b.now in
+    let m = lists_of c.args.model.now in
+    let b = c.args.builder.now in
     let n = var_count b in
-    let f = c.args.f.now in
+    let f = c.args.formula.now in
     let one = c.in-Implies.premise in
     let other = c.in-Implies.conclusion in
-    let p = c.name_formula-in-Implies.new.b in
+    let p = c.name_formula-in-Implies.new.builder in
     let d = implies_definition m one other n in
     let room = subst (λ (x : Named). Fits b x.definitions) (naming-Implies m f one other n c.in-Implies.is) c.requires.room in
     let known = encodable_implication m one other (subst (IsEncodableFormula m) c.in-Implies.is c.requires.formula) in
@@ -321,13 +321,13 @@ name_formula-name_formula-requires-in-Implies-2 t c =
 pub name_formula-define_any-requires-in-Implies-clause-known :
     goal.name_formula-define_any-requires-in-Implies-clause-known
 name_formula-define_any-requires-in-Implies-clause-known t c =
-    let m = lists_of c.args.m.now in
-    let b = c.args.b.now in
+    let m = lists_of c.args.model.now in
+    let b = c.args.builder.now in
     let n = var_count b in
-    let f = c.args.f.now in
+    let f = c.args.formula.now in
     let one = c.in-Implies.premise in
     let other = c.in-Implies.conclusion in
-    let p = c.name_formula-in-Implies.new.b in
+    let p = c.name_formula-in-Implies.new.builder in
     let d = implies_definition m one other n in
     let room = subst (λ (x : Named). Fits b x.definitions) (naming-Implies m f one other n c.in-Implies.is) c.requires.room in
     let known = encodable_implication m one other (subst (IsEncodableFormula m) c.in-Implies.is c.requires.formula) in
@@ -335,7 +335,7 @@ name_formula-define_any-requires-in-Implies-clause-known t c =
     let count = count_after b p (naming m one n).definitions added in
     let few = c.requires.variables in
     let more : model_variables m ≤ var_count p = omega arith in
-    let q = c.name_formula-in-Implies-2.new.b in
+    let q = c.name_formula-in-Implies-2.new.builder in
     let next : Adds p (naming m other (var_count p)).definitions q = subst (λ (x : Formula). Adds p (naming m x (var_count p)).definitions q) c.get-in-Implies-2.ensures c.in_ok-conclusion-in-Implies.ensures.added in
     let all = two_added m one other b p q added next in
     let last_count = count_after p q (naming m other (var_count p)).definitions next in
@@ -355,13 +355,13 @@ name_formula-define_any-requires-in-Implies-clause-known t c =
 pub name_formula-define_any-requires-in-Implies-clause-room :
     goal.name_formula-define_any-requires-in-Implies-clause-room
 name_formula-define_any-requires-in-Implies-clause-room t c =
-    let m = lists_of c.args.m.now in
-    let b = c.args.b.now in
+    let m = lists_of c.args.model.now in
+    let b = c.args.builder.now in
     let n = var_count b in
-    let f = c.args.f.now in
+    let f = c.args.formula.now in
     let one = c.in-Implies.premise in
     let other = c.in-Implies.conclusion in
-    let p = c.name_formula-in-Implies.new.b in
+    let p = c.name_formula-in-Implies.new.builder in
     let d = implies_definition m one other n in
     let room = subst (λ (x : Named). Fits b x.definitions) (naming-Implies m f one other n c.in-Implies.is) c.requires.room in
     let known = encodable_implication m one other (subst (IsEncodableFormula m) c.in-Implies.is c.requires.formula) in
@@ -369,7 +369,7 @@ name_formula-define_any-requires-in-Implies-clause-room t c =
     let count = count_after b p (naming m one n).definitions added in
     let few = c.requires.variables in
     let more : model_variables m ≤ var_count p = omega arith in
-    let q = c.name_formula-in-Implies-2.new.b in
+    let q = c.name_formula-in-Implies-2.new.builder in
     let next : Adds p (naming m other (var_count p)).definitions q = subst (λ (x : Formula). Adds p (naming m x (var_count p)).definitions q) c.get-in-Implies-2.ensures c.in_ok-conclusion-in-Implies.ensures.added in
     let all = two_added m one other b p q added next in
     let last_count = count_after p q (naming m other (var_count p)).definitions next in
@@ -388,13 +388,13 @@ name_formula-define_any-requires-in-Implies-clause-room t c =
 pub name_formula-returns-in_ok-conclusion-in-Implies-clause-literal :
     goal.name_formula-returns-in_ok-conclusion-in-Implies-clause-literal
 name_formula-returns-in_ok-conclusion-in-Implies-clause-literal t c =
-    let m = lists_of c.args.m.now in
-    let b = c.args.b.now in
+    let m = lists_of c.args.model.now in
+    let b = c.args.builder.now in
     let n = var_count b in
-    let f = c.args.f.now in
+    let f = c.args.formula.now in
     let one = c.in-Implies.premise in
     let other = c.in-Implies.conclusion in
-    let p = c.name_formula-in-Implies.new.b in
+    let p = c.name_formula-in-Implies.new.builder in
     let d = implies_definition m one other n in
     let room = subst (λ (x : Named). Fits b x.definitions) (naming-Implies m f one other n c.in-Implies.is) c.requires.room in
     let known = encodable_implication m one other (subst (IsEncodableFormula m) c.in-Implies.is c.requires.formula) in
@@ -402,7 +402,7 @@ name_formula-returns-in_ok-conclusion-in-Implies-clause-literal t c =
     let count = count_after b p (naming m one n).definitions added in
     let few = c.requires.variables in
     let more : model_variables m ≤ var_count p = omega arith in
-    let q = c.name_formula-in-Implies-2.new.b in
+    let q = c.name_formula-in-Implies-2.new.builder in
     let next : Adds p (naming m other (var_count p)).definitions q = subst (λ (x : Formula). Adds p (naming m x (var_count p)).definitions q) c.get-in-Implies-2.ensures c.in_ok-conclusion-in-Implies.ensures.added in
     let all = two_added m one other b p q added next in
     let last_count = count_after p q (naming m other (var_count p)).definitions next in
@@ -420,13 +420,13 @@ name_formula-returns-in_ok-conclusion-in-Implies-clause-literal t c =
 pub name_formula-returns-in_ok-conclusion-in-Implies-clause-added :
     goal.name_formula-returns-in_ok-conclusion-in-Implies-clause-added
 name_formula-returns-in_ok-conclusion-in-Implies-clause-added t c =
-    let m = lists_of c.args.m.now in
-    let b = c.args.b.now in
+    let m = lists_of c.args.model.now in
+    let b = c.args.builder.now in
     let n = var_count b in
-    let f = c.args.f.now in
+    let f = c.args.formula.now in
     let one = c.in-Implies.premise in
     let other = c.in-Implies.conclusion in
-    let p = c.name_formula-in-Implies.new.b in
+    let p = c.name_formula-in-Implies.new.builder in
     let d = implies_definition m one other n in
     let room = subst (λ (x : Named). Fits b x.definitions) (naming-Implies m f one other n c.in-Implies.is) c.requires.room in
     let known = encodable_implication m one other (subst (IsEncodableFormula m) c.in-Implies.is c.requires.formula) in
@@ -434,7 +434,7 @@ name_formula-returns-in_ok-conclusion-in-Implies-clause-added t c =
     let count = count_after b p (naming m one n).definitions added in
     let few = c.requires.variables in
     let more : model_variables m ≤ var_count p = omega arith in
-    let q = c.name_formula-in-Implies-2.new.b in
+    let q = c.name_formula-in-Implies-2.new.builder in
     let next : Adds p (naming m other (var_count p)).definitions q = subst (λ (x : Formula). Adds p (naming m x (var_count p)).definitions q) c.get-in-Implies-2.ensures c.in_ok-conclusion-in-Implies.ensures.added in
     let all = two_added m one other b p q added next in
     let last_count = count_after p q (naming m other (var_count p)).definitions next in
@@ -448,7 +448,7 @@ name_formula-returns-in_ok-conclusion-in-Implies-clause-added t c =
     let denied : c.opposite-in-Implies.result ≡ opposite (naming m one n).literal = c.opposite-in-Implies.ensures ∙ ap opposite first_literal in
     let denied_variable = ap (λ (l : Literal). l.variable) denied in
     let same : (c.opposite-in-Implies.result ∷ c.in_ok-conclusion-in-Implies.conclusion ∷ []) ≡ (opposite (naming m one n).literal ∷ (second_naming m one other n).literal ∷ []) = ap (λ (l : Literal). l ∷ c.in_ok-conclusion-in-Implies.conclusion ∷ []) denied ∙ ap (λ (l : Literal). opposite (naming m one n).literal ∷ l ∷ []) second_literal in
-    let last = c.define_any-in-Implies.new.b in
+    let last = c.define_any-in-Implies.new.builder in
     on_ok_weaker c.define_any-in-Implies.result
     (λ h. subst (λ (x : Named). Adds b x.definitions last) (sym (naming-Implies m f one other n c.in-Implies.is))
     (whole_added b q last (two_definitions m one other n) d all (h ∙ ap (λ (xs : List Literal). with_part q (definition_part (var_count q) (any_of xs))) same)))
@@ -457,13 +457,13 @@ name_formula-returns-in_ok-conclusion-in-Implies-clause-added t c =
 pub name_formula-name_formula-requires-in-Iff-2 :
     goal.name_formula-name_formula-requires-in-Iff-2
 name_formula-name_formula-requires-in-Iff-2 t c =
-    let m = lists_of c.args.m.now in
-    let b = c.args.b.now in
+    let m = lists_of c.args.model.now in
+    let b = c.args.builder.now in
     let n = var_count b in
-    let f = c.args.f.now in
+    let f = c.args.formula.now in
     let one = c.in-Iff.one in
     let other = c.in-Iff.other in
-    let p = c.name_formula-in-Iff.new.b in
+    let p = c.name_formula-in-Iff.new.builder in
     let d = iff_definition m one other n in
     let room = subst (λ (x : Named). Fits b x.definitions) (naming-Iff m f one other n c.in-Iff.is) c.requires.room in
     let known = encodable_equivalence m one other (subst (IsEncodableFormula m) c.in-Iff.is c.requires.formula) in
@@ -481,13 +481,13 @@ name_formula-name_formula-requires-in-Iff-2 t c =
 pub name_formula-define_same-requires-clause-one :
     goal.name_formula-define_same-requires-clause-one
 name_formula-define_same-requires-clause-one t c =
-    let m = lists_of c.args.m.now in
-    let b = c.args.b.now in
+    let m = lists_of c.args.model.now in
+    let b = c.args.builder.now in
     let n = var_count b in
-    let f = c.args.f.now in
+    let f = c.args.formula.now in
     let one = c.in-Iff.one in
     let other = c.in-Iff.other in
-    let p = c.name_formula-in-Iff.new.b in
+    let p = c.name_formula-in-Iff.new.builder in
     let d = iff_definition m one other n in
     let room = subst (λ (x : Named). Fits b x.definitions) (naming-Iff m f one other n c.in-Iff.is) c.requires.room in
     let known = encodable_equivalence m one other (subst (IsEncodableFormula m) c.in-Iff.is c.requires.formula) in
@@ -495,7 +495,7 @@ name_formula-define_same-requires-clause-one t c =
     let count = count_after b p (naming m one n).definitions added in
     let few = c.requires.variables in
     let more : model_variables m ≤ var_count p = omega arith in
-    let q = c.name_formula-in-Iff-2.new.b in
+    let q = c.name_formula-in-Iff-2.new.builder in
     let next : Adds p (naming m other (var_count p)).definitions q = subst (λ (x : Formula). Adds p (naming m x (var_count p)).definitions q) c.get-in-Iff-2.ensures c.in_ok-other-in-Iff.ensures.added in
     let all = two_added m one other b p q added next in
     let last_count = count_after p q (naming m other (var_count p)).definitions next in
@@ -511,13 +511,13 @@ name_formula-define_same-requires-clause-one t c =
 pub name_formula-define_same-requires-clause-other :
     goal.name_formula-define_same-requires-clause-other
 name_formula-define_same-requires-clause-other t c =
-    let m = lists_of c.args.m.now in
-    let b = c.args.b.now in
+    let m = lists_of c.args.model.now in
+    let b = c.args.builder.now in
     let n = var_count b in
-    let f = c.args.f.now in
+    let f = c.args.formula.now in
     let one = c.in-Iff.one in
     let other = c.in-Iff.other in
-    let p = c.name_formula-in-Iff.new.b in
+    let p = c.name_formula-in-Iff.new.builder in
     let d = iff_definition m one other n in
     let room = subst (λ (x : Named). Fits b x.definitions) (naming-Iff m f one other n c.in-Iff.is) c.requires.room in
     let known = encodable_equivalence m one other (subst (IsEncodableFormula m) c.in-Iff.is c.requires.formula) in
@@ -525,7 +525,7 @@ name_formula-define_same-requires-clause-other t c =
     let count = count_after b p (naming m one n).definitions added in
     let few = c.requires.variables in
     let more : model_variables m ≤ var_count p = omega arith in
-    let q = c.name_formula-in-Iff-2.new.b in
+    let q = c.name_formula-in-Iff-2.new.builder in
     let next : Adds p (naming m other (var_count p)).definitions q = subst (λ (x : Formula). Adds p (naming m x (var_count p)).definitions q) c.get-in-Iff-2.ensures c.in_ok-other-in-Iff.ensures.added in
     let all = two_added m one other b p q added next in
     let last_count = count_after p q (naming m other (var_count p)).definitions next in
@@ -541,13 +541,13 @@ name_formula-define_same-requires-clause-other t c =
 pub name_formula-define_same-requires-clause-room :
     goal.name_formula-define_same-requires-clause-room
 name_formula-define_same-requires-clause-room t c =
-    let m = lists_of c.args.m.now in
-    let b = c.args.b.now in
+    let m = lists_of c.args.model.now in
+    let b = c.args.builder.now in
     let n = var_count b in
-    let f = c.args.f.now in
+    let f = c.args.formula.now in
     let one = c.in-Iff.one in
     let other = c.in-Iff.other in
-    let p = c.name_formula-in-Iff.new.b in
+    let p = c.name_formula-in-Iff.new.builder in
     let d = iff_definition m one other n in
     let room = subst (λ (x : Named). Fits b x.definitions) (naming-Iff m f one other n c.in-Iff.is) c.requires.room in
     let known = encodable_equivalence m one other (subst (IsEncodableFormula m) c.in-Iff.is c.requires.formula) in
@@ -555,7 +555,7 @@ name_formula-define_same-requires-clause-room t c =
     let count = count_after b p (naming m one n).definitions added in
     let few = c.requires.variables in
     let more : model_variables m ≤ var_count p = omega arith in
-    let q = c.name_formula-in-Iff-2.new.b in
+    let q = c.name_formula-in-Iff-2.new.builder in
     let next : Adds p (naming m other (var_count p)).definitions q = subst (λ (x : Formula). Adds p (naming m x (var_count p)).definitions q) c.get-in-Iff-2.ensures c.in_ok-other-in-Iff.ensures.added in
     let all = two_added m one other b p q added next in
     let last_count = count_after p q (naming m other (var_count p)).definitions next in
@@ -572,13 +572,13 @@ name_formula-define_same-requires-clause-room t c =
 pub name_formula-returns-in_ok-other-in-Iff-clause-literal :
     goal.name_formula-returns-in_ok-other-in-Iff-clause-literal
 name_formula-returns-in_ok-other-in-Iff-clause-literal t c =
-    let m = lists_of c.args.m.now in
-    let b = c.args.b.now in
+    let m = lists_of c.args.model.now in
+    let b = c.args.builder.now in
     let n = var_count b in
-    let f = c.args.f.now in
+    let f = c.args.formula.now in
     let one = c.in-Iff.one in
     let other = c.in-Iff.other in
-    let p = c.name_formula-in-Iff.new.b in
+    let p = c.name_formula-in-Iff.new.builder in
     let d = iff_definition m one other n in
     let room = subst (λ (x : Named). Fits b x.definitions) (naming-Iff m f one other n c.in-Iff.is) c.requires.room in
     let known = encodable_equivalence m one other (subst (IsEncodableFormula m) c.in-Iff.is c.requires.formula) in
@@ -586,7 +586,7 @@ name_formula-returns-in_ok-other-in-Iff-clause-literal t c =
     let count = count_after b p (naming m one n).definitions added in
     let few = c.requires.variables in
     let more : model_variables m ≤ var_count p = omega arith in
-    let q = c.name_formula-in-Iff-2.new.b in
+    let q = c.name_formula-in-Iff-2.new.builder in
     let next : Adds p (naming m other (var_count p)).definitions q = subst (λ (x : Formula). Adds p (naming m x (var_count p)).definitions q) c.get-in-Iff-2.ensures c.in_ok-other-in-Iff.ensures.added in
     let all = two_added m one other b p q added next in
     let last_count = count_after p q (naming m other (var_count p)).definitions next in
@@ -604,13 +604,13 @@ name_formula-returns-in_ok-other-in-Iff-clause-literal t c =
 pub name_formula-returns-in_ok-other-in-Iff-clause-added :
     goal.name_formula-returns-in_ok-other-in-Iff-clause-added
 name_formula-returns-in_ok-other-in-Iff-clause-added t c =
-    let m = lists_of c.args.m.now in
-    let b = c.args.b.now in
+    let m = lists_of c.args.model.now in
+    let b = c.args.builder.now in
     let n = var_count b in
-    let f = c.args.f.now in
+    let f = c.args.formula.now in
     let one = c.in-Iff.one in
     let other = c.in-Iff.other in
-    let p = c.name_formula-in-Iff.new.b in
+    let p = c.name_formula-in-Iff.new.builder in
     let d = iff_definition m one other n in
     let room = subst (λ (x : Named). Fits b x.definitions) (naming-Iff m f one other n c.in-Iff.is) c.requires.room in
     let known = encodable_equivalence m one other (subst (IsEncodableFormula m) c.in-Iff.is c.requires.formula) in
@@ -618,7 +618,7 @@ name_formula-returns-in_ok-other-in-Iff-clause-added t c =
     let count = count_after b p (naming m one n).definitions added in
     let few = c.requires.variables in
     let more : model_variables m ≤ var_count p = omega arith in
-    let q = c.name_formula-in-Iff-2.new.b in
+    let q = c.name_formula-in-Iff-2.new.builder in
     let next : Adds p (naming m other (var_count p)).definitions q = subst (λ (x : Formula). Adds p (naming m x (var_count p)).definitions q) c.get-in-Iff-2.ensures c.in_ok-other-in-Iff.ensures.added in
     let all = two_added m one other b p q added next in
     let last_count = count_after p q (naming m other (var_count p)).definitions next in
@@ -630,7 +630,7 @@ name_formula-returns-in_ok-other-in-Iff-clause-added t c =
     let first_variable = ap (λ (l : Literal). l.variable) first_literal in
     let second_variable = ap (λ (l : Literal). l.variable) own_literal in
     let same : same_as c.in_ok-one-in-Iff.one c.in_ok-other-in-Iff.other ≡ d = ap (λ (l : Literal). same_as l c.in_ok-other-in-Iff.other) first_literal ∙ ap (λ (l : Literal). same_as (naming m one n).literal l) second_literal in
-    let last = c.define_same.new.b in
+    let last = c.define_same.new.builder in
     on_ok_weaker c.define_same.result
     (λ h. subst (λ (x : Named). Adds b x.definitions last) (sym (naming-Iff m f one other n c.in-Iff.is))
     (whole_added b q last (two_definitions m one other n) d all (h ∙ ap (λ (x : Definition). with_part q (definition_part (var_count q) x)) same)))
@@ -638,31 +638,31 @@ name_formula-returns-in_ok-other-in-Iff-clause-added t c =
 
 pub name_each-name_formula-requires : goal.name_each-name_formula-requires
 name_each-name_formula-requires t c =
-    let m = lists_of c.args.m.now in
+    let m = lists_of c.args.model.now in
     let parts = c.args.parts.now in
     let i = c.loop-part.part-index in
     let part = c.part-item.result in
     let ls = c.loop-part.literals.items in
     let here = drop-read parts parts i part refl c.loop-part-test.true c.part-item.is in
-    let far = subst (λ (rest : List Formula). AreNamed m c.args.b.now parts c.loop-part.b ls rest) here c.loop-part.invariant in (
+    let far = subst (λ (rest : List Formula). AreNamed m c.args.builder.now parts c.loop-part.builder ls rest) here c.loop-part.invariant in (
       search (rules, the_lemmas),
       (
-        next_known m c.args.b.now c.loop-part.b parts ls part (drop (i + 1) parts) far,
-        (c.loop-part.invariant.variables, next_fits m c.args.b.now c.loop-part.b parts ls part (drop (i + 1) parts) far),
+        next_known m c.args.builder.now c.loop-part.builder parts ls part (drop (i + 1) parts) far,
+        (c.loop-part.invariant.variables, next_fits m c.args.builder.now c.loop-part.builder parts ls part (drop (i + 1) parts) far),
       ),
     )
 
 pub name_each-loop-part-preserved : goal.name_each-loop-part-preserved
 name_each-loop-part-preserved t c =
-    let m = lists_of c.args.m.now in
-    let b = c.args.b.now in
+    let m = lists_of c.args.model.now in
+    let b = c.args.builder.now in
     let parts = c.args.parts.now in
     let i = c.loop-part.part-index in
     let part = c.part-item.result in
     let ls = c.loop-part.literals.items in
     let rest = drop (i + 1) parts in
-    let p = c.loop-part.b in
-    let q = c.name_formula.new.b in
+    let p = c.loop-part.builder in
+    let q = c.name_formula.new.builder in
     let l = c.in_ok-name_formula.field-0 in
     let here = drop-read parts parts i part refl c.loop-part-test.true c.part-item.is in
     let far = subst (λ (others : List Formula). AreNamed m b parts p ls others) here c.loop-part.invariant in

@@ -5,8 +5,8 @@ use Rattle.cgm_enc_formula.proofs.names.name_at_least.Goals as goal
 
 pub define_at_least-requires-clause-known : goal.define_at_least-requires-clause-known
 define_at_least-requires-clause-known c =
-    row_terms_fit (lists_of c.args.m.now) c.args.b.now c.args.l.now c.args.k c.as_slice.result.now (c.as_slice.ensures.value ∙ c.in_ok-terms.ensures) c.requires.variables c.requires.comparison
+    row_terms_fit (lists_of c.args.model.now) c.args.builder.now c.args.linear.now c.args.k c.as_slice.result.now (c.as_slice.ensures.value ∙ c.in_ok-terms.ensures) c.requires.variables c.requires.comparison
 
 pub define_at_least-requires-clause-coefficients : goal.define_at_least-requires-clause-coefficients
 define_at_least-requires-clause-coefficients c =
-    row_terms_small (lists_of c.args.m.now) c.args.l.now c.args.k c.as_slice.result.now (c.as_slice.ensures.value ∙ c.in_ok-terms.ensures) c.requires.comparison
+    row_terms_small (lists_of c.args.model.now) c.args.linear.now c.args.k c.as_slice.result.now (c.as_slice.ensures.value ∙ c.in_ok-terms.ensures) c.requires.comparison

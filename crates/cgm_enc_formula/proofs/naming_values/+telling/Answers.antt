@@ -21,8 +21,8 @@ AreSmall a sums = AreSmallIn (number_in a sums)
 
 pub push_each-loop-part-preserved : goal.push_each-loop-part-preserved
 push_each-loop-part-preserved t c =
-    let names = name_in c.args.a.now in
-    let numbers = number_in c.args.a.now c.args.sums.now in
+    let names = name_in c.args.assignment.now in
+    let numbers = number_in c.args.assignment.now c.args.sums.now in
     let parts = c.args.parts.now in (
       part_said names numbers parts c.loop-part.part-index c.part-item.result c.loop-part.truths.items c.push.new.self.items c.in_ok-holds.holds
           c.loop-part-test.true c.part-item.is c.loop-part.invariant.0 c.in_ok-push.ensures.items c.in_ok-holds.ensures.says,
@@ -33,7 +33,7 @@ push_each-loop-part-preserved t c =
 
 pub push_formula-push_formula-requires : goal.push_formula-push_formula-requires
 push_formula-push_formula-requires t c =
-    let a = c.args.a.now in
+    let a = c.args.assignment.now in
     let sums = c.args.sums.now in (
       search (rules, the_lemmas),
       subst (AreSmall a sums) (sym c.get.ensures)
@@ -42,7 +42,7 @@ push_formula-push_formula-requires t c =
 
 pub push_formula-push_each-requires : goal.push_formula-push_each-requires
 push_formula-push_each-requires t c =
-    let a = c.args.a.now in
+    let a = c.args.assignment.now in
     let sums = c.args.sums.now in (
       search (rules, the_lemmas),
       subst (All (AreSmall a sums)) (sym c.as_slice.ensures)
@@ -51,7 +51,7 @@ push_formula-push_each-requires t c =
 
 pub push_formula-push_each-requires-in-Or : goal.push_formula-push_each-requires-in-Or
 push_formula-push_each-requires-in-Or t c =
-    let a = c.args.a.now in
+    let a = c.args.assignment.now in
     let sums = c.args.sums.now in (
       search (rules, the_lemmas),
       subst (All (AreSmall a sums)) (sym c.as_slice-in-Or.ensures)
@@ -60,7 +60,7 @@ push_formula-push_each-requires-in-Or t c =
 
 pub push_formula-push_formula-requires-in-Implies : goal.push_formula-push_formula-requires-in-Implies
 push_formula-push_formula-requires-in-Implies t c =
-    let a = c.args.a.now in
+    let a = c.args.assignment.now in
     let sums = c.args.sums.now in (
       search (rules, the_lemmas),
       subst (AreSmall a sums) (sym c.get-in-Implies.ensures)
@@ -69,7 +69,7 @@ push_formula-push_formula-requires-in-Implies t c =
 
 pub push_formula-push_formula-requires-in-Implies-2 : goal.push_formula-push_formula-requires-in-Implies-2
 push_formula-push_formula-requires-in-Implies-2 t c =
-    let a = c.args.a.now in
+    let a = c.args.assignment.now in
     let sums = c.args.sums.now in (
       search (rules, the_lemmas),
       subst (AreSmall a sums) (sym c.get-in-Implies-2.ensures)
@@ -78,7 +78,7 @@ push_formula-push_formula-requires-in-Implies-2 t c =
 
 pub push_formula-push_formula-requires-in-Iff : goal.push_formula-push_formula-requires-in-Iff
 push_formula-push_formula-requires-in-Iff t c =
-    let a = c.args.a.now in
+    let a = c.args.assignment.now in
     let sums = c.args.sums.now in (
       search (rules, the_lemmas),
       subst (AreSmall a sums) (sym c.get-in-Iff.ensures)
@@ -87,7 +87,7 @@ push_formula-push_formula-requires-in-Iff t c =
 
 pub push_formula-push_formula-requires-in-Iff-2 : goal.push_formula-push_formula-requires-in-Iff-2
 push_formula-push_formula-requires-in-Iff-2 t c =
-    let a = c.args.a.now in
+    let a = c.args.assignment.now in
     let sums = c.args.sums.now in (
       search (rules, the_lemmas),
       subst (AreSmall a sums) (sym c.get-in-Iff-2.ensures)
@@ -96,42 +96,42 @@ push_formula-push_formula-requires-in-Iff-2 t c =
 
 pub push_formula-is_at_most-requires : goal.push_formula-is_at_most-requires
 push_formula-is_at_most-requires t c =
-    let a = c.args.a.now in
+    let a = c.args.assignment.now in
     let sums = c.args.sums.now in
     of_at_most (Small a sums) c.in-AtMost.linear c.in-AtMost.k (subst (AreSmall a sums) c.in-AtMost.is c.requires)
 
 pub push_formula-is_at_least-requires : goal.push_formula-is_at_least-requires
 push_formula-is_at_least-requires t c =
-    let a = c.args.a.now in
+    let a = c.args.assignment.now in
     let sums = c.args.sums.now in
     of_at_least (Small a sums) c.in-AtLeast.linear c.in-AtLeast.k (subst (AreSmall a sums) c.in-AtLeast.is c.requires)
 
 pub push_formula-is_at_most-requires-in-Equal : goal.push_formula-is_at_most-requires-in-Equal
 push_formula-is_at_most-requires-in-Equal t c =
-    let a = c.args.a.now in
+    let a = c.args.assignment.now in
     let sums = c.args.sums.now in
     of_equality (Small a sums) c.in-Equal.linear c.in-Equal.k (subst (AreSmall a sums) c.in-Equal.is c.requires)
 
 pub push_formula-is_at_least-requires-in-Equal : goal.push_formula-is_at_least-requires-in-Equal
 push_formula-is_at_least-requires-in-Equal t c =
-    let a = c.args.a.now in
+    let a = c.args.assignment.now in
     let sums = c.args.sums.now in
     of_equality (Small a sums) c.in-Equal.linear c.in-Equal.k (subst (AreSmall a sums) c.in-Equal.is c.requires)
 
 pub push_formula-returns-in_ok-truths-in-And-clause-says : goal.push_formula-returns-in_ok-truths-in-And-clause-says
 push_formula-returns-in_ok-truths-in-And-clause-says t c =
-    let names = name_in c.args.a.now in
-    let numbers = number_in c.args.a.now c.args.sums.now in
-    let f = c.args.f.now in
+    let names = name_in c.args.assignment.now in
+    let numbers = number_in c.args.assignment.now c.args.sums.now in
+    let f = c.args.formula.now in
     if_ok c.push_all.result _ (told names numbers f).says
     (all_say names numbers f c.in-And.parts c.as_slice.result.now c.in_ok-truths-in-And.truths.items c.in-And.is c.as_slice.ensures c.in_ok-truths-in-And.ensures.says)
     c.push_all.ensures.says
 
 pub push_formula-returns-in_ok-truths-in-And-clause-added : goal.push_formula-returns-in_ok-truths-in-And-clause-added
 push_formula-returns-in_ok-truths-in-And-clause-added t c =
-    let names = name_in c.args.a.now in
-    let numbers = number_in c.args.a.now c.args.sums.now in
-    let f = c.args.f.now in
+    let names = name_in c.args.assignment.now in
+    let numbers = number_in c.args.assignment.now c.args.sums.now in
+    let f = c.args.formula.now in
     on_ok c.push_all.result
     (λ last.
     all_told names numbers f c.in-And.parts c.as_slice.result.now c.in_ok-truths-in-And.truths.items c.args.out.now.items c.push_each.new.out.items c.push_all.new.out.items
@@ -140,18 +140,18 @@ push_formula-returns-in_ok-truths-in-And-clause-added t c =
 
 pub push_formula-returns-in_ok-truths-in-Or-clause-says : goal.push_formula-returns-in_ok-truths-in-Or-clause-says
 push_formula-returns-in_ok-truths-in-Or-clause-says t c =
-    let names = name_in c.args.a.now in
-    let numbers = number_in c.args.a.now c.args.sums.now in
-    let f = c.args.f.now in
+    let names = name_in c.args.assignment.now in
+    let numbers = number_in c.args.assignment.now c.args.sums.now in
+    let f = c.args.formula.now in
     if_ok c.push_any.result _ (told names numbers f).says
     (any_says names numbers f c.in-Or.parts c.as_slice-in-Or.result.now c.in_ok-truths-in-Or.truths.items c.in-Or.is c.as_slice-in-Or.ensures c.in_ok-truths-in-Or.ensures.says)
     c.push_any.ensures.says
 
 pub push_formula-returns-in_ok-truths-in-Or-clause-added : goal.push_formula-returns-in_ok-truths-in-Or-clause-added
 push_formula-returns-in_ok-truths-in-Or-clause-added t c =
-    let names = name_in c.args.a.now in
-    let numbers = number_in c.args.a.now c.args.sums.now in
-    let f = c.args.f.now in
+    let names = name_in c.args.assignment.now in
+    let numbers = number_in c.args.assignment.now c.args.sums.now in
+    let f = c.args.formula.now in
     on_ok c.push_any.result
     (λ last.
     any_told names numbers f c.in-Or.parts c.as_slice-in-Or.result.now c.in_ok-truths-in-Or.truths.items c.args.out.now.items c.push_each-in-Or.new.out.items c.push_any.new.out.items
@@ -160,9 +160,9 @@ push_formula-returns-in_ok-truths-in-Or-clause-added t c =
 
 pub push_formula-returns-in_ok-second-in-Implies-clause-says : goal.push_formula-returns-in_ok-second-in-Implies-clause-says
 push_formula-returns-in_ok-second-in-Implies-clause-says t c =
-    let names = name_in c.args.a.now in
-    let numbers = number_in c.args.a.now c.args.sums.now in
-    let f = c.args.f.now in
+    let names = name_in c.args.assignment.now in
+    let numbers = number_in c.args.assignment.now c.args.sums.now in
+    let f = c.args.formula.now in
     if_ok c.push_implication.result _ (told names numbers f).says
     (implication_says names numbers f c.in-Implies.premise c.in-Implies.conclusion c.get-in-Implies.result.now c.get-in-Implies-2.result.now c.in_ok-first-in-Implies.first c.in_ok-second-in-Implies.second
     c.in-Implies.is c.get-in-Implies.ensures c.get-in-Implies-2.ensures c.in_ok-first-in-Implies.ensures.says c.in_ok-second-in-Implies.ensures.says)
@@ -170,9 +170,9 @@ push_formula-returns-in_ok-second-in-Implies-clause-says t c =
 
 pub push_formula-returns-in_ok-second-in-Implies-clause-added : goal.push_formula-returns-in_ok-second-in-Implies-clause-added
 push_formula-returns-in_ok-second-in-Implies-clause-added t c =
-    let names = name_in c.args.a.now in
-    let numbers = number_in c.args.a.now c.args.sums.now in
-    let f = c.args.f.now in
+    let names = name_in c.args.assignment.now in
+    let numbers = number_in c.args.assignment.now c.args.sums.now in
+    let f = c.args.formula.now in
     on_ok c.push_implication.result
     (λ last.
     implication_told names numbers f c.in-Implies.premise c.in-Implies.conclusion c.get-in-Implies.result.now c.get-in-Implies-2.result.now c.in_ok-first-in-Implies.first c.in_ok-second-in-Implies.second
@@ -182,9 +182,9 @@ push_formula-returns-in_ok-second-in-Implies-clause-added t c =
 
 pub push_formula-returns-in_ok-second-in-Iff-clause-says : goal.push_formula-returns-in_ok-second-in-Iff-clause-says
 push_formula-returns-in_ok-second-in-Iff-clause-says t c =
-    let names = name_in c.args.a.now in
-    let numbers = number_in c.args.a.now c.args.sums.now in
-    let f = c.args.f.now in
+    let names = name_in c.args.assignment.now in
+    let numbers = number_in c.args.assignment.now c.args.sums.now in
+    let f = c.args.formula.now in
     if_ok c.push_equivalence.result _ (told names numbers f).says
     (equivalence_says names numbers f c.in-Iff.one c.in-Iff.other c.get-in-Iff.result.now c.get-in-Iff-2.result.now c.in_ok-first-in-Iff.first c.in_ok-second-in-Iff.second
     c.in-Iff.is c.get-in-Iff.ensures c.get-in-Iff-2.ensures c.in_ok-first-in-Iff.ensures.says c.in_ok-second-in-Iff.ensures.says)
@@ -192,9 +192,9 @@ push_formula-returns-in_ok-second-in-Iff-clause-says t c =
 
 pub push_formula-returns-in_ok-second-in-Iff-clause-added : goal.push_formula-returns-in_ok-second-in-Iff-clause-added
 push_formula-returns-in_ok-second-in-Iff-clause-added t c =
-    let names = name_in c.args.a.now in
-    let numbers = number_in c.args.a.now c.args.sums.now in
-    let f = c.args.f.now in
+    let names = name_in c.args.assignment.now in
+    let numbers = number_in c.args.assignment.now c.args.sums.now in
+    let f = c.args.formula.now in
     on_ok c.push_equivalence.result
     (λ last.
     equivalence_told names numbers f c.in-Iff.one c.in-Iff.other c.get-in-Iff.result.now c.get-in-Iff-2.result.now c.in_ok-first-in-Iff.first c.in_ok-second-in-Iff.second

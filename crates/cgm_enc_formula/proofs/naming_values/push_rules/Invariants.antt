@@ -6,5 +6,5 @@ use Rattle.cgm_enc_formula.proofs.naming_values.push_rules.Given as goal
 
 abbrev pub invariant-loop-rule : goal.invariant-loop-rule
 invariant-loop-rule l =
-    l.out.items ++ map bit (rule_truths (name_in l.a) (number_in l.a l.sums) (drop l.rule-index l.rules))
-    ≡ l.initial.out.items ++ map bit (rule_truths (name_in l.a) (number_in l.a l.sums) l.rules)
+    l.out.items ++ map bit (rule_truths (name_in l.assignment) (number_in l.assignment l.sums) (drop l.rule-index l.rules))
+    ≡ l.initial.out.items ++ map bit (rule_truths (name_in l.assignment) (number_in l.assignment l.sums) l.rules)

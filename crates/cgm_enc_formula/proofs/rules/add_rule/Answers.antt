@@ -25,11 +25,11 @@ use Rattle.cgm_enc_formula.proofs.rules.add_rule.Goals as goal
 
 pub add_clause-requires : goal.add_clause-requires
 add_clause-requires c =
-    let m = lists_of c.args.m.now in
-    let b = c.args.b.now in
+    let m = lists_of c.args.model.now in
+    let b = c.args.builder.now in
     let n = var_count b in
     let f = c.in-Positive.formula in
-    let p = c.name_formula.new.b in
+    let p = c.name_formula.new.builder in
     let ds = (naming m f n).definitions in
     let l = (naming m f n).literal in
     let r : Rule = rules.Positive c.in-Positive.name c.in-Positive.formula in
@@ -48,11 +48,11 @@ add_clause-requires c =
 
 pub returns-in_ok-l-in-Positive : goal.returns-in_ok-l-in-Positive
 returns-in_ok-l-in-Positive c =
-    let m = lists_of c.args.m.now in
-    let b = c.args.b.now in
+    let m = lists_of c.args.model.now in
+    let b = c.args.builder.now in
     let n = var_count b in
     let f = c.in-Positive.formula in
-    let p = c.name_formula.new.b in
+    let p = c.name_formula.new.builder in
     let ds = (naming m f n).definitions in
     let l = (naming m f n).literal in
     let r : Rule = rules.Positive c.in-Positive.name c.in-Positive.formula in
@@ -62,7 +62,7 @@ returns-in_ok-l-in-Positive c =
     let a : c.atom.result ≡ atom_of l = c.atom.ensures ∙ ap (λ (x : Literal). atom_of x) c.in_ok-l-in-Positive.ensures.literal in
     let x : c.negated.result ≡ negated (variable_of m c.in-Positive.name) = c.negated.ensures ∙ ap (λ (k : ℕ). negated k) c.truth_variable.ensures in
     let given : clause (c.negated.result ∷ c.atom.result ∷ []) ≡ own = ap (λ (y : Atom). clause (y ∷ c.atom.result ∷ [])) x ∙ ap (λ (y : Atom). clause (negated (variable_of m c.in-Positive.name) ∷ y ∷ [])) a in
-    let q = c.add_clause.new.b in
+    let q = c.add_clause.new.builder in
     on_ok_weaker c.add_clause.result
     (λ h. subst (λ (y : Rule). q ≡ with_part b (rule_part m n y)) (sym c.in-Positive.is)
     (rule_added ds own b p q added (h ∙ ap (λ (y : Clause). with_written p (y ∷ [])) given)))
@@ -70,11 +70,11 @@ returns-in_ok-l-in-Positive c =
 
 pub add_clause-requires-in-Negative : goal.add_clause-requires-in-Negative
 add_clause-requires-in-Negative c =
-    let m = lists_of c.args.m.now in
-    let b = c.args.b.now in
+    let m = lists_of c.args.model.now in
+    let b = c.args.builder.now in
     let n = var_count b in
     let f = c.in-Negative.formula in
-    let p = c.name_formula-in-Negative.new.b in
+    let p = c.name_formula-in-Negative.new.builder in
     let ds = (naming m f n).definitions in
     let l = (naming m f n).literal in
     let r : Rule = rules.Negative c.in-Negative.name c.in-Negative.formula in
@@ -93,11 +93,11 @@ add_clause-requires-in-Negative c =
 
 pub returns-in_ok-l-in-Negative : goal.returns-in_ok-l-in-Negative
 returns-in_ok-l-in-Negative c =
-    let m = lists_of c.args.m.now in
-    let b = c.args.b.now in
+    let m = lists_of c.args.model.now in
+    let b = c.args.builder.now in
     let n = var_count b in
     let f = c.in-Negative.formula in
-    let p = c.name_formula-in-Negative.new.b in
+    let p = c.name_formula-in-Negative.new.builder in
     let ds = (naming m f n).definitions in
     let l = (naming m f n).literal in
     let r : Rule = rules.Negative c.in-Negative.name c.in-Negative.formula in
@@ -107,7 +107,7 @@ returns-in_ok-l-in-Negative c =
     let a : c.atom-in-Negative.result ≡ atom_of l = c.atom-in-Negative.ensures ∙ ap (λ (x : Literal). atom_of x) c.in_ok-l-in-Negative.ensures.literal in
     let x : c.literal.result ≡ literal (variable_of m c.in-Negative.name) = c.literal.ensures ∙ ap (λ (k : ℕ). literal k) c.truth_variable-in-Negative.ensures in
     let given : clause (c.literal.result ∷ c.atom-in-Negative.result ∷ []) ≡ own = ap (λ (y : Atom). clause (y ∷ c.atom-in-Negative.result ∷ [])) x ∙ ap (λ (y : Atom). clause (literal (variable_of m c.in-Negative.name) ∷ y ∷ [])) a in
-    let q = c.add_clause-in-Negative.new.b in
+    let q = c.add_clause-in-Negative.new.builder in
     on_ok_weaker c.add_clause-in-Negative.result
     (λ h. subst (λ (y : Rule). q ≡ with_part b (rule_part m n y)) (sym c.in-Negative.is)
     (rule_added ds own b p q added (h ∙ ap (λ (y : Clause). with_written p (y ∷ [])) given)))
@@ -115,11 +115,11 @@ returns-in_ok-l-in-Negative c =
 
 pub add_clause-requires-in-Require : goal.add_clause-requires-in-Require
 add_clause-requires-in-Require c =
-    let m = lists_of c.args.m.now in
-    let b = c.args.b.now in
+    let m = lists_of c.args.model.now in
+    let b = c.args.builder.now in
     let n = var_count b in
     let f = c.in-Require.formula in
-    let p = c.name_formula-in-Require.new.b in
+    let p = c.name_formula-in-Require.new.builder in
     let ds = (naming m f n).definitions in
     let l = (naming m f n).literal in
     let r : Rule = rules.Require c.in-Require.formula in
@@ -134,11 +134,11 @@ add_clause-requires-in-Require c =
 
 pub returns-in_ok-l-in-Require : goal.returns-in_ok-l-in-Require
 returns-in_ok-l-in-Require c =
-    let m = lists_of c.args.m.now in
-    let b = c.args.b.now in
+    let m = lists_of c.args.model.now in
+    let b = c.args.builder.now in
     let n = var_count b in
     let f = c.in-Require.formula in
-    let p = c.name_formula-in-Require.new.b in
+    let p = c.name_formula-in-Require.new.builder in
     let ds = (naming m f n).definitions in
     let l = (naming m f n).literal in
     let r : Rule = rules.Require c.in-Require.formula in
@@ -147,7 +147,7 @@ returns-in_ok-l-in-Require c =
     let added = c.in_ok-l-in-Require.ensures.added in
     let a : c.atom-in-Require.result ≡ atom_of l = c.atom-in-Require.ensures ∙ ap (λ (x : Literal). atom_of x) c.in_ok-l-in-Require.ensures.literal in
     let given : clause (c.atom-in-Require.result ∷ []) ≡ own = ap (λ (y : Atom). clause (y ∷ [])) a in
-    let q = c.add_clause-in-Require.new.b in
+    let q = c.add_clause-in-Require.new.builder in
     on_ok_weaker c.add_clause-in-Require.result
     (λ h. subst (λ (y : Rule). q ≡ with_part b (rule_part m n y)) (sym c.in-Require.is)
     (rule_added ds own b p q added (h ∙ ap (λ (y : Clause). with_written p (y ∷ [])) given)))

@@ -13,19 +13,19 @@ use Rattle.cgm_enc_formula.proofs.rules.add_rules.Goals as goal
 
 pub first_past-requires-clause-known : goal.first_past-requires-clause-known
 first_past-requires-clause-known c =
-    let m = lists_of c.args.m.now in
-    subst (λ (rs : List Rule). All (λ r. HasKnownNumbers m (formula_of r)) rs) (sym c.as_slice-rules.ensures) (known_numbers m c.args.m.now.well_formed)
+    let m = lists_of c.args.model.now in
+    subst (λ (rs : List Rule). All (λ r. HasKnownNumbers m (formula_of r)) rs) (sym c.as_slice-rules.ensures) (known_numbers m c.args.model.now.well_formed)
 
 pub add_each-requires-clause-encodable : goal.add_each-requires-clause-encodable
 add_each-requires-clause-encodable c =
-    let m = lists_of c.args.m.now in
-    let bounds = c.args.b.now.bounds in
+    let m = lists_of c.args.model.now in
+    let bounds = c.args.builder.now.bounds in
     let within = subst (λ (rs : List Rule). Each (IsWithinMeasure m bounds) rs) c.as_slice-rules.ensures c.in-None.ensures in
-    subst (λ (rs : List Rule). All (IsEncodableRule m) rs) (sym c.as_slice-rules.ensures) (rules_encodable m bounds c.args.m.now.well_formed within)
+    subst (λ (rs : List Rule). All (IsEncodableRule m) rs) (sym c.as_slice-rules.ensures) (rules_encodable m bounds c.args.model.now.well_formed within)
 
 pub add_each-requires-clause-room : goal.add_each-requires-clause-room
 add_each-requires-clause-room c =
-    let m = lists_of c.args.m.now in
-    let b = c.args.b.now in
+    let m = lists_of c.args.model.now in
+    let b = c.args.builder.now in
     subst (λ (rs : List Rule). HasRoomFor b (rules_part m (var_count b) rs)) (sym c.as_slice-rules.ensures)
-    (room_for_rules m b c.args.m.now.well_formed c.requires.few_variables c.requires.few_clauses c.requires.few_rows)
+    (room_for_rules m b c.args.model.now.well_formed c.requires.few_variables c.requires.few_clauses c.requires.few_rows)

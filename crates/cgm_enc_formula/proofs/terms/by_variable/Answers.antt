@@ -9,13 +9,13 @@ use Rattle.cgm_enc_formula.proofs.terms.by_variable.Goals as goal
 
 pub loop-term-init : goal.loop-term-init
 loop-term-init c =
-    let m = lists_of c.args.m.now in
+    let m = lists_of c.args.model.now in
     let all = c.args.terms.now in
     subst (λ (es : List (ℕ × ℤ)). IsTableAt m all es all) (sym c.new-coefficients.ensures.empty) (table_at_first m all c.requires)
 
 pub insert_term-requires-clause-known : goal.insert_term-requires-clause-known
 insert_term-requires-clause-known c =
-    let m = lists_of c.args.m.now in
+    let m = lists_of c.args.model.now in
     let all = c.args.terms.now in
     let i = c.loop-term.term-index in
     let d : ℤ × Number = (pos 0, number.Var 0) in
@@ -25,7 +25,7 @@ insert_term-requires-clause-known c =
 
 pub insert_term-requires-clause-new : goal.insert_term-requires-clause-new
 insert_term-requires-clause-new c =
-    let m = lists_of c.args.m.now in
+    let m = lists_of c.args.model.now in
     let all = c.args.terms.now in
     let i = c.loop-term.term-index in
     let d : ℤ × Number = (pos 0, number.Var 0) in
@@ -35,7 +35,7 @@ insert_term-requires-clause-new c =
 
 pub loop-term-preserved : goal.loop-term-preserved
 loop-term-preserved c =
-    let m = lists_of c.args.m.now in
+    let m = lists_of c.args.model.now in
     let all = c.args.terms.now in
     let i = c.loop-term.term-index in
     let d : ℤ × Number = (pos 0, number.Var 0) in

@@ -8,6 +8,6 @@ pub returns : goal.returns
 returns c =
     let k : to_z w64 (of_z w64 c.args.term.now.0) ≡ c.args.term.now.0 = search rules in
     let es = c.args.coefficients.now.entries in
-    inserted (lists_of c.args.m.now) c.args.term.now es c.insert.new.self.entries c.number_variable.result
+    inserted (lists_of c.args.model.now) c.args.term.now es c.insert.new.self.entries c.number_variable.result
     (λ e. c.if-term-eq0.false (ap (of_z w64) e)) c.number_variable.ensures c.requires.new
     (c.in_ok-insert.ensures.entries ∙ ap (λ (z : ℤ). insert_entry nat_cmp es c.number_variable.result z) k)

@@ -11,9 +11,9 @@ use Rattle.cgm_enc_graph.proofs.edges.add_bind.Goals as goal
 
 pub add_clause-requires : goal.add_clause-requires
 add_clause-requires c =
-    let m = lists_of c.args.m.now in
-    let e = c.args.e.now in
-    let b = c.args.b.now in
+    let m = lists_of c.args.model.now in
+    let e = c.args.edge.now in
+    let b = c.args.builder.now in
     let one = negated (target_of m e.from) in
     let other = negated (target_of m e.to) in
     let from = variable_of m (truth.Refinement e.from) in
@@ -26,9 +26,9 @@ add_clause-requires c =
 
 pub add_clause-requires-2 : goal.add_clause-requires-2
 add_clause-requires-2 c =
-    let m = lists_of c.args.m.now in
-    let e = c.args.e.now in
-    let b = c.args.b.now in
+    let m = lists_of c.args.model.now in
+    let e = c.args.edge.now in
+    let b = c.args.builder.now in
     let one = negated (target_of m e.from) in
     let other = negated (target_of m e.to) in
     let from = variable_of m (truth.Refinement e.from) in
@@ -38,5 +38,5 @@ add_clause-requires-2 c =
     let same : clause (c.negated.result ∷ c.negated-2.result ∷ c.negated-3.result ∷ c.literal.result ∷ []) ≡ first = cc in
     let next : clause (c.negated-4.result ∷ c.negated-5.result ∷ c.literal-2.result ∷ c.negated-6.result ∷ []) ≡ second = cc in
     let added = c.in_ok-add_clause.ensures ∙ ap (λ (x : Clause). with_written b (x ∷ [])) same in
-    let far = left_more b b c.add_clause.new.b (bind_clauses m e) (first ∷ []) (second ∷ []) (left_all b (bind_clauses m e) c.requires.room) added in
-    subst (λ (x : Clause). CanTake c.add_clause.new.b (x ∷ [])) (sym next) far.room
+    let far = left_more b b c.add_clause.new.builder (bind_clauses m e) (first ∷ []) (second ∷ []) (left_all b (bind_clauses m e) c.requires.room) added in
+    subst (λ (x : Clause). CanTake c.add_clause.new.builder (x ∷ [])) (sym next) far.room

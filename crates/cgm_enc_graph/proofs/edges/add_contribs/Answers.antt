@@ -11,7 +11,7 @@ add_implication-requires c =
     let xs = c.args.contribs.now in
     let i = c.loop-e.e-index in
     let x : Edge = get_or xs i (record { from = 0; to = 0 }) in
-    loop_first (mapped f) (one_of f) c.args.b.now c.loop-e.b (map f xs) xs i x (mapped-steps f)
+    loop_first (mapped f) (one_of f) c.args.builder.now c.loop-e.builder (map f xs) xs i x (mapped-steps f)
     c.loop-e-test.true (get_or_default xs i (record { from = 0; to = 0 }) x c.loop-e-test.true) c.loop-e.invariant
 
 pub loop-e-preserved : goal.loop-e-preserved
@@ -20,5 +20,5 @@ loop-e-preserved c =
     let xs = c.args.contribs.now in
     let i = c.loop-e.e-index in
     let x : Edge = get_or xs i (record { from = 0; to = 0 }) in
-    loop_more (mapped f) (one_of f) c.args.b.now c.loop-e.b c.add_implication.new.b (map f xs) xs i x (mapped-steps f)
+    loop_more (mapped f) (one_of f) c.args.builder.now c.loop-e.builder c.add_implication.new.builder (map f xs) xs i x (mapped-steps f)
     c.loop-e-test.true (get_or_default xs i (record { from = 0; to = 0 }) x c.loop-e-test.true) c.loop-e.invariant c.in_ok-add_implication.ensures

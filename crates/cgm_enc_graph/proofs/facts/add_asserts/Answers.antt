@@ -12,7 +12,7 @@ add_assertion-requires c =
     let i = c.loop-a.a-index in
     let d : Assertion = record { element = 0; truth = false } in
     let x : Assertion = get_or xs i d in
-    loop_first (mapped f) (one_of f) c.args.b.now c.loop-a.b (map f xs) xs i x (mapped-steps f)
+    loop_first (mapped f) (one_of f) c.args.builder.now c.loop-a.builder (map f xs) xs i x (mapped-steps f)
     c.loop-a-test.true (get_or_default xs i d x c.loop-a-test.true) c.loop-a.invariant
 
 pub loop-a-preserved : goal.loop-a-preserved
@@ -22,5 +22,5 @@ loop-a-preserved c =
     let i = c.loop-a.a-index in
     let d : Assertion = record { element = 0; truth = false } in
     let x : Assertion = get_or xs i d in
-    loop_more (mapped f) (one_of f) c.args.b.now c.loop-a.b c.add_assertion.new.b (map f xs) xs i x (mapped-steps f)
+    loop_more (mapped f) (one_of f) c.args.builder.now c.loop-a.builder c.add_assertion.new.builder (map f xs) xs i x (mapped-steps f)
     c.loop-a-test.true (get_or_default xs i d x c.loop-a-test.true) c.loop-a.invariant c.in_ok-add_assertion.ensures

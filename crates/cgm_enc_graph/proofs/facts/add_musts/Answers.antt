@@ -12,8 +12,8 @@ add_must-requires c =
     let i = c.loop-number.number in
     let x = c.index-elements-number.result in
     let here : 0 + i ≡ i = omega arith in
-    subst (λ (k : ℕ). CanTake c.loop-number.b (must_clauses (k, x))) here
-    (loop_first (numbered f 0) (all_at f 0) c.args.b.now c.loop-number.b (flat_map f (enumerate_from 0 xs)) xs i
+    subst (λ (k : ℕ). CanTake c.loop-number.builder (must_clauses (k, x))) here
+    (loop_first (numbered f 0) (all_at f 0) c.args.builder.now c.loop-number.builder (flat_map f (enumerate_from 0 xs)) xs i
     x (numbered-steps f 0) c.loop-number-test.true c.index-elements-number.is c.loop-number.invariant)
 
 pub loop-number-preserved : goal.loop-number-preserved
@@ -23,6 +23,6 @@ loop-number-preserved c =
     let i = c.loop-number.number in
     let x = c.index-elements-number.result in
     let here : 0 + i ≡ i = omega arith in
-    loop_more (numbered f 0) (all_at f 0) c.args.b.now c.loop-number.b c.add_must.new.b (flat_map f (enumerate_from 0 xs)) xs i
+    loop_more (numbered f 0) (all_at f 0) c.args.builder.now c.loop-number.builder c.add_must.new.builder (flat_map f (enumerate_from 0 xs)) xs i
     x (numbered-steps f 0) c.loop-number-test.true c.index-elements-number.is c.loop-number.invariant
-    (c.in_ok-add_must.ensures ∙ ap (λ (k : ℕ). with_written c.loop-number.b (must_clauses (k, x))) (sym here))
+    (c.in_ok-add_must.ensures ∙ ap (λ (k : ℕ). with_written c.loop-number.builder (must_clauses (k, x))) (sym here))

@@ -10,10 +10,10 @@ use Rattle.cgm_enc_graph.proofs.graph.add_fact_group.Goals as goal
 
 pub add_asserts-requires : goal.add_asserts-requires
 add_asserts-requires c =
-    let m = lists_of c.args.m.now in
-    let b = c.args.b.now in
+    let m = lists_of c.args.model.now in
+    let b = c.args.builder.now in
     let musts = flat_map must_clauses (enumerate_from 0 m.elements) in
     let asserts = map assertion_clause m.asserts in
     let added = c.in_ok-add_musts.ensures ∙ ap (λ (xs : List Element). with_written b (flat_map must_clauses (enumerate_from 0 xs))) c.as_slice.ensures in
-    let far = left_more b b c.add_musts.new.b (fact_group m) musts asserts (left_all b (fact_group m) c.requires) added in
-    subst (λ (xs : List Assertion). CanTake c.add_musts.new.b (map assertion_clause xs)) (sym c.as_slice-2.ensures) far.room
+    let far = left_more b b c.add_musts.new.builder (fact_group m) musts asserts (left_all b (fact_group m) c.requires) added in
+    subst (λ (xs : List Assertion). CanTake c.add_musts.new.builder (map assertion_clause xs)) (sym c.as_slice-2.ensures) far.room

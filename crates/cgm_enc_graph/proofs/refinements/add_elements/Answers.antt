@@ -13,8 +13,8 @@ loop-element-preserved c =
     let i = c.loop-element.element in
     let own = c.index-refinements-element.result in
     let here : 0 + i ≡ i = omega arith in
-    loop_more (numbered f 0) (all_at f 0) c.args.b.now c.loop-element.b c.add_element.new.b (flat_map f (enumerate_from 0 xs)) xs i
+    loop_more (numbered f 0) (all_at f 0) c.args.builder.now c.loop-element.builder c.add_element.new.builder (flat_map f (enumerate_from 0 xs)) xs i
     own (numbered-steps f 0) c.loop-element-test.true c.index-refinements-element.is c.loop-element.invariant
     (c.in_ok-add_element.ensures
-    ∙ ap (λ (ys : List ℕ). with_written c.loop-element.b (element_clauses i ys)) c.as_slice.ensures
-    ∙ ap (λ (k : ℕ). with_written c.loop-element.b (element_clauses k own)) (sym here))
+    ∙ ap (λ (ys : List ℕ). with_written c.loop-element.builder (element_clauses i ys)) c.as_slice.ensures
+    ∙ ap (λ (k : ℕ). with_written c.loop-element.builder (element_clauses k own)) (sym here))

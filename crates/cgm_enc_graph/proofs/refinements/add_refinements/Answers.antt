@@ -8,7 +8,7 @@ add_refinement-requires c =
     let f = refinement_clauses in
     let n = c.args.first in
     let xs = c.args.refinements.now in
-    loop_first (numbered f n) (all_at f n) c.args.b.now c.loop-number.b (flat_map f (enumerate_from n xs)) xs c.loop-number.number
+    loop_first (numbered f n) (all_at f n) c.args.builder.now c.loop-number.builder (flat_map f (enumerate_from n xs)) xs c.loop-number.number
     c.index-refinements-number.result (numbered-steps f n) c.loop-number-test.true c.index-refinements-number.is c.loop-number.invariant
 
 pub loop-number-preserved : goal.loop-number-preserved
@@ -16,6 +16,6 @@ loop-number-preserved c =
     let f = refinement_clauses in
     let n = c.args.first in
     let xs = c.args.refinements.now in
-    loop_more (numbered f n) (all_at f n) c.args.b.now c.loop-number.b c.add_refinement.new.b (flat_map f (enumerate_from n xs)) xs c.loop-number.number
+    loop_more (numbered f n) (all_at f n) c.args.builder.now c.loop-number.builder c.add_refinement.new.builder (flat_map f (enumerate_from n xs)) xs c.loop-number.number
     c.index-refinements-number.result (numbered-steps f n) c.loop-number-test.true c.index-refinements-number.is c.loop-number.invariant
     c.in_ok-add_refinement.ensures

@@ -10,7 +10,7 @@ add_implication-requires c =
     let xs = c.args.sources.now in
     let i = c.loop-source.source-index in
     let x = get_or xs i 0 in
-    loop_first (mapped f) (one_of f) c.args.b.now c.loop-source.b (map f xs) xs i x (mapped-steps f)
+    loop_first (mapped f) (one_of f) c.args.builder.now c.loop-source.builder (map f xs) xs i x (mapped-steps f)
     c.loop-source-test.true (get_or_default xs i 0 x c.loop-source-test.true) c.loop-source.invariant
 
 pub loop-source-preserved : goal.loop-source-preserved
@@ -19,5 +19,5 @@ loop-source-preserved c =
     let xs = c.args.sources.now in
     let i = c.loop-source.source-index in
     let x = get_or xs i 0 in
-    loop_more (mapped f) (one_of f) c.args.b.now c.loop-source.b c.add_implication.new.b (map f xs) xs i x (mapped-steps f)
+    loop_more (mapped f) (one_of f) c.args.builder.now c.loop-source.builder c.add_implication.new.builder (map f xs) xs i x (mapped-steps f)
     c.loop-source-test.true (get_or_default xs i 0 x c.loop-source-test.true) c.loop-source.invariant c.in_ok-add_implication.ensures

@@ -8,7 +8,7 @@ use Rattle.cgm_encode.proofs.encoding.add_numbers.Goals as goal
 
 pub add_graph-requires-clause-variables : goal.add_graph-requires-clause-variables
 add_graph-requires-clause-variables c =
-    let count = ap (λ (p : Instance). var_count p) c.in_ok-add_own_variables.ensures ∙ own_count (lists_of c.args.m.now) in
+    let count = ap (λ (p : Instance). var_count p) c.in_ok-add_own_variables.ensures ∙ own_count (lists_of c.args.model.now) in
     omega (arith, count)
 
 pub add_graph-requires-clause-room : goal.add_graph-requires-clause-room
@@ -18,4 +18,4 @@ add_graph-requires-clause-room c =
 
 pub add_sums-requires : goal.add_sums-requires
 add_sums-requires c =
-    c.in_ok-add_graph.ensures ∙ ap (λ (p : Instance). with_clauses p (graph_clauses (lists_of c.args.m.now))) c.in_ok-add_own_variables.ensures
+    c.in_ok-add_graph.ensures ∙ ap (λ (p : Instance). with_clauses p (graph_clauses (lists_of c.args.model.now))) c.in_ok-add_own_variables.ensures

@@ -16,16 +16,16 @@ use Rattle.cgm_encode.proofs.encoding.add_objective_part.Goals as goal
 
 pub define-requires-clause-measured : goal.define-requires-clause-measured
 define-requires-clause-measured c =
-    let m = lists_of c.args.m.now in
-    let pairs = c.args.e.now.pairs in
+    let m = lists_of c.args.model.now in
+    let pairs = c.args.earlier.now.pairs in
     subst (λ (p : Instance). All (IsMeasured p) c.as_slice.result.now) (sym c.requires.stage)
-    (subst (λ (es : List Expression). All (IsMeasured (choices_instance m)) es) (sym (c.as_slice.ensures.value ∙ c.in_ok-objectives.ensures)) (objectives_measured m pairs c.args.m.now.well_formed))
+    (subst (λ (es : List Expression). All (IsMeasured (choices_instance m)) es) (sym (c.as_slice.ensures.value ∙ c.in_ok-objectives.ensures)) (objectives_measured m pairs c.args.model.now.well_formed))
 
 pub define-requires-clause-room : goal.define-requires-clause-room
 define-requires-clause-room c =
-    let m = lists_of c.args.m.now in
-    let pairs = c.args.e.now.pairs in
-    let few = (few_parts m c.args.m.now.well_formed).variables in
+    let m = lists_of c.args.model.now in
+    let pairs = c.args.earlier.now.pairs in
+    let few = (few_parts m c.args.model.now.well_formed).variables in
     let count = ap (λ (p : Instance). var_count p) c.requires.stage ∙ choices_count m in
     let long = ap (λ (es : List Expression). length es) (c.as_slice.ensures.value ∙ c.in_ok-objectives.ensures)
     ∙ length-map m.objectives (λ o. expression_of (first_objective m) (objective_total m pairs o)) in
@@ -33,18 +33,18 @@ define-requires-clause-room c =
 
 pub define-requires-clause-row_room : goal.define-requires-clause-row_room
 define-requires-clause-row_room c =
-    let m = lists_of c.args.m.now in
-    let pairs = c.args.e.now.pairs in
-    let few = rows_few m c.args.m.now.well_formed in
+    let m = lists_of c.args.model.now in
+    let pairs = c.args.earlier.now.pairs in
+    let few = rows_few m c.args.model.now.well_formed in
     let rows = ap (λ (p : Instance). length p.rows) c.requires.stage in
-    let eight = (known_sizes m c.args.m.now.well_formed).objectives in
+    let eight = (known_sizes m c.args.model.now.well_formed).objectives in
     let long = ap (λ (es : List Expression). length es) (c.as_slice.ensures.value ∙ c.in_ok-objectives.ensures)
     ∙ length-map m.objectives (λ o. expression_of (first_objective m) (objective_total m pairs o)) in
     omega (arith, few, rows, eight, long)
 
 pub add_objectives-requires-clause-known : goal.add_objectives-requires-clause-known
 add_objectives-requires-clause-known c =
-    let b = c.args.b.now in
+    let b = c.args.builder.now in
     let es = c.as_slice.result.now in
     let count = ap (λ (p : Instance). var_count p) c.in_ok-variables.ensures.added ∙ defined_count b es in
     subst (λ (n : ℕ). All (λ v. v < n) c.as_slice-2.result.now) (sym count)
@@ -52,20 +52,20 @@ add_objectives-requires-clause-known c =
 
 pub add_objectives-requires-clause-room : goal.add_objectives-requires-clause-room
 add_objectives-requires-clause-room c =
-    let m = lists_of c.args.m.now in
-    let pairs = c.args.e.now.pairs in
+    let m = lists_of c.args.model.now in
+    let pairs = c.args.earlier.now.pairs in
     let none = ap (λ (p : Instance). length p.objectives) c.in_ok-variables.ensures.added ∙ ap (λ (p : Instance). length p.objectives) c.requires.stage in
-    let eight = (known_sizes m c.args.m.now.well_formed).objectives in
+    let eight = (known_sizes m c.args.model.now.well_formed).objectives in
     let long = ap (λ (es : List Expression). length es) (c.as_slice.ensures.value ∙ c.in_ok-objectives.ensures)
     ∙ length-map m.objectives (λ o. expression_of (first_objective m) (objective_total m pairs o)) in
-    let own = ap (λ (vs : List ℕ). length vs) (c.as_slice-2.ensures.value ∙ c.in_ok-variables.ensures.variables) ∙ length-range_with_len (var_count c.args.b.now) (length c.as_slice.result.now) in
+    let own = ap (λ (vs : List ℕ). length vs) (c.as_slice-2.ensures.value ∙ c.in_ok-variables.ensures.variables) ∙ length-range_with_len (var_count c.args.builder.now) (length c.as_slice.result.now) in
     omega (arith, none, eight, long, own)
 
 pub returns : goal.returns
 returns c =
-    let m = lists_of c.args.m.now in
-    let pairs = c.args.e.now.pairs in
-    let b = c.args.b.now in
+    let m = lists_of c.args.model.now in
+    let pairs = c.args.earlier.now.pairs in
+    let b = c.args.builder.now in
     let es_are = c.as_slice.ensures.value ∙ c.in_ok-objectives.ensures in
     let own = c.as_slice-2.ensures.value ∙ c.in_ok-variables.ensures.variables
     ∙ ap (λ (p : Instance). range_with_len (var_count p) (length c.as_slice.result.now)) c.requires.stage

@@ -18,31 +18,31 @@ use Rattle.cgm_encode.proofs.encoding.add_own_variables.Goals as goal
 
 pub add_bits-requires : goal.add_bits-requires
 add_bits-requires c =
-    let m = lists_of c.args.m.now in
-    let few = (few_parts m c.args.m.now.well_formed).variables in
+    let m = lists_of c.args.model.now in
+    let few = (few_parts m c.args.model.now.well_formed).variables in
     let none = ap (λ (p : Instance). var_count p) c.requires in
     omega (arith, none, c.truth_count.ensures, few)
 
 pub add_own-requires-clause-ordered : goal.add_own-requires-clause-ordered
 add_own-requires-clause-ordered c =
-    subst (λ (vs : List Variable). All (λ v. v.lo ≤ℤ v.hi) vs) (sym c.as_slice.ensures) (known_sizes (lists_of c.args.m.now) c.args.m.now.well_formed).ordered
+    subst (λ (vs : List Variable). All (λ v. v.lo ≤ℤ v.hi) vs) (sym c.as_slice.ensures) (known_sizes (lists_of c.args.model.now) c.args.model.now.well_formed).ordered
 
 pub add_own-requires-clause-room : goal.add_own-requires-clause-room
 add_own-requires-clause-room c =
-    let m = lists_of c.args.m.now in
-    let few = (few_parts m c.args.m.now.well_formed).variables in
+    let m = lists_of c.args.model.now in
+    let few = (few_parts m c.args.model.now.well_formed).variables in
     let none = ap (λ (p : Instance). var_count p) c.requires in
     let k = c.truth_count.result in
-    let count = ap (λ (p : Instance). var_count p) c.in_ok-add_bits.ensures.added ∙ ranges_count c.args.b.now (bits k) in
+    let count = ap (λ (p : Instance). var_count p) c.in_ok-add_bits.ensures.added ∙ ranges_count c.args.builder.now (bits k) in
     let long = bits_long k in
     let vars = ap (λ (vs : List Variable). length vs) c.as_slice.ensures in
     omega (arith, none, c.truth_count.ensures, count, long, vars, few)
 
 pub returns : goal.returns
 returns c =
-    let m = lists_of c.args.m.now in
+    let m = lists_of c.args.model.now in
     c.in_ok-add_own.ensures
-    ∙ ap (λ (vs : List Variable). with_ranges c.add_bits.new.b (map own_range vs)) c.as_slice.ensures
+    ∙ ap (λ (vs : List Variable). with_ranges c.add_bits.new.builder (map own_range vs)) c.as_slice.ensures
     ∙ ap (λ (p : Instance). with_ranges p (map own_range m.vars))
     (c.in_ok-add_bits.ensures.added
     ∙ ap (λ (p : Instance). with_ranges p (bits c.truth_count.result)) c.requires
@@ -51,4 +51,4 @@ returns c =
 
 pub add_own-requires-clause-bounds : goal.add_own-requires-clause-bounds
 add_own-requires-clause-bounds c =
-    subst (λ (vs : List Variable). All (λ v. AreBounds (own_range v)) vs) (sym c.as_slice.ensures) (own_bounds (lists_of c.args.m.now) c.args.m.now.well_formed)
+    subst (λ (vs : List Variable). All (λ v. AreBounds (own_range v)) vs) (sym c.as_slice.ensures) (own_bounds (lists_of c.args.model.now) c.args.model.now.well_formed)

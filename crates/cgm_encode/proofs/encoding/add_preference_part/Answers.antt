@@ -19,23 +19,23 @@ use Rattle.cgm_encode.proofs.encoding.add_preference_part.Goals as goal
 
 pub add_bits-requires : goal.add_bits-requires
 add_bits-requires c =
-    let m = lists_of c.args.m.now in
-    let b = c.args.b.now in
+    let m = lists_of c.args.model.now in
+    let b = c.args.builder.now in
     let count : var_count b ≡ first_preference m = ap (λ (p : Instance). var_count p) c.requires ∙ rules_count m in
     let prefers = c.as_slice-prefers.ensures in
     let long : length c.as_slice-prefers.result.now ≡ length m.prefers = ap (λ (ps : List Preference). length ps) prefers in
-    let few = (few_parts m c.args.m.now.well_formed).variables in
+    let few = (few_parts m c.args.model.now.well_formed).variables in
     omega (arith, count, long, few)
 
 pub add_preferences-requires-clause-count : goal.add_preferences-requires-clause-count
 add_preferences-requires-clause-count c =
     ap (λ (vs : List ℕ). length vs) (c.as_slice.ensures.value ∙ c.in_ok-variables.ensures.variables)
-    ∙ length-range_with_len (var_count c.args.b.now) (length c.as_slice-prefers.result.now)
+    ∙ length-range_with_len (var_count c.args.builder.now) (length c.as_slice-prefers.result.now)
 
 pub add_preferences-requires-clause-room : goal.add_preferences-requires-clause-room
 add_preferences-requires-clause-room c =
-    let m = lists_of c.args.m.now in
-    let b = c.args.b.now in
+    let m = lists_of c.args.model.now in
+    let b = c.args.builder.now in
     let count : var_count b ≡ first_preference m = ap (λ (p : Instance). var_count p) c.requires ∙ rules_count m in
     let prefers = c.as_slice-prefers.ensures in
     let long : length c.as_slice-prefers.result.now ≡ length m.prefers = ap (λ (ps : List Preference). length ps) prefers in
@@ -44,7 +44,7 @@ add_preferences-requires-clause-room c =
     ∙ ap (λ (n : ℕ). range_with_len n (length c.as_slice-prefers.result.now)) count
     ∙ ap (λ (k : ℕ). range_with_len (first_preference m) k) long in
     let own = c.as_slice.ensures.value ∙ variables in
-    let begun : c.add_bits.new.b ≡ with_ranges (rules_instance m) (bits (length m.prefers)) =
+    let begun : c.add_bits.new.builder ≡ with_ranges (rules_instance m) (bits (length m.prefers)) =
     c.in_ok-variables.ensures.added
     ∙ ap (λ (p : Instance). with_ranges p (bits (length c.as_slice-prefers.result.now))) c.requires
     ∙ ap (λ (k : ℕ). with_ranges (rules_instance m) (bits k)) long in
@@ -52,18 +52,18 @@ add_preferences-requires-clause-room c =
     ap (λ (ps : List Preference). flat_map (preference_clauses m) (zip c.as_slice.result.now ps)) prefers in
     subst (λ (p : Instance). CanTake p (flat_map (preference_clauses m) (zip c.as_slice.result.now c.as_slice-prefers.result.now))) (sym begun)
     (subst (λ (clauses : List Clause). CanTake (with_ranges (rules_instance m) (bits (length m.prefers))) clauses) (sym (written ∙ preferences_zipped m c.as_slice.result.now own))
-    (preferences_fit m c.args.m.now.well_formed))
+    (preferences_fit m c.args.model.now.well_formed))
 
 pub add_preferences-requires-clause-known : goal.add_preferences-requires-clause-known
 add_preferences-requires-clause-known c =
-    let m = lists_of c.args.m.now in
-    let parts = known_parts m c.args.m.now.well_formed in
+    let m = lists_of c.args.model.now in
+    let parts = known_parts m c.args.model.now.well_formed in
     subst (λ (ps : List Preference). All (IsPreference m) ps) (sym c.as_slice-prefers.ensures) (λ k d l. (parts.better k d l, parts.worse k d l))
 
 pub returns-clause-added : goal.returns-clause-added
 returns-clause-added c =
-    let m = lists_of c.args.m.now in
-    let b = c.args.b.now in
+    let m = lists_of c.args.model.now in
+    let b = c.args.builder.now in
     let count : var_count b ≡ first_preference m = ap (λ (p : Instance). var_count p) c.requires ∙ rules_count m in
     let prefers = c.as_slice-prefers.ensures in
     let long : length c.as_slice-prefers.result.now ≡ length m.prefers = ap (λ (ps : List Preference). length ps) prefers in
@@ -72,21 +72,21 @@ returns-clause-added c =
     ∙ ap (λ (n : ℕ). range_with_len n (length c.as_slice-prefers.result.now)) count
     ∙ ap (λ (k : ℕ). range_with_len (first_preference m) k) long in
     let own = c.as_slice.ensures.value ∙ variables in
-    let begun : c.add_bits.new.b ≡ with_ranges (rules_instance m) (bits (length m.prefers)) =
+    let begun : c.add_bits.new.builder ≡ with_ranges (rules_instance m) (bits (length m.prefers)) =
     c.in_ok-variables.ensures.added
     ∙ ap (λ (p : Instance). with_ranges p (bits (length c.as_slice-prefers.result.now))) c.requires
     ∙ ap (λ (k : ℕ). with_ranges (rules_instance m) (bits k)) long in
     let written : flat_map (preference_clauses m) (zip c.as_slice.result.now c.as_slice-prefers.result.now) ≡ flat_map (preference_clauses m) (zip c.as_slice.result.now m.prefers) =
     ap (λ (ps : List Preference). flat_map (preference_clauses m) (zip c.as_slice.result.now ps)) prefers in
     c.in_ok-add_preferences.ensures
-    ∙ ap (λ (clauses : List Clause). with_written c.add_bits.new.b clauses) written
+    ∙ ap (λ (clauses : List Clause). with_written c.add_bits.new.builder clauses) written
     ∙ ap (λ (p : Instance). with_written p (flat_map (preference_clauses m) (zip c.as_slice.result.now m.prefers))) begun
     ∙ choices_grown m c.as_slice.result.now own
 
 pub returns-clause-variables : goal.returns-clause-variables
 returns-clause-variables c =
-    let m = lists_of c.args.m.now in
-    let b = c.args.b.now in
+    let m = lists_of c.args.model.now in
+    let b = c.args.builder.now in
     let count : var_count b ≡ first_preference m = ap (λ (p : Instance). var_count p) c.requires ∙ rules_count m in
     let prefers = c.as_slice-prefers.ensures in
     let long : length c.as_slice-prefers.result.now ≡ length m.prefers = ap (λ (ps : List Preference). length ps) prefers in

@@ -14,14 +14,14 @@ use Rattle.cgm_encode.proofs.encoding.add_sums.Goals as goal
 
 pub define-requires-clause-measured : goal.define-requires-clause-measured
 define-requires-clause-measured c =
-    let m = lists_of c.args.m.now in
+    let m = lists_of c.args.model.now in
     subst (λ (p : Instance). All (IsMeasured p) c.as_slice.result.now) (sym c.requires)
-    (subst (λ (es : List Expression). All (IsMeasured (graph_instance m)) es) (sym (c.as_slice.ensures.value ∙ c.in_ok-sums.ensures)) (sums_measured m c.args.m.now.well_formed))
+    (subst (λ (es : List Expression). All (IsMeasured (graph_instance m)) es) (sym (c.as_slice.ensures.value ∙ c.in_ok-sums.ensures)) (sums_measured m c.args.model.now.well_formed))
 
 pub define-requires-clause-room : goal.define-requires-clause-room
 define-requires-clause-room c =
-    let m = lists_of c.args.m.now in
-    let few = (few_parts m c.args.m.now.well_formed).variables in
+    let m = lists_of c.args.model.now in
+    let few = (few_parts m c.args.model.now.well_formed).variables in
     let count = ap (λ (p : Instance). var_count p) c.requires ∙ own_count m in
     let long = ap (λ (es : List Expression). length es) (c.as_slice.ensures.value ∙ c.in_ok-sums.ensures)
     ∙ length-map-range_with_len (λ sum. expression_of (truth_variables m) (sum_total m sum)) 0 (length m.sums) in
@@ -29,8 +29,8 @@ define-requires-clause-room c =
 
 pub define-requires-clause-row_room : goal.define-requires-clause-row_room
 define-requires-clause-row_room c =
-    let m = lists_of c.args.m.now in
-    let few = (few_parts m c.args.m.now.well_formed).variables in
+    let m = lists_of c.args.model.now in
+    let few = (few_parts m c.args.model.now.well_formed).variables in
     let none = ap (λ (p : Instance). length p.rows) c.requires in
     let long = ap (λ (es : List Expression). length es) (c.as_slice.ensures.value ∙ c.in_ok-sums.ensures)
     ∙ length-map-range_with_len (λ sum. expression_of (truth_variables m) (sum_total m sum)) 0 (length m.sums) in
@@ -38,8 +38,8 @@ define-requires-clause-row_room c =
 
 pub returns : goal.returns
 returns c =
-    let m = lists_of c.args.m.now in
+    let m = lists_of c.args.model.now in
     c.in_ok-define.ensures.added
-    ∙ ap (λ (es : List Expression). with_defined c.args.b.now es) (c.as_slice.ensures.value ∙ c.in_ok-sums.ensures)
+    ∙ ap (λ (es : List Expression). with_defined c.args.builder.now es) (c.as_slice.ensures.value ∙ c.in_ok-sums.ensures)
     ∙ ap (λ (p : Instance). with_defined p (sum_expressions m)) c.requires
     ∙ numbers_grown m

@@ -5,5 +5,5 @@ use Rattle.cgm_encode.proofs.interest.free_requirements.Goals as goal
 
 pub loop-element-preserved : goal.loop-element-preserved
 loop-element-preserved c =
-    numbers_kept (is_free_requirement (lists_of c.args.m.now)) c.loop-element.element c.loop-element.requirements.items c.push_free_requirement.new.requirements.items
+    numbers_kept (is_free_requirement (lists_of c.args.model.now)) c.loop-element.element c.loop-element.requirements.items c.push_free_requirement.new.requirements.items
     c.loop-element.invariant c.in_ok-push_free_requirement.ensures

@@ -7,4 +7,4 @@ use Rattle.cgm_encode.proofs.interest.free_requirements.Given as goal
 
 abbrev pub invariant-loop-element : goal.invariant-loop-element
 invariant-loop-element l =
-    l.requirements.items ≡ filter (is_free_requirement (lists_of l.m)) (range_with_len 0 l.element)
+    l.requirements.items ≡ filter (is_free_requirement (lists_of l.model)) (range_with_len 0 l.element)

@@ -5,5 +5,5 @@ use Rattle.cgm_encode.proofs.interest.leaf_tasks.Goals as goal
 
 pub loop-element-preserved : goal.loop-element-preserved
 loop-element-preserved c =
-    numbers_kept (is_leaf_task (lists_of c.args.m.now)) c.loop-element.element c.loop-element.tasks.items c.push_leaf_task.new.tasks.items
+    numbers_kept (is_leaf_task (lists_of c.args.model.now)) c.loop-element.element c.loop-element.tasks.items c.push_leaf_task.new.tasks.items
     c.loop-element.invariant c.in_ok-push_leaf_task.ensures

@@ -7,4 +7,4 @@ use Rattle.cgm_encode.proofs.interest.leaf_tasks.Given as goal
 
 abbrev pub invariant-loop-element : goal.invariant-loop-element
 invariant-loop-element l =
-    l.tasks.items ≡ filter (is_leaf_task (lists_of l.m)) (range_with_len 0 l.element)
+    l.tasks.items ≡ filter (is_leaf_task (lists_of l.model)) (range_with_len 0 l.element)

@@ -7,6 +7,6 @@ use Rattle.cgm_encode.proofs.interest.work_among.Goals as goal
 
 pub loop-element-preserved : goal.loop-element-preserved
 loop-element-preserved c =
-    let m = lists_of c.args.m.now in
-    items_kept (λ k. is_leaf_task m k && not (was_true_before m c.args.e.now.pairs k)) c.args.elements.now c.loop-element.element-index 0
+    let m = lists_of c.args.model.now in
+    items_kept (λ k. is_leaf_task m k && not (was_true_before m c.args.earlier.now.pairs k)) c.args.elements.now c.loop-element.element-index 0
     c.loop-element.tasks.items c.push_possible_work.new.tasks.items c.loop-element-test.true c.loop-element.invariant c.in_ok-push_possible_work.ensures

@@ -7,4 +7,4 @@ use Rattle.cgm_encode.proofs.interest.work_among.Given as goal
 
 abbrev pub invariant-loop-element : goal.invariant-loop-element
 invariant-loop-element l =
-    l.tasks.items ≡ filter (λ k. is_leaf_task (lists_of l.m) k && not (was_true_before (lists_of l.m) l.e.pairs k)) (take l.element-index l.elements)
+    l.tasks.items ≡ filter (λ k. is_leaf_task (lists_of l.model) k && not (was_true_before (lists_of l.model) l.earlier.pairs k)) (take l.element-index l.elements)

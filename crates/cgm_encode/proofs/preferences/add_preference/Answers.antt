@@ -10,10 +10,10 @@ use Rattle.cgm_encode.proofs.preferences.add_preference.Goals as goal
 
 pub add_clause-requires : goal.add_clause-requires
 add_clause-requires c =
-    let m = lists_of c.args.m.now in
-    let p = c.args.p.now in
+    let m = lists_of c.args.model.now in
+    let p = c.args.preference.now in
     let u = c.args.u in
-    let b = c.args.b.now in
+    let b = c.args.builder.now in
     let all = preference_clauses m (u, p) in
     let better = variable_of m p.better in
     let worse = variable_of m p.worse in
@@ -26,10 +26,10 @@ add_clause-requires c =
 
 pub add_clause-requires-2 : goal.add_clause-requires-2
 add_clause-requires-2 c =
-    let m = lists_of c.args.m.now in
-    let p = c.args.p.now in
+    let m = lists_of c.args.model.now in
+    let p = c.args.preference.now in
     let u = c.args.u in
-    let b = c.args.b.now in
+    let b = c.args.builder.now in
     let all = preference_clauses m (u, p) in
     let better = variable_of m p.better in
     let worse = variable_of m p.worse in
@@ -39,16 +39,16 @@ add_clause-requires-2 c =
     let same : clause (c.negated.result ∷ c.negated-2.result ∷ []) ≡ first = cc in
     let next : clause (c.negated-3.result ∷ c.literal.result ∷ []) ≡ second = cc in
     let added = c.in_ok-add_clause.ensures ∙ ap (λ (x : Clause). with_written b (x ∷ [])) same in
-    let far = left_more b b c.add_clause.new.b all (first ∷ []) (second ∷ third ∷ []) (left_all b all c.requires.room) added in
-    subst (λ (x : Clause). CanTake c.add_clause.new.b (x ∷ [])) (sym next)
-    (first_left b c.add_clause.new.b all (second ∷ []) (third ∷ []) far)
+    let far = left_more b b c.add_clause.new.builder all (first ∷ []) (second ∷ third ∷ []) (left_all b all c.requires.room) added in
+    subst (λ (x : Clause). CanTake c.add_clause.new.builder (x ∷ [])) (sym next)
+    (first_left b c.add_clause.new.builder all (second ∷ []) (third ∷ []) far)
 
 pub add_clause-requires-3 : goal.add_clause-requires-3
 add_clause-requires-3 c =
-    let m = lists_of c.args.m.now in
-    let p = c.args.p.now in
+    let m = lists_of c.args.model.now in
+    let p = c.args.preference.now in
     let u = c.args.u in
-    let b = c.args.b.now in
+    let b = c.args.builder.now in
     let all = preference_clauses m (u, p) in
     let better = variable_of m p.better in
     let worse = variable_of m p.worse in
@@ -59,7 +59,7 @@ add_clause-requires-3 c =
     let next : clause (c.negated-3.result ∷ c.literal.result ∷ []) ≡ second = cc in
     let last : clause (c.literal-2.result ∷ c.literal-3.result ∷ c.negated-4.result ∷ []) ≡ third = cc in
     let added = c.in_ok-add_clause.ensures ∙ ap (λ (x : Clause). with_written b (x ∷ [])) same in
-    let far = left_more b b c.add_clause.new.b all (first ∷ []) (second ∷ third ∷ []) (left_all b all c.requires.room) added in
-    let more = c.in_ok-add_clause-2.ensures ∙ ap (λ (x : Clause). with_written c.add_clause.new.b (x ∷ [])) next in
-    let end = left_more b c.add_clause.new.b c.add_clause-2.new.b all (second ∷ []) (third ∷ []) far more in
-    subst (λ (x : Clause). CanTake c.add_clause-2.new.b (x ∷ [])) (sym last) end.room
+    let far = left_more b b c.add_clause.new.builder all (first ∷ []) (second ∷ third ∷ []) (left_all b all c.requires.room) added in
+    let more = c.in_ok-add_clause-2.ensures ∙ ap (λ (x : Clause). with_written c.add_clause.new.builder (x ∷ [])) next in
+    let end = left_more b c.add_clause.new.builder c.add_clause-2.new.builder all (second ∷ []) (third ∷ []) far more in
+    subst (λ (x : Clause). CanTake c.add_clause-2.new.builder (x ∷ [])) (sym last) end.room

@@ -8,7 +8,7 @@ use Rattle.cgm_encode.proofs.printer.print_problem.Goals as goal
 pub returns : goal.returns
 unfolding problem_text
 returns c =
-    let p = c.args.p.now in
+    let p = c.args.problem.now in
     four_groups (line (codes "cgm-problem 1") []) (var_lines p) (clause_lines p) (row_lines p) (objective_lines p)
     c.push_vars.new.out.items c.push_clauses.new.out.items c.push_rows.new.out.items c.push_objectives.new.out.items
     (c.in_ok-push_vars.ensures ∙ ap (λ (l : List ℕ). l ++ var_lines p) c.in_ok-out.ensures.items)

@@ -6,4 +6,4 @@ use Rattle.cgm_encode.proofs.printer.push_clauses.Given as goal
 
 abbrev pub invariant-loop-n : goal.invariant-loop-n
 invariant-loop-n l =
-    l.out.items ++ flat_map clause_line (enumerate_from l.n (drop l.n l.p.clauses)) ≡ l.initial.out.items ++ clause_lines l.p
+    l.out.items ++ flat_map clause_line (enumerate_from l.n (drop l.n l.problem.clauses)) ≡ l.initial.out.items ++ clause_lines l.problem

@@ -6,4 +6,4 @@ use Rattle.cgm_encode.proofs.printer.push_rows.Given as goal
 
 abbrev pub invariant-loop-n : goal.invariant-loop-n
 invariant-loop-n l =
-    l.out.items ++ flat_map row_line (enumerate_from l.n (drop l.n l.p.rows)) ≡ l.initial.out.items ++ row_lines l.p
+    l.out.items ++ flat_map row_line (enumerate_from l.n (drop l.n l.problem.rows)) ≡ l.initial.out.items ++ row_lines l.problem

@@ -6,7 +6,7 @@ use Rattle.cgm_encode.proofs.printer.push_vars.Goals as goal
 
 pub loop-v-preserved : goal.loop-v-preserved
 loop-v-preserved c =
-    let p = c.args.p.now in
+    let p = c.args.problem.now in
     let within : c.loop-v.v < var_count p = omega (arith, c.loop-v-test.true, c.vars-v-end.ensures.count) in
     ranged_more (var_line p.bounds) c.loop-v.v (var_count p) c.loop-v.out.items c.push_var.new.out.items (c.args.out.now.items ++ var_lines p)
     within c.loop-v.invariant c.in_ok-push_var.ensures

@@ -7,4 +7,4 @@ use Rattle.cgm_encode.proofs.printer.push_vars.Given as goal
 
 abbrev pub invariant-loop-v : goal.invariant-loop-v
 invariant-loop-v l =
-    l.out.items ++ flat_map (var_line l.p.bounds) (range_with_len l.v (var_count l.p - l.v)) ≡ l.initial.out.items ++ var_lines l.p
+    l.out.items ++ flat_map (var_line l.problem.bounds) (range_with_len l.v (var_count l.problem - l.v)) ≡ l.initial.out.items ++ var_lines l.problem

@@ -7,4 +7,4 @@ use Rattle.cgm_encode.proofs.quantities.objective_expressions.Given as goal
 
 abbrev pub invariant-loop-o : goal.invariant-loop-o
 invariant-loop-o l =
-    l.expressions.items ≡ map (λ o. expression_of (first_objective (lists_of l.m)) (objective_total (lists_of l.m) l.e.pairs o)) (take l.o-index l.objectives)
+    l.expressions.items ≡ map (λ o. expression_of (first_objective (lists_of l.model)) (objective_total (lists_of l.model) l.earlier.pairs o)) (take l.o-index l.objectives)

@@ -9,7 +9,7 @@ use Rattle.cgm_encode.proofs.quantities.objective_summands.Goals as goal
 
 pub opposite-requires-clause-shares : goal.opposite-requires-clause-shares
 opposite-requires-clause-shares c =
-    let o = c.args.o in
-    let quantity = quantity_total (lists_of c.args.m.now) c.args.e.now.pairs o.of in
+    let o = c.args.objective in
+    let quantity = quantity_total (lists_of c.args.model.now) c.args.earlier.now.pairs o.of in
     subst (λ (shares : List Share). All (λ s. unsigned_abs s.0 < 2 ^ 63) shares) (sym c.in_ok-summands.ensures.0)
     (signed_shares o.max quantity c.if-o.true c.requires.fitting.numbers)

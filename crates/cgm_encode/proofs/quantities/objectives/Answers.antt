@@ -8,6 +8,6 @@ use Rattle.cgm_encode.proofs.quantities.objectives.Goals as goal
 
 pub returns-clause-fitting : goal.returns-clause-fitting
 returns-clause-fitting c =
-    let m = lists_of c.args.m.now in
-    let pairs = c.args.e.now.pairs in
-    subst (λ (os : List Objective). All (IsFitting m pairs) os) (sym c.as_slice.ensures) (objectives_fit_in m pairs c.args.m.now.well_formed)
+    let m = lists_of c.args.model.now in
+    let pairs = c.args.earlier.now.pairs in
+    subst (λ (os : List Objective). All (IsFitting m pairs) os) (sym c.as_slice.ensures) (objectives_fit_in m pairs c.args.model.now.well_formed)

@@ -4,4 +4,4 @@ use Rattle.cgm_encode.proofs.ranges.ranges_of.Given as goal
 
 abbrev pub invariant-loop-e : goal.invariant-loop-e
 invariant-loop-e l =
-    l.ranges.items ≡ map (expression_range l.b.bounds) (take l.e-index l.expressions)
+    l.ranges.items ≡ map (expression_range l.builder.bounds) (take l.e-index l.expressions)

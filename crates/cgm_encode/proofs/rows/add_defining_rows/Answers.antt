@@ -18,5 +18,5 @@ add_two_rows-requires-clause-size c =
     let i = c.loop-place.place in
     let e = c.index-expressions-place.result in
     let there : i < length c.args.expressions.now = omega (arith, c.loop-place-test.true) in
-    subst (λ (x : Expression). HasBoundSize c.loop-place.b.bounds x) (sym c.index-expressions-place.is)
+    subst (λ (x : Expression). HasBoundSize c.loop-place.builder.bounds x) (sym c.index-expressions-place.is)
     (subst (λ (bounds : Bounds). HasBoundSize bounds (get_or c.args.expressions.now i e)) (sym c.loop-place.invariant.bounds) (c.requires.sizes i e there))

@@ -7,4 +7,4 @@ use Rattle.cgm_encode.proofs.sums.expressions_of.Given as goal
 
 abbrev pub invariant-loop-shares : goal.invariant-loop-shares
 invariant-loop-shares l =
-    l.expressions.items ≡ map (λ shares. expression_of (truth_variables (lists_of l.m)) (plain shares)) (take l.shares-index l.lists)
+    l.expressions.items ≡ map (λ shares. expression_of (truth_variables (lists_of l.model)) (plain shares)) (take l.shares-index l.lists)

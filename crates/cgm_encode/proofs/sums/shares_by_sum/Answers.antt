@@ -12,14 +12,14 @@ use Rattle.cgm_encode.proofs.sums.shares_by_sum.Goals as goal
 
 pub truth_variable-requires : goal.truth_variable-requires
 truth_variable-requires c =
-    let m = lists_of c.args.m.now in
-    let parts = known_parts m c.args.m.now.well_formed in
+    let m = lists_of c.args.model.now in
+    let parts = known_parts m c.args.model.now.well_formed in
     let none : SumValue = record { sum = 0; of = Element 0; k = pos 0 } in
     subst (λ (vs : List SumValue). All (λ v. IsKnownTruth m v.of) vs) (sym c.as_slice-v-items.ensures) parts.values c.loop-v.v-index none c.loop-v-test.true
 
 pub returns : goal.returns
 returns c =
-    let m = lists_of c.args.m.now in
+    let m = lists_of c.args.model.now in
     let i = c.loop-v.v-index in
     let lists = c.loop-v.lists.items in
     let long = ap (λ (vs : List SumValue). length vs) c.as_slice-v-items.ensures in

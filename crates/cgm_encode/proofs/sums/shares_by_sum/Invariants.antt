@@ -5,4 +5,4 @@ use Rattle.cgm_encode.proofs.sums.shares_by_sum.Given as goal
 
 abbrev pub invariant-loop-v : goal.invariant-loop-v
 invariant-loop-v l =
-    AreSoFar (lists_of l.m) l.lists.items (drop l.v-index l.m.values)
+    AreSoFar (lists_of l.model) l.lists.items (drop l.v-index l.model.values)

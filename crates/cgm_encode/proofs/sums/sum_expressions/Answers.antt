@@ -15,24 +15,24 @@ use Rattle.cgm_encode.proofs.sums.sum_expressions.Goals as goal
 
 pub expressions_of-requires-clause-known : goal.expressions_of-requires-clause-known
 expressions_of-requires-clause-known c =
-    let m = lists_of c.args.m.now in
+    let m = lists_of c.args.model.now in
     let xs = range_with_len 0 (length m.sums) in
     let P : List Share → Type 0 = λ shares. All (λ s. s.1 < truth_variables m) shares in
     subst (λ (ls : List (List Share)). All P ls) (sym (c.as_slice.ensures.value ∙ c.in_ok-lists.ensures))
-    (All-map P (λ sum. (sum_total m sum).shares) xs (λ k d l. sum_shares m (known_parts m c.args.m.now.well_formed) (get_or xs k d)))
+    (All-map P (λ sum. (sum_total m sum).shares) xs (λ k d l. sum_shares m (known_parts m c.args.model.now.well_formed) (get_or xs k d)))
 
 pub expressions_of-requires-clause-small : goal.expressions_of-requires-clause-small
 expressions_of-requires-clause-small c =
-    let m = lists_of c.args.m.now in
+    let m = lists_of c.args.model.now in
     let xs = range_with_len 0 (length m.sums) in
     let P : List Share → Type 0 = λ shares. share_size shares < 2 ^ 63 in
     subst (λ (ls : List (List Share)). All P ls) (sym (c.as_slice.ensures.value ∙ c.in_ok-lists.ensures))
     (All-map P (λ sum. (sum_total m sum).shares) xs
-    (λ k d l. let few = (sum_small m c.args.m.now.well_formed (get_or xs k d)).numbers in omega arith))
+    (λ k d l. let few = (sum_small m c.args.model.now.well_formed (get_or xs k d)).numbers in omega arith))
 
 pub returns : goal.returns
 returns c =
-    let m = lists_of c.args.m.now in
+    let m = lists_of c.args.model.now in
     let xs = range_with_len 0 (length m.sums) in
     let f : List Share → Expression = λ shares. expression_of (truth_variables m) (plain shares) in
     c.in_ok-expressions.ensures

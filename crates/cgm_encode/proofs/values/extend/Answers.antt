@@ -7,5 +7,5 @@ push_values-requires-clause-fits c = c.requires.realizes.fits
 
 pub returns : goal.returns
 returns c =
-    extended_promise (lists_of c.args.m.now) c.args.e.now.pairs c.args.enc.now c.args.a.now c.push_values.new.out.items
-    c.args.m.now.well_formed c.requires.realizes c.requires.encoding c.in_ok-push_values.ensures
+    extended_promise (lists_of c.args.model.now) c.args.earlier.now.pairs c.args.enc.now c.args.assignment.now c.push_values.new.out.items
+    c.args.model.now.well_formed c.requires.realizes c.requires.encoding c.in_ok-push_values.ensures

@@ -5,5 +5,5 @@ use Rattle.cgm_encode.proofs.values.push_preferences.Given as goal
 
 abbrev pub invariant-loop-p : goal.invariant-loop-p
 invariant-loop-p l =
-    l.out.items ++ map (λ p. bit (not (is_met l.a p))) (drop l.p-index l.prefers)
-    ≡ l.initial.out.items ++ map (λ p. bit (not (is_met l.a p))) l.prefers
+    l.out.items ++ map (λ p. bit (not (is_met l.assignment p))) (drop l.p-index l.prefers)
+    ≡ l.initial.out.items ++ map (λ p. bit (not (is_met l.assignment p))) l.prefers

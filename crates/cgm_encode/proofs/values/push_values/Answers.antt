@@ -9,4 +9,4 @@ pub returns : goal.returns
 unfolding extension
 returns c =
     c.in_ok-push_vector.ensures
-    ∙ ap (λ (l : List ℤ). l ++ vector_of (lists_of c.args.m.now) c.args.e.now.pairs c.args.a.now) c.in_ok-push_choices.ensures
+    ∙ ap (λ (l : List ℤ). l ++ vector_of (lists_of c.args.model.now) c.args.earlier.now.pairs c.args.assignment.now) c.in_ok-push_choices.ensures

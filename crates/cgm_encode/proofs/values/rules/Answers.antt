@@ -11,8 +11,8 @@ use Rattle.cgm_encode.proofs.values.rules.Goals as goal
 
 pub returns-clause-small : goal.returns-clause-small
 returns-clause-small c =
-    let a = c.args.a.now in
+    let a = c.args.assignment.now in
     let sums = c.args.sums.now in
-    ∥∥₁_elim c.args.m.now.well_formed (hlevel props)
+    ∥∥₁_elim c.args.model.now.well_formed (hlevel props)
     (λ w. subst (λ (rs : List Rule). All (λ r. AreSmallIn (number_in a sums) (formula_of r)) rs) (sym c.as_slice.ensures)
-    (rules_small (lists_of c.args.m.now) w a sums c.requires.fits c.requires.sums))
+    (rules_small (lists_of c.args.model.now) w a sums c.requires.fits c.requires.sums))

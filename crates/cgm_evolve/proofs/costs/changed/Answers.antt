@@ -8,6 +8,6 @@ use Rattle.cgm_evolve.proofs.costs.changed.Goals as goal
 
 pub returns-then-is_empty-clause-few : goal.returns-then-is_empty-clause-few
 returns-then-is_empty-clause-few c =
-    let m = lists_of c.args.m.now in
-    ∥∥₁_elim c.args.m.now.well_formed (hlevel props)
-    (λ w. omega (arith, leaf_tasks_few m (is_changed m c.args.e.now.pairs c.args.a.now) w, c.changed_leaf_tasks.ensures))
+    let m = lists_of c.args.model.now in
+    ∥∥₁_elim c.args.model.now.well_formed (hlevel props)
+    (λ w. omega (arith, leaf_tasks_few m (is_changed m c.args.earlier.now.pairs c.args.assignment.now) w, c.changed_leaf_tasks.ensures))

@@ -20,7 +20,7 @@ AreSmall a sums = AreSmallIn (number_in a sums)
 
 pub holds-holds-requires : goal.holds-holds-requires
 holds-holds-requires t c =
-    let a = c.args.a.now in
+    let a = c.args.assignment.now in
     let sums = c.args.sums.now in (
       search (rules, the_lemmas),
       subst (AreSmall a sums) (sym c.get.ensures)
@@ -29,7 +29,7 @@ holds-holds-requires t c =
 
 pub holds-all_hold-requires : goal.holds-all_hold-requires
 holds-all_hold-requires t c =
-    let a = c.args.a.now in
+    let a = c.args.assignment.now in
     let sums = c.args.sums.now in (
       search (rules, the_lemmas),
       subst (All (AreSmall a sums)) (sym c.as_slice.ensures)
@@ -38,7 +38,7 @@ holds-all_hold-requires t c =
 
 pub holds-some_holds-requires : goal.holds-some_holds-requires
 holds-some_holds-requires t c =
-    let a = c.args.a.now in
+    let a = c.args.assignment.now in
     let sums = c.args.sums.now in (
       search (rules, the_lemmas),
       subst (All (AreSmall a sums)) (sym c.as_slice-in-Or.ensures)
@@ -47,7 +47,7 @@ holds-some_holds-requires t c =
 
 pub holds-holds-premise-requires : goal.holds-holds-premise-requires
 holds-holds-premise-requires t c =
-    let a = c.args.a.now in
+    let a = c.args.assignment.now in
     let sums = c.args.sums.now in (
       search (rules, the_lemmas),
       subst (AreSmall a sums) (sym c.get-in-Implies.ensures)
@@ -56,7 +56,7 @@ holds-holds-premise-requires t c =
 
 pub holds-holds-conclusion-requires : goal.holds-holds-conclusion-requires
 holds-holds-conclusion-requires t c =
-    let a = c.args.a.now in
+    let a = c.args.assignment.now in
     let sums = c.args.sums.now in (
       search (rules, the_lemmas),
       subst (AreSmall a sums) (sym c.get-in-Implies-2.ensures)
@@ -65,7 +65,7 @@ holds-holds-conclusion-requires t c =
 
 pub holds-holds-one-requires : goal.holds-holds-one-requires
 holds-holds-one-requires t c =
-    let a = c.args.a.now in
+    let a = c.args.assignment.now in
     let sums = c.args.sums.now in (
       search (rules, the_lemmas),
       subst (AreSmall a sums) (sym c.get-in-Iff.ensures)
@@ -74,7 +74,7 @@ holds-holds-one-requires t c =
 
 pub holds-holds-other-requires : goal.holds-holds-other-requires
 holds-holds-other-requires t c =
-    let a = c.args.a.now in
+    let a = c.args.assignment.now in
     let sums = c.args.sums.now in (
       search (rules, the_lemmas),
       subst (AreSmall a sums) (sym c.get-in-Iff-2.ensures)
@@ -83,32 +83,32 @@ holds-holds-other-requires t c =
 
 pub holds-value-requires : goal.holds-value-requires
 holds-value-requires t c =
-    let a = c.args.a.now in
+    let a = c.args.assignment.now in
     let sums = c.args.sums.now in
     of_at_most (Small a sums) c.in-AtMost.linear c.in-AtMost.k (subst (AreSmall a sums) c.in-AtMost.is c.requires)
 
 pub holds-value-requires-in-AtLeast : goal.holds-value-requires-in-AtLeast
 holds-value-requires-in-AtLeast t c =
-    let a = c.args.a.now in
+    let a = c.args.assignment.now in
     let sums = c.args.sums.now in
     of_at_least (Small a sums) c.in-AtLeast.linear c.in-AtLeast.k (subst (AreSmall a sums) c.in-AtLeast.is c.requires)
 
 pub holds-value-requires-in-Equal : goal.holds-value-requires-in-Equal
 holds-value-requires-in-Equal t c =
-    let a = c.args.a.now in
+    let a = c.args.assignment.now in
     let sums = c.args.sums.now in
     of_equality (Small a sums) c.in-Equal.linear c.in-Equal.k (subst (AreSmall a sums) c.in-Equal.is c.requires)
 
 pub holds-returns-in-And : goal.holds-returns-in-And
 holds-returns-in-And t c =
-    let names = name_in c.args.a.now in
-    let numbers = number_in c.args.a.now c.args.sums.now in
+    let names = name_in c.args.assignment.now in
+    let numbers = number_in c.args.assignment.now c.args.sums.now in
     c.all_hold.ensures ∙ ap (list_all (truth names numbers)) c.as_slice.ensures
     ∙ sym (truth-And names numbers c.in-And.parts) ∙ ap (truth names numbers) (sym c.in-And.is)
 
 pub holds-returns-in-Or : goal.holds-returns-in-Or
 holds-returns-in-Or t c =
-    let names = name_in c.args.a.now in
-    let numbers = number_in c.args.a.now c.args.sums.now in
+    let names = name_in c.args.assignment.now in
+    let numbers = number_in c.args.assignment.now c.args.sums.now in
     c.some_holds.ensures ∙ ap (list_any (truth names numbers)) c.as_slice-in-Or.ensures
     ∙ sym (truth-Or names numbers c.in-Or.parts) ∙ ap (truth names numbers) (sym c.in-Or.is)

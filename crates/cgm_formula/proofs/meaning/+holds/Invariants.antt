@@ -6,10 +6,10 @@ use Rattle.cgm_formula.proofs.meaning.+holds.Given as goal
 
 abbrev pub invariant-all_hold-loop-part : goal.invariant-all_hold-loop-part
 invariant-all_hold-loop-part l =
-    let says = truth (name_in l.a) (number_in l.a l.sums) in
+    let says = truth (name_in l.assignment) (number_in l.assignment l.sums) in
     list_all says (drop l.part-index l.parts) ≡ list_all says l.parts
 
 abbrev pub invariant-some_holds-loop-part : goal.invariant-some_holds-loop-part
 invariant-some_holds-loop-part l =
-    let says = truth (name_in l.a) (number_in l.a l.sums) in
+    let says = truth (name_in l.assignment) (number_in l.assignment l.sums) in
     list_any says (drop l.part-index l.parts) ≡ list_any says l.parts

@@ -7,5 +7,5 @@ use Rattle.cgm_formula.proofs.meaning.terms_value.Given as goal
 
 abbrev pub invariant-loop-term : goal.invariant-loop-term
 invariant-loop-term l =
-    (l.so_far +ℤ total (number_in l.a l.sums) (drop l.term-index l.terms) ≡ total (number_in l.a l.sums) l.terms)
-    × (unsigned_abs l.so_far + size (number_in l.a l.sums) (drop l.term-index l.terms) ≤ size (number_in l.a l.sums) l.terms)
+    (l.so_far +ℤ total (number_in l.assignment l.sums) (drop l.term-index l.terms) ≡ total (number_in l.assignment l.sums) l.terms)
+    × (unsigned_abs l.so_far + size (number_in l.assignment l.sums) (drop l.term-index l.terms) ≤ size (number_in l.assignment l.sums) l.terms)

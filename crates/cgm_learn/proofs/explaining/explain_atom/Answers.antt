@@ -28,6 +28,6 @@ returns-in-Clause-clause-led c =
     let work = c.args.work.now in
     let named = rw c.in-Clause.is at c.requires.named in
     rw c.in-Clause.is
-    (clause_gives work c.explain_clause.new.need (record { atoms = atoms_of c.in-Clause.atoms }) c.args.a (proper_of limits work c.requires.work_limits)
+    (clause_gives work c.explain_clause.new.need (record { atoms = atoms_of c.in-Clause.atoms }) c.args.atom (proper_of limits work c.requires.work_limits)
     (c.explain_clause.ensures.explained limits c.requires.need_limits).inside
     (subst (λ (n : ℕ). AreKnown n (atoms_of c.in-Clause.atoms)) (sym c.requires.work_limits.lower_count) named.1) c.requires.undecided.not_true c.explain_clause.ensures.left (rw c.in-Clause.is at c.requires.given))

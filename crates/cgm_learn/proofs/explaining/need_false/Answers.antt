@@ -11,7 +11,7 @@ pub returns-then-not-is_false-clause-explained : goal.returns-then-not-is_false-
 returns-then-not-is_false-clause-explained c = λ limits box. explained_same limits c.args.work.now c.args.need.now c.requires.inside box
 
 pub returns-in-None-clause-falsified : goal.returns-in-None-clause-falsified
-returns-in-None-clause-falsified c = λ e. absurd (not_both c.args.work.now c.args.a c.requires.proper c.in-None.ensures e)
+returns-in-None-clause-falsified c = λ e. absurd (not_both c.args.work.now c.args.atom c.requires.proper c.in-None.ensures e)
 
 pub returns-in-None-clause-explained : goal.returns-in-None-clause-explained
 returns-in-None-clause-explained c = λ limits box. explained_same limits c.args.work.now c.args.need.now c.requires.inside box
@@ -23,8 +23,8 @@ need_atom-requires-clause-known c =
 
 pub need_atom-requires-clause-met : goal.need_atom-requires-clause-met
 need_atom-requires-clause-met c =
-    ap (is_true_in c.args.work.now) c.in-Some.ensures.1 ∙ true_opposite c.args.work.now c.args.a (sym c.is_false.ensures ∙ c.if-not-is_false.false)
+    ap (is_true_in c.args.work.now) c.in-Some.ensures.1 ∙ true_opposite c.args.work.now c.args.atom (sym c.is_false.ensures ∙ c.if-not-is_false.false)
 
 pub returns-in-Some-clause-falsified : goal.returns-in-Some-clause-falsified
 returns-in-Some-clause-falsified c = λ e.
-    falsified_by c.args.work.now c.args.need.now c.need_atom.new.need c.args.a c.in-Some.opposite c.requires.proper c.requires.inside c.requires.known c.in-Some.ensures.1 c.need_atom.ensures.after
+    falsified_by c.args.work.now c.args.need.now c.need_atom.new.need c.args.atom c.in-Some.opposite c.requires.proper c.requires.inside c.requires.known c.in-Some.ensures.1 c.need_atom.ensures.after

@@ -6,4 +6,4 @@ pub returns-in_ok-push : goal.returns-in_ok-push
 returns-in_ok-push c =
     c.in_ok-push.ensures.items
     ∙ ap (λ xs. c.args.atoms.now.items ++ xs)
-    (ap (λ a. a ∷ []) c.below.ensures ∙ lower_when c.args.p.now.bounds c.args.rest.now c.args.v (sym c.is_raised.ensures ∙ c.if-is_raised.true))
+    (ap (λ a. a ∷ []) c.below.ensures ∙ lower_when c.args.problem.now.bounds c.args.rest.now c.args.variable (sym c.is_raised.ensures ∙ c.if-is_raised.true))

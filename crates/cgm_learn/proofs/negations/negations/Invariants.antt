@@ -2,4 +2,4 @@ use Rattle.cgm_learn.specs.Walking.{AreNegations}
 use Rattle.cgm_learn.proofs.negations.negations.Given as goal
 
 abbrev pub invariant-loop-v : goal.invariant-loop-v
-invariant-loop-v l = AreNegations l.p.bounds l.rest l.v l.atoms.items
+invariant-loop-v l = AreNegations l.problem.bounds l.rest l.v l.atoms.items

@@ -5,7 +5,7 @@ use Rattle.cgm_learn.proofs.places.go_back_within.Given as goal
 
 abbrev pub invariant-loop-place : goal.invariant-loop-place
 invariant-loop-place l = record {
-  place : IsPlaceOf l.t l.place;
+  place : IsPlaceOf l.trail l.place;
   earlier : l.place.at ≤ l.fn.place.at;
   inside : IsSmaller l.place.state l.rest;
 }

@@ -10,7 +10,7 @@ use Rattle.cgm_learn.proofs.rows.explain_claimed.Goals as goal
 
 pub slack_with-requires-clause-undecided : goal.slack_with-requires-clause-undecided
 slack_with-requires-clause-undecided c =
-    subst (λ (x : Atom). IsOpenIn c.args.work.now x) (sym c.opposite-negated.ensures.negation) (negation_open c.args.work.now c.args.a c.requires.undecided)
+    subst (λ (x : Atom). IsOpenIn c.args.work.now x) (sym c.opposite-negated.ensures.negation) (negation_open c.args.work.now c.args.atom c.requires.undecided)
 
 pub explain_terms-requires-clause-needed : goal.explain_terms-requires-clause-needed
 explain_terms-requires-clause-needed c =
@@ -18,7 +18,7 @@ explain_terms-requires-clause-needed c =
 
 pub explain_terms-requires-clause-undecided : goal.explain_terms-requires-clause-undecided
 explain_terms-requires-clause-undecided c =
-    subst (λ (x : Atom). IsOpenIn c.args.work.now x) (sym c.opposite-negated.ensures.negation) (negation_open c.args.work.now c.args.a c.requires.undecided)
+    subst (λ (x : Atom). IsOpenIn c.args.work.now x) (sym c.opposite-negated.ensures.negation) (negation_open c.args.work.now c.args.atom c.requires.undecided)
 
 pub returns-in-Some-clause-led : goal.returns-in-Some-clause-led
 returns-in-Some-clause-led c =
@@ -29,7 +29,7 @@ returns-in-Some-clause-led c =
     let o = c.opposite-negated.result in
     let inside = (between work c.args.need.now mid c.requires.needed.proper c.requires.needed.inside c.explain_guard.ensures.explained).inside in
     let both = between work mid new c.requires.needed.proper inside c.explain_terms.ensures.explained in
-    row_atom_still work mid new r c.args.a o (greatest_activity (made_true work o) r.terms) c.in-Some.slack c.requires.needed.proper both.inside c.requires.row.terms c.requires.undecided.known c.opposite-negated.ensures.negation refl
+    row_atom_still work mid new r c.args.atom o (greatest_activity (made_true work o) r.terms) c.in-Some.slack c.requires.needed.proper both.inside c.requires.row.terms c.requires.undecided.known c.opposite-negated.ensures.negation refl
     (rw c.in-Some.is at c.in_ok-slack_with.ensures) c.explain_guard.ensures.claimed both.more (rw c.as_slice.ensures at c.explain_terms.ensures.sum)
 
 pub returns-in-Some-clause-explained : goal.returns-in-Some-clause-explained

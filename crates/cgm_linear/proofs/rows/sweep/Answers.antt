@@ -7,8 +7,8 @@ use Rattle.cgm_linear.proofs.rows.sweep.Goals as goal
 
 pub returns-clause-answer : goal.returns-clause-answer
 returns-clause-answer c =
-    let b = box_of c.args.t.now in
-    let r = c.args.r.now in
+    let b = box_of c.args.trail.now in
+    let r = c.args.row.now in
     let most = c.greatest_activity-most.result in
     let sum : most ≡ greatest_activity b r.terms = rw (c.state.ensures.state, c.as_slice.ensures) at c.greatest_activity-most.ensures.value in
     let limit = c.requires.row.least_limit in

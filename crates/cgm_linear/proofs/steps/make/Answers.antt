@@ -5,4 +5,4 @@ use Rattle.cgm_linear.proofs.steps.make.Goals as goal
 
 pub returns-clause-answer : goal.returns-clause-answer
 returns-clause-answer c =
-    ap box_of c.in_ok-step.ensures.trail ∙ box_tightened c.args.t.now c.args.a c.args.by
+    ap box_of c.in_ok-step.ensures.trail ∙ box_tightened c.args.trail.now c.args.atom c.args.by

@@ -18,28 +18,28 @@ lacks_memory m s (Err stop) h allowed = subst (IsNotAdded m s) (sym h) allowed
 
 pub push-requires-clause-allowed : goal.push-requires-clause-allowed
 push-requires-clause-allowed c =
-    let e : refusal c.args.m.now c.args.s c.stays_acyclic-acyclic.result ≡ None = sym c.refusal.ensures ∙ c.in-None.is in
-    IsAllowed-passed c.args.m.now c.args.s c.stays_acyclic-acyclic.result c.stays_acyclic-acyclic.ensures.answer e
+    let e : refusal c.args.lists.now c.args.statement c.stays_acyclic-acyclic.result ≡ None = sym c.refusal.ensures ∙ c.in-None.is in
+    IsAllowed-passed c.args.lists.now c.args.statement c.stays_acyclic-acyclic.result c.stays_acyclic-acyclic.ensures.answer e
 
 pub returns-in-Some-clause-refused : goal.returns-in-Some-clause-refused
 returns-in-Some-clause-refused c =
-    let e : refusal c.args.m.now c.args.s c.stays_acyclic-acyclic.result ≡ Some c.in-Some.stop = sym c.refusal.ensures ∙ c.in-Some.is in
-    IsNotAdded-refused c.args.m.now c.args.s c.stays_acyclic-acyclic.result c.in-Some.stop c.stays_acyclic-acyclic.ensures.answer e
+    let e : refusal c.args.lists.now c.args.statement c.stays_acyclic-acyclic.result ≡ Some c.in-Some.stop = sym c.refusal.ensures ∙ c.in-Some.is in
+    IsNotAdded-refused c.args.lists.now c.args.statement c.stays_acyclic-acyclic.result c.in-Some.stop c.stays_acyclic-acyclic.ensures.answer e
 
 pub returns-in-None-clause-allowed : goal.returns-in-None-clause-allowed
 returns-in-None-clause-allowed c =
-    let e : refusal c.args.m.now c.args.s c.stays_acyclic-acyclic.result ≡ None = sym c.refusal.ensures ∙ c.in-None.is in
-    let allowed = IsAllowed-passed c.args.m.now c.args.s c.stays_acyclic-acyclic.result c.stays_acyclic-acyclic.ensures.answer e in
-    any_result (IsAllowed c.args.m.now c.args.s) c.push.result allowed
+    let e : refusal c.args.lists.now c.args.statement c.stays_acyclic-acyclic.result ≡ None = sym c.refusal.ensures ∙ c.in-None.is in
+    let allowed = IsAllowed-passed c.args.lists.now c.args.statement c.stays_acyclic-acyclic.result c.stays_acyclic-acyclic.ensures.answer e in
+    any_result (IsAllowed c.args.lists.now c.args.statement) c.push.result allowed
 
 pub returns-in-None-clause-refused : goal.returns-in-None-clause-refused
 returns-in-None-clause-refused c =
-    let e : refusal c.args.m.now c.args.s c.stays_acyclic-acyclic.result ≡ None = sym c.refusal.ensures ∙ c.in-None.is in
-    let allowed = IsAllowed-passed c.args.m.now c.args.s c.stays_acyclic-acyclic.result c.stays_acyclic-acyclic.ensures.answer e in
-    lacks_memory c.args.m.now c.args.s c.push.result c.push.ensures.memory allowed
+    let e : refusal c.args.lists.now c.args.statement c.stays_acyclic-acyclic.result ≡ None = sym c.refusal.ensures ∙ c.in-None.is in
+    let allowed = IsAllowed-passed c.args.lists.now c.args.statement c.stays_acyclic-acyclic.result c.stays_acyclic-acyclic.ensures.answer e in
+    lacks_memory c.args.lists.now c.args.statement c.push.result c.push.ensures.memory allowed
 
 pub returns-in-None-clause-known : goal.returns-in-None-clause-known
 returns-in-None-clause-known c =
-    let e : refusal c.args.m.now c.args.s c.stays_acyclic-acyclic.result ≡ None = sym c.refusal.ensures ∙ c.in-None.is in
-    let allowed = IsAllowed-passed c.args.m.now c.args.s c.stays_acyclic-acyclic.result c.stays_acyclic-acyclic.ensures.answer e in
-    IsWellFormed-after (is_ok c.push.result) c.args.m.now c.args.s c.push.new.m c.push.ensures.lists c.requires.well_formed c.requires.proper allowed
+    let e : refusal c.args.lists.now c.args.statement c.stays_acyclic-acyclic.result ≡ None = sym c.refusal.ensures ∙ c.in-None.is in
+    let allowed = IsAllowed-passed c.args.lists.now c.args.statement c.stays_acyclic-acyclic.result c.stays_acyclic-acyclic.ensures.answer e in
+    IsWellFormed-after (is_ok c.push.result) c.args.lists.now c.args.statement c.push.new.lists c.push.ensures.lists c.requires.well_formed c.requires.proper allowed

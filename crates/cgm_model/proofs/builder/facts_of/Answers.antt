@@ -9,7 +9,7 @@ use Rattle.cgm_model.proofs.builder.facts_of.Goals as goal
 
 pub of-requires-clause-known : goal.of-requires-clause-known
 of-requires-clause-known c = λ k d l.
-    let m = c.args.m.now in
+    let m = c.args.lists.now in
     let each = subst (λ (rs : List Refinement). All (IsRefinement m) rs) (sym c.as_slice.ensures) c.requires.well_formed.refinements in
     let own : IsRefinement m (get_or c.as_slice.result.now k d) = each k d l in
     let room = c.requires.aids.room.graph in

@@ -10,16 +10,16 @@ use Rattle.cgm_model.proofs.Fresh.{fresh_element}
 use Rattle.cgm_model.proofs.builder.push_element.Goals as goal
 
 pub returns-in_err-make_room-clause-aids : goal.returns-in_err-make_room-clause-aids
-returns-in_err-make_room-clause-aids c = c.make_room.ensures.kept c.args.m.now c.requires.aids
+returns-in_err-make_room-clause-aids c = c.make_room.ensures.kept c.args.lists.now c.requires.aids
 
 pub returns-in_err-declare-clause-aids : goal.returns-in_err-declare-clause-aids
 returns-in_err-declare-clause-aids c =
-    AreFor-names c.args.m.now c.make_room.new.aids c.declare.new.names c.in_err-declare.ensures.others (c.make_room.ensures.kept c.args.m.now c.requires.aids)
+    AreFor-names c.args.lists.now c.make_room.new.aids c.declare.new.names c.in_err-declare.ensures.others (c.make_room.ensures.kept c.args.lists.now c.requires.aids)
 
 pub returns-clause-aids : goal.returns-clause-aids
 returns-clause-aids c =
-    let m = c.args.m.now in
-    let e = c.args.e in
+    let m = c.args.lists.now in
+    let e = c.args.element in
     let old : Aids = c.make_room.new.aids in
     let new : Aids = record old { names = c.declare.new.names } in
     let h : AreFor m old = c.make_room.ensures.kept m c.requires.aids in

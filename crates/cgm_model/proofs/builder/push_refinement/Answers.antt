@@ -12,18 +12,18 @@ use Rattle.cgm_model.proofs.builder.push_refinement.Goals as goal
 
 pub returns-in_err-map_err-clause-aids : goal.returns-in_err-map_err-clause-aids
 returns-in_err-map_err-clause-aids c =
-    AreFor-graph c.args.m.now c.args.aids.now c.link.new.graph c.link.ensures.kept c.link.ensures.room c.requires.aids
+    AreFor-graph c.args.lists.now c.args.aids.now c.link.new.graph c.link.ensures.kept c.link.ensures.room c.requires.aids
 
 pub returns-in_err-declare-clause-aids : goal.returns-in_err-declare-clause-aids
 returns-in_err-declare-clause-aids c =
     let linked : Aids = record c.args.aids.now { graph = c.link.new.graph } in
-    let h = AreFor-graph c.args.m.now c.args.aids.now c.link.new.graph c.link.ensures.kept c.link.ensures.room c.requires.aids in
-    AreFor-names c.args.m.now linked c.declare.new.names c.in_err-declare.ensures.others h
+    let h = AreFor-graph c.args.lists.now c.args.aids.now c.link.new.graph c.link.ensures.kept c.link.ensures.room c.requires.aids in
+    AreFor-names c.args.lists.now linked c.declare.new.names c.in_err-declare.ensures.others h
 
 pub returns-clause-aids : goal.returns-clause-aids
 returns-clause-aids c =
-    let m = c.args.m.now in
-    let r = c.args.r in
+    let m = c.args.lists.now in
+    let r = c.args.refinement in
     let old : Aids = c.args.aids.now in
     let linked : Aids = record old { graph = c.link.new.graph } in
     let new : Aids = record linked { names = c.declare.new.names } in

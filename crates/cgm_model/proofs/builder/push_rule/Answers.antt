@@ -11,8 +11,8 @@ use Rattle.cgm_model.proofs.builder.push_rule.Goals as goal
 
 pub returns-clause-aids : goal.returns-clause-aids
 returns-clause-aids c =
-    let m = c.args.m.now in
-    let r = c.args.r in
+    let m = c.args.lists.now in
+    let r = c.args.rule in
     let old : Aids = c.args.aids.now in
     let left = c.unwrap_or-left.result in
     let rules : c.push.new.self ≡ m.rules ++ r ∷ [] = c.push.ensures.items ∙ ap (λ b. cond b (m.rules ++ r ∷ []) m.rules) (sym c.in_ok-map_err.ensures.variant) in

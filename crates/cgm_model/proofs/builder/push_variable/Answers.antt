@@ -11,12 +11,12 @@ use Rattle.cgm_model.proofs.builder.push_variable.Goals as goal
 
 pub returns-in_err-declare-clause-aids : goal.returns-in_err-declare-clause-aids
 returns-in_err-declare-clause-aids c =
-    AreFor-names c.args.m.now c.args.aids.now c.declare.new.names c.in_err-declare.ensures.others c.requires.aids
+    AreFor-names c.args.lists.now c.args.aids.now c.declare.new.names c.in_err-declare.ensures.others c.requires.aids
 
 pub returns-clause-aids : goal.returns-clause-aids
 returns-clause-aids c =
-    let m = c.args.m.now in
-    let v = c.args.v in
+    let m = c.args.lists.now in
+    let v = c.args.variable in
     let old : Aids = c.args.aids.now in
     let new : Aids = record old { names = c.declare.new.names } in
     let S : List ℕ → ℕ → Type 0 = λ n k. (q : List ℕ) → found c.declare.new.names q ≡ cond (bytes_eq q n) (Some (things.Var k)) (found old.names q) in

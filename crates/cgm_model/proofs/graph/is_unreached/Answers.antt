@@ -13,7 +13,7 @@ mark_each-count-requires-clause-search c =
 pub returns : goal.returns
 returns c =
     let refinements = c.args.refinements.now in
-    let r = c.args.r.now in
+    let r = c.args.refinement.now in
     let marks = c.fill.new.marks in
     let reached = get_or marks r.target false in
     let begun = state c.unmark_all.new.marks c.args.queue.now 0 in

@@ -10,7 +10,7 @@ pub returns-clause-kept : goal.returns-clause-kept
 returns-clause-kept c = λ rs h.
     let old = c.args.graph.now in
     let xs = old.by_target.items in
-    let t = c.args.r.now.target in
+    let t = c.args.refinement.now.target in
     let new : Graph = record { by_target = with_item old.by_target t c.push.new.self; is_source = c.flag_each.new.flags; queue = old.queue; marks = old.marks } in
     let within : t < length xs = omega (arith, c.requires.known.target, h.targets) in
     let is : c.push.new.self ≡ get_or xs t [] ++ c.args.number ∷ [] = c.in_ok-push.ensures.ok ∙ ap (λ (ys : List ℕ). ys ++ c.args.number ∷ []) (get_or_read xs t c.index_mut.result.now within c.index_mut.ensures.value []) in
@@ -22,7 +22,7 @@ pub returns-clause-linked : goal.returns-clause-linked
 returns-clause-linked c = λ rs same h.
     let old = c.args.graph.now in
     let xs = old.by_target.items in
-    let r = c.args.r.now in
+    let r = c.args.refinement.now in
     let new : Graph = record { by_target = with_item old.by_target r.target c.push.new.self; is_source = c.flag_each.new.flags; queue = old.queue; marks = old.marks } in
     let within : r.target < length xs = omega (arith, c.requires.known.target, h.targets) in
     let is : c.push.new.self ≡ get_or xs r.target [] ++ c.args.number ∷ [] = c.in_ok-push.ensures.ok ∙ ap (λ (ys : List ℕ). ys ++ c.args.number ∷ []) (get_or_read xs r.target c.index_mut.result.now within c.index_mut.ensures.value []) in

@@ -6,4 +6,4 @@ use Rattle.cgm_model.proofs.names.is_new.Goals as goal
 pub returns : goal.returns
 returns c =
     not_swap (is_some c.find.result) c.is_none.result c.is_none.ensures
-    ∙ (ap (λ x. not (is_some x)) c.find.ensures ∙ not_some-thing_named c.args.m.now c.args.name.now)
+    ∙ (ap (λ x. not (is_some x)) c.find.ensures ∙ not_some-thing_named c.args.lists.now c.args.name.now)

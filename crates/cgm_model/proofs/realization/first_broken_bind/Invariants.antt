@@ -5,4 +5,4 @@ use Rattle.cgm_model.proofs.Places.{Settles}
 use Rattle.cgm_model.proofs.realization.first_broken_bind.Given as goal
 
 abbrev pub invariant-loop-number : goal.invariant-loop-number
-invariant-loop-number l = Settles (KeepsBind (lists_of l.m) l.a) l.m.binds (drop l.number l.m.binds) l.number
+invariant-loop-number l = Settles (KeepsBind (lists_of l.model) l.assignment) l.model.binds (drop l.number l.model.binds) l.number

@@ -5,4 +5,4 @@ use Rattle.cgm_model.proofs.Places.{Settles}
 use Rattle.cgm_model.proofs.realization.first_broken_element.Given as goal
 
 abbrev pub invariant-loop-number : goal.invariant-loop-number
-invariant-loop-number l = Settles (KeepsElement (lists_of l.m) l.a) l.m.elements (drop l.number l.m.elements) l.number
+invariant-loop-number l = Settles (KeepsElement (lists_of l.model) l.assignment) l.model.elements (drop l.number l.model.elements) l.number

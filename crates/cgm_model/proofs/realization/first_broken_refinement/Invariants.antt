@@ -4,4 +4,4 @@ use Rattle.cgm_model.proofs.Places.{Settles}
 use Rattle.cgm_model.proofs.realization.first_broken_refinement.Given as goal
 
 abbrev pub invariant-loop-number : goal.invariant-loop-number
-invariant-loop-number l = Settles (KeepsRefinement l.a) l.m.refinements (drop l.number l.m.refinements) l.number
+invariant-loop-number l = Settles (KeepsRefinement l.assignment) l.model.refinements (drop l.number l.model.refinements) l.number

@@ -11,19 +11,19 @@ use Rattle.cgm_model.proofs.realization.first_broken_rule.Goals as goal
 
 pub keeps_rule-requires : goal.keeps_rule-requires
 keeps_rule-requires c =
-    let small = c.rules-rule-items.ensures.small c.args.a.now c.args.sums.now c.requires.fits c.requires.sums in
-    subst (λ (r : Rule). AreSmallIn (number_in c.args.a.now c.args.sums.now) (formula_of r)) (sym c.rule-item.is) (small c.loop-number.number c.rule-item.result c.loop-number-test.true)
+    let small = c.rules-rule-items.ensures.small c.args.assignment.now c.args.sums.now c.requires.fits c.requires.sums in
+    subst (λ (r : Rule). AreSmallIn (number_in c.args.assignment.now c.args.sums.now) (formula_of r)) (sym c.rule-item.is) (small c.loop-number.number c.rule-item.result c.loop-number-test.true)
 
 pub returns-then-not-keeps_rule : goal.returns-then-not-keeps_rule
 returns-then-not-keeps_rule c =
-    let a = c.args.a.now in
+    let a = c.args.assignment.now in
     let sums = c.args.sums.now in
     let i = c.loop-number.number in
-    first_from_settled (KeepsRule a sums) c.args.m.now.rules c.rules-rule-items.result.now i c.rule-item.result c.rules-rule-items.ensures.items c.loop-number-test.true c.rule-item.is (λ h. iff_false c.keeps_rule.ensures c.if-not-keeps_rule.true (keeps_anywhere a sums i 0 c.rule-item.result h)) c.loop-number.invariant
+    first_from_settled (KeepsRule a sums) c.args.model.now.rules c.rules-rule-items.result.now i c.rule-item.result c.rules-rule-items.ensures.items c.loop-number-test.true c.rule-item.is (λ h. iff_false c.keeps_rule.ensures c.if-not-keeps_rule.true (keeps_anywhere a sums i 0 c.rule-item.result h)) c.loop-number.invariant
 
 pub loop-number-preserved : goal.loop-number-preserved
 loop-number-preserved c =
-    let a = c.args.a.now in
+    let a = c.args.assignment.now in
     let sums = c.args.sums.now in
     let i = c.loop-number.number in
-    Settles-more (KeepsRule a sums) c.args.m.now.rules c.rules-rule-items.result.now i c.rule-item.result c.rules-rule-items.ensures.items c.loop-number-test.true c.rule-item.is (keeps_anywhere a sums 0 i c.rule-item.result (c.keeps_rule.ensures.0 c.if-not-keeps_rule.false)) c.loop-number.invariant
+    Settles-more (KeepsRule a sums) c.args.model.now.rules c.rules-rule-items.result.now i c.rule-item.result c.rules-rule-items.ensures.items c.loop-number-test.true c.rule-item.is (keeps_anywhere a sums 0 i c.rule-item.result (c.keeps_rule.ensures.0 c.if-not-keeps_rule.false)) c.loop-number.invariant

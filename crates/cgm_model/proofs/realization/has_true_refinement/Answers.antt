@@ -10,8 +10,8 @@ pub returns : goal.returns
 returns c = (
   λ e. absurd (false≢true e),
   λ w.
-      ∥∥₁_elim c.args.m.now.known (hlevel props)
+      ∥∥₁_elim c.args.model.now.known (hlevel props)
       (λ facts.
-      let none = none_is_true (lists_of c.args.m.now) c.args.a.now c.args.element c.args.m.now.facts.by_target.items c.by_target-number-items.result.now facts.covered c.by_target-number-items.ensures in
+      let none = none_is_true (lists_of c.args.model.now) c.args.assignment.now c.args.element c.args.model.now.facts.by_target.items c.by_target-number-items.result.now facts.covered c.by_target-number-items.ensures in
       absurd (none (λ k l. c.loop-number.invariant k (omega arith)) w)),
 )

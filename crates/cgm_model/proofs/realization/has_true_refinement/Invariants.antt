@@ -6,4 +6,4 @@ use Rattle.cgm_model.proofs.realization.has_true_refinement.Given as goal
 
 abbrev pub invariant-loop-number : goal.invariant-loop-number
 invariant-loop-number l =
-    (k : ℕ) → k < l.number-index → (d : ℕ) → ¬ (Refines (lists_of l.m) (get_or l.number-items k d) l.element × RefinementIsTrue l.a (get_or l.number-items k d))
+    (k : ℕ) → k < l.number-index → (d : ℕ) → ¬ (Refines (lists_of l.model) (get_or l.number-items k d) l.element × RefinementIsTrue l.assignment (get_or l.number-items k d))

@@ -11,5 +11,5 @@ use Rattle.cgm_model.proofs.realization.rules.Goals as goal
 
 pub returns-clause-small : goal.returns-clause-small
 returns-clause-small c =
-    ∥∥₁_elim c.args.m.now.well_formed (hlevel props)
-    (λ w a sums fits none. subst (λ (rs : List Rule). All (λ r. AreSmallIn (number_in a sums) (formula_of r)) rs) (sym c.as_slice.ensures) (rules_small (lists_of c.args.m.now) w a sums fits none))
+    ∥∥₁_elim c.args.model.now.well_formed (hlevel props)
+    (λ w a sums fits none. subst (λ (rs : List Rule). All (λ r. AreSmallIn (number_in a sums) (formula_of r)) rs) (sym c.as_slice.ensures) (rules_small (lists_of c.args.model.now) w a sums fits none))

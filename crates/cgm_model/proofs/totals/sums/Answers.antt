@@ -9,8 +9,8 @@ use Rattle.cgm_model.proofs.totals.sums.Goals as goal
 
 pub loop-v-preserved : goal.loop-v-preserved
 loop-v-preserved c =
-    let m = lists_of c.args.m.now in
-    let a = c.args.a.now in
+    let m = lists_of c.args.model.now in
+    let a = c.args.assignment.now in
     let items = c.values-v-items.result.now in
     let i = c.loop-v.v-index in
     let none : SumValue = record { sum = 0; of = Element 0; k = pos 0 } in
@@ -26,6 +26,6 @@ loop-v-preserved c =
 
 pub returns : goal.returns
 returns c =
-    let m = lists_of c.args.m.now in
+    let m = lists_of c.args.model.now in
     let long = ap length c.values-v-items.ensures.items in
-    totals_done m c.args.a.now c.loop-v.totals.items c.loop-v.v-index (omega (arith, long, c.loop-v-test.false)) c.loop-v.invariant.0 c.loop-v.invariant.1
+    totals_done m c.args.assignment.now c.loop-v.totals.items c.loop-v.v-index (omega (arith, long, c.loop-v-test.false)) c.loop-v.invariant.0 c.loop-v.invariant.1

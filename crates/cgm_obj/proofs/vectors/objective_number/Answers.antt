@@ -9,9 +9,9 @@ use Rattle.cgm_obj.proofs.vectors.objective_number.Goals as goal
 
 pub negated-requires : goal.negated-requires
 negated-requires c =
-    let m = lists_of c.args.m.now in
-    ∥∥₁_elim c.args.m.now.well_formed (hlevel props)
+    let m = lists_of c.args.model.now in
+    ∥∥₁_elim c.args.model.now.well_formed (hlevel props)
     (λ w.
-    let small = quantity_size m w c.args.e.now.pairs c.args.a.now c.requires.fits c.args.o.of in
+    let small = quantity_size m w c.args.earlier.now.pairs c.args.assignment.now c.requires.fits c.args.objective.of in
     let here : unsigned_abs c.quantity-number.result ≤ 1000000000000 = subst (λ (x : ℤ). unsigned_abs x ≤ 1000000000000) (sym c.quantity-number.ensures) small in
     omega (arith, ints, here))

@@ -9,4 +9,4 @@ pub returns : goal.returns
 unfolding vector_of
 returns c =
     let all = take_all c.loop-o.o-index c.as_slice-o-items.result.now c.loop-o-test.false ∙ c.as_slice-o-items.ensures in
-    c.loop-o.invariant ∙ ap (λ (os : List Objective). map (objective_number (lists_of c.args.m.now) c.args.e.now.pairs c.args.a.now) os) all
+    c.loop-o.invariant ∙ ap (λ (os : List Objective). map (objective_number (lists_of c.args.model.now) c.args.earlier.now.pairs c.args.assignment.now) os) all

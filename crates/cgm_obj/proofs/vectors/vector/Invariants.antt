@@ -4,4 +4,4 @@ use Rattle.cgm_obj.specs.Vector.{objective_number}
 use Rattle.cgm_obj.proofs.vectors.vector.Given as goal
 
 abbrev pub invariant-loop-o : goal.invariant-loop-o
-invariant-loop-o l = l.numbers.items ≡ map (objective_number (lists_of l.m) l.e.pairs l.a) (take l.o-index l.o-items)
+invariant-loop-o l = l.numbers.items ≡ map (objective_number (lists_of l.model) l.earlier.pairs l.assignment) (take l.o-index l.o-items)

@@ -5,5 +5,5 @@ use Rattle.cgm_obj.proofs.weights.total.Given as goal
 
 abbrev pub invariant-loop-line : goal.invariant-loop-line
 invariant-loop-line l =
-    (l.total +ℤ total_by (weight_for l.a) (drop l.line-index l.lines) ≡ total_by (weight_for l.a) l.lines)
+    (l.total +ℤ total_by (weight_for l.assignment) (drop l.line-index l.lines) ≡ total_by (weight_for l.assignment) l.lines)
     × (unsigned_abs l.total ≤ l.line-index * 1000000)

@@ -8,5 +8,5 @@ use Rattle.cgm_print.proofs.formula_printer.+formula.Given as goal
 
 abbrev pub invariant-each-loop-part : goal.invariant-each-loop-part
 invariant-each-loop-part l =
-    (after : List Lexeme) → followed l.p (spelled_each (formulas_of (map (written_formula (lists_of l.m)) (drop l.part-index l.parts))) after)
-    ≡ followed l.initial.p (spelled_each (formulas_of (map (written_formula (lists_of l.m)) l.parts)) after)
+    (after : List Lexeme) → followed l.printer (spelled_each (formulas_of (map (written_formula (lists_of l.model)) (drop l.part-index l.parts))) after)
+    ≡ followed l.initial.printer (spelled_each (formulas_of (map (written_formula (lists_of l.model)) l.parts)) after)

@@ -10,13 +10,13 @@ use Rattle.cgm_print.proofs.formula_printer.comparison.Goals as goal
 
 pub returns : goal.returns
 returns c =
-    let m = lists_of c.args.m.now in
+    let m = lists_of c.args.model.now in
     let w = written_linear m c.args.total.now.terms in
     let how = comparison_word c.args.how in
     let k = c.args.k in
-    let a = c.args.p.now in
+    let a = c.args.printer.now in
     let b = c.open_with.new.self in
-    let d = c.linear.new.p in
+    let d = c.linear.new.printer in
     let e = c.number.new.self in
     let opened : Writes a b (λ after. opening ∷ word how ∷ after) =
     subst (λ (x : List ℕ). Writes a b (λ after. opening ∷ word x ∷ after)) c.word-first.ensures c.in_ok-open_with.ensures in

@@ -8,18 +8,18 @@ use Rattle.cgm_print.proofs.formula_printer.linear.Goals as goal
 
 pub returns-in-len1 : goal.returns-in-len1
 returns-in-len1 c =
-    let m = lists_of c.args.m.now in
+    let m = lists_of c.args.model.now in
     let ts = c.args.linear.now in
-    alike c.terms.result c.args.p.now c.terms.new.p (spelled_terms (map (written_term m) ts)) (spelled_linear (written_linear m ts))
+    alike c.terms.result c.args.printer.now c.terms.new.printer (spelled_terms (map (written_term m) ts)) (spelled_linear (written_linear m ts))
     (λ after. one_term m ts after c.in-len1.len_at_least c.in-len1.len_below) c.terms.ensures
 
 pub returns-in_ok-terms-in-len2-up : goal.returns-in_ok-terms-in-len2-up
 returns-in_ok-terms-in-len2-up c =
-    let m = lists_of c.args.m.now in
+    let m = lists_of c.args.model.now in
     let ts = c.args.linear.now in
-    let a = c.args.p.now in
+    let a = c.args.printer.now in
     let b = c.open_with.new.self in
-    let d = c.terms-in-len2-up.new.p in
+    let d = c.terms-in-len2-up.new.printer in
     let first = then_ a b d (λ after. opening ∷ word (codes "+") ∷ after) (spelled_terms (map (written_term m) ts)) c.in_ok-open_with-in-len2-up.ensures c.in_ok-terms-in-len2-up.ensures in
     finish c.close.result a d c.close.new.self (λ after. opening ∷ word (codes "+") ∷ spelled_terms (map (written_term m) ts) after) (λ after. closing ∷ after) (spelled_linear (written_linear m ts))
     (λ after. many_terms m ts after c.in-len2-up.len_at_least) first c.close.ensures

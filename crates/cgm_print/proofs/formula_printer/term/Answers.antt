@@ -10,20 +10,20 @@ use Rattle.cgm_print.proofs.formula_printer.term.Goals as goal
 
 pub returns-then-term-eq1 : goal.returns-then-term-eq1
 returns-then-term-eq1 c =
-    let m = lists_of c.args.m.now in
+    let m = lists_of c.args.model.now in
     let t = c.args.term in
     let x = c.number_name-name.result.now in
     let one : c.args.term.0 ≡ pos 1 = omega (arith, ints) in
-    alike c.word.result c.args.p.now c.word.new.self (λ after. word x ∷ after) (spelled_term (written_term m t))
+    alike c.word.result c.args.printer.now c.word.new.self (λ after. word x ∷ after) (spelled_term (written_term m t))
     (λ after. plain_printed m t x after c.number_name-name.ensures one) c.word.ensures
 
 pub returns : goal.returns
 returns c =
-    let m = lists_of c.args.m.now in
+    let m = lists_of c.args.model.now in
     let t = c.args.term in
     let x = c.number_name-name.result.now in
     let other : c.args.term.0 ≢ pos 1 = λ same. absurd (omega (arith, ints, same)) in
-    let a = c.args.p.now in
+    let a = c.args.printer.now in
     let b = c.open_with.new.self in
     let d = c.number.new.self in
     let e = c.word-2.new.self in

@@ -8,5 +8,5 @@ use Rattle.cgm_print.proofs.formula_printer.terms.Given as goal
 
 abbrev pub invariant-loop-one : goal.invariant-loop-one
 invariant-loop-one l =
-    (after : List Lexeme) → followed l.p (spelled_terms (map (written_term (lists_of l.m)) (drop l.one-index l.terms)) after)
-    ≡ followed l.initial.p (spelled_terms (map (written_term (lists_of l.m)) l.terms) after)
+    (after : List Lexeme) → followed l.printer (spelled_terms (map (written_term (lists_of l.model)) (drop l.one-index l.terms)) after)
+    ≡ followed l.initial.printer (spelled_terms (map (written_term (lists_of l.model)) l.terms) after)

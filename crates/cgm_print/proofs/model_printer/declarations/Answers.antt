@@ -11,9 +11,9 @@ use Rattle.cgm_print.proofs.model_printer.declarations.Goals as goal
 
 pub returns : goal.returns
 returns c =
-    let m = lists_of c.args.m.now in
-    four_groups m (map (λ (x : Element). statements.Element x) m.elements) (map (λ (x : Refinement). statements.Refine x) m.refinements) (map (λ (x : Variable). statements.Variable x) m.vars) (map (λ (x : Sum). statements.Sum x) m.sums) c.args.p.now.text.items c.elements.new.p.text.items c.refinements.new.p.text.items c.variables.new.p.text.items c.sums.new.p.text.items
-    (c.in_ok-elements.ensures ∙ ap (λ (xs : List Element). c.args.p.now.text.items ++ statement_lines m (map (λ (x : Element). statements.Element x) xs)) c.as_slice.ensures)
-    (c.in_ok-refinements.ensures ∙ ap (λ (xs : List Refinement). c.elements.new.p.text.items ++ statement_lines m (map (λ (x : Refinement). statements.Refine x) xs)) c.as_slice-2.ensures)
-    (c.in_ok-variables.ensures ∙ ap (λ (xs : List Variable). c.refinements.new.p.text.items ++ statement_lines m (map (λ (x : Variable). statements.Variable x) xs)) c.as_slice-3.ensures)
-    (c.in_ok-sums.ensures ∙ ap (λ (xs : List Sum). c.variables.new.p.text.items ++ statement_lines m (map (λ (x : Sum). statements.Sum x) xs)) c.as_slice-4.ensures)
+    let m = lists_of c.args.model.now in
+    four_groups m (map (λ (x : Element). statements.Element x) m.elements) (map (λ (x : Refinement). statements.Refine x) m.refinements) (map (λ (x : Variable). statements.Variable x) m.vars) (map (λ (x : Sum). statements.Sum x) m.sums) c.args.printer.now.text.items c.elements.new.printer.text.items c.refinements.new.printer.text.items c.variables.new.printer.text.items c.sums.new.printer.text.items
+    (c.in_ok-elements.ensures ∙ ap (λ (xs : List Element). c.args.printer.now.text.items ++ statement_lines m (map (λ (x : Element). statements.Element x) xs)) c.as_slice.ensures)
+    (c.in_ok-refinements.ensures ∙ ap (λ (xs : List Refinement). c.elements.new.printer.text.items ++ statement_lines m (map (λ (x : Refinement). statements.Refine x) xs)) c.as_slice-2.ensures)
+    (c.in_ok-variables.ensures ∙ ap (λ (xs : List Variable). c.refinements.new.printer.text.items ++ statement_lines m (map (λ (x : Variable). statements.Variable x) xs)) c.as_slice-3.ensures)
+    (c.in_ok-sums.ensures ∙ ap (λ (xs : List Sum). c.variables.new.printer.text.items ++ statement_lines m (map (λ (x : Sum). statements.Sum x) xs)) c.as_slice-4.ensures)

@@ -9,15 +9,15 @@ use Rattle.cgm_print.proofs.model_printer.elements.Goals as goal
 
 pub loop-one-preserved : goal.loop-one-preserved
 loop-one-preserved c =
-    let m = lists_of c.args.m.now in
+    let m = lists_of c.args.model.now in
     let xs = c.args.all.now in
     line_more m (λ (x : Element). statements.Element x) xs c.loop-one.one-index c.one-item.result c.loop-one-test.true c.one-item.is
-    (c.args.p.now.text.items ++ statement_lines m (map (λ (x : Element). statements.Element x) xs)) c.loop-one.p.text.items (followed c.element.new.p []) c.end_line.new.self.text.items
+    (c.args.printer.now.text.items ++ statement_lines m (map (λ (x : Element). statements.Element x) xs)) c.loop-one.printer.text.items (followed c.element.new.printer []) c.end_line.new.self.text.items
     c.loop-one.invariant c.in_ok-element.ensures c.in_ok-end_line.ensures
 
 pub returns : goal.returns
 returns c =
-    let m = lists_of c.args.m.now in
+    let m = lists_of c.args.model.now in
     let xs = c.args.all.now in
     lines_done m (λ (x : Element). statements.Element x) xs c.loop-one.one-index c.loop-one-test.false
-    (c.args.p.now.text.items ++ statement_lines m (map (λ (x : Element). statements.Element x) xs)) c.loop-one.p.text.items c.loop-one.invariant
+    (c.args.printer.now.text.items ++ statement_lines m (map (λ (x : Element). statements.Element x) xs)) c.loop-one.printer.text.items c.loop-one.invariant

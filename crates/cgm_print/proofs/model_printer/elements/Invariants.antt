@@ -7,5 +7,5 @@ use Rattle.cgm_print.proofs.model_printer.elements.Given as goal
 
 abbrev pub invariant-loop-one : goal.invariant-loop-one
 invariant-loop-one l =
-    l.p.text.items ++ statement_lines (lists_of l.m) (map (λ (x : Element). statements.Element x) (drop l.one-index l.all))
-    ≡ l.initial.p.text.items ++ statement_lines (lists_of l.m) (map (λ (x : Element). statements.Element x) l.all)
+    l.printer.text.items ++ statement_lines (lists_of l.model) (map (λ (x : Element). statements.Element x) (drop l.one-index l.all))
+    ≡ l.initial.printer.text.items ++ statement_lines (lists_of l.model) (map (λ (x : Element). statements.Element x) l.all)

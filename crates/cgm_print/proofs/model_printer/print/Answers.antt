@@ -8,7 +8,7 @@ use Rattle.cgm_print.specs.Statements.{header_tokens}
 
 pub returns : goal.returns
 returns c =
-    all_groups (lists_of c.args.m.now) c.end_line.new.self.text.items c.declarations.new.p.text.items c.relations.new.p.text.items c.weights.new.p.text.items c.demands.new.p.text.items
+    all_groups (lists_of c.args.model.now) c.end_line.new.self.text.items c.declarations.new.printer.text.items c.relations.new.printer.text.items c.weights.new.printer.text.items c.demands.new.printer.text.items
     (c.in_ok-end_line.ensures
     ∙ ap (λ (bs : List ℕ). bs ++ 10 ∷ []) (c.in_ok-number.ensures [] ∙ c.in_ok-begin_line.ensures (number (pos 1) ∷ []) ∙ ap (λ (bs : List ℕ). bs ++ spelled_line header_tokens) c.new-p.ensures))
     c.in_ok-declarations.ensures c.in_ok-relations.ensures c.in_ok-weights.ensures c.in_ok-demands.ensures

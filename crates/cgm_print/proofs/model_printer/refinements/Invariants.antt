@@ -7,5 +7,5 @@ use Rattle.cgm_print.proofs.model_printer.refinements.Given as goal
 
 abbrev pub invariant-loop-one : goal.invariant-loop-one
 invariant-loop-one l =
-    l.p.text.items ++ statement_lines (lists_of l.m) (map (λ (x : Refinement). statements.Refine x) (drop l.one-index l.all))
-    ≡ l.initial.p.text.items ++ statement_lines (lists_of l.m) (map (λ (x : Refinement). statements.Refine x) l.all)
+    l.printer.text.items ++ statement_lines (lists_of l.model) (map (λ (x : Refinement). statements.Refine x) (drop l.one-index l.all))
+    ≡ l.initial.printer.text.items ++ statement_lines (lists_of l.model) (map (λ (x : Refinement). statements.Refine x) l.all)

@@ -9,9 +9,9 @@ use Rattle.cgm_print.proofs.model_printer.relations.Goals as goal
 
 pub returns : goal.returns
 returns c =
-    let m = lists_of c.args.m.now in
-    four_groups m (map (λ (x : Edge). statements.Contrib x) m.contribs) (map (λ (x : Edge). statements.Conflict x) m.conflicts) (map (λ (x : Edge). statements.Bind x) m.binds) (map (λ (x : Assertion). statements.Assert x) m.asserts) c.args.p.now.text.items c.contributions.new.p.text.items c.conflicts.new.p.text.items c.bindings.new.p.text.items c.assertions.new.p.text.items
-    (c.in_ok-contributions.ensures ∙ ap (λ (xs : List Edge). c.args.p.now.text.items ++ statement_lines m (map (λ (x : Edge). statements.Contrib x) xs)) c.as_slice.ensures)
-    (c.in_ok-conflicts.ensures ∙ ap (λ (xs : List Edge). c.contributions.new.p.text.items ++ statement_lines m (map (λ (x : Edge). statements.Conflict x) xs)) c.as_slice-2.ensures)
-    (c.in_ok-bindings.ensures ∙ ap (λ (xs : List Edge). c.conflicts.new.p.text.items ++ statement_lines m (map (λ (x : Edge). statements.Bind x) xs)) c.as_slice-3.ensures)
-    (c.in_ok-assertions.ensures ∙ ap (λ (xs : List Assertion). c.bindings.new.p.text.items ++ statement_lines m (map (λ (x : Assertion). statements.Assert x) xs)) c.as_slice-4.ensures)
+    let m = lists_of c.args.model.now in
+    four_groups m (map (λ (x : Edge). statements.Contrib x) m.contribs) (map (λ (x : Edge). statements.Conflict x) m.conflicts) (map (λ (x : Edge). statements.Bind x) m.binds) (map (λ (x : Assertion). statements.Assert x) m.asserts) c.args.printer.now.text.items c.contributions.new.printer.text.items c.conflicts.new.printer.text.items c.bindings.new.printer.text.items c.assertions.new.printer.text.items
+    (c.in_ok-contributions.ensures ∙ ap (λ (xs : List Edge). c.args.printer.now.text.items ++ statement_lines m (map (λ (x : Edge). statements.Contrib x) xs)) c.as_slice.ensures)
+    (c.in_ok-conflicts.ensures ∙ ap (λ (xs : List Edge). c.contributions.new.printer.text.items ++ statement_lines m (map (λ (x : Edge). statements.Conflict x) xs)) c.as_slice-2.ensures)
+    (c.in_ok-bindings.ensures ∙ ap (λ (xs : List Edge). c.conflicts.new.printer.text.items ++ statement_lines m (map (λ (x : Edge). statements.Bind x) xs)) c.as_slice-3.ensures)
+    (c.in_ok-assertions.ensures ∙ ap (λ (xs : List Assertion). c.bindings.new.printer.text.items ++ statement_lines m (map (λ (x : Assertion). statements.Assert x) xs)) c.as_slice-4.ensures)

@@ -5,8 +5,8 @@ use Rattle.cgm_print.proofs.names.sum_name.Goals as goal
 
 pub returns-in-None : goal.returns-in-None
 returns-in-None c =
-    none_named (λ (x : Sum). x.name) c.as_slice.result.now c.args.m.now.sums c.args.k c.in-None.ensures c.as_slice.ensures
+    none_named (λ (x : Sum). x.name) c.as_slice.result.now c.args.model.now.sums c.args.k c.in-None.ensures c.as_slice.ensures
 
 pub returns-in-Some : goal.returns-in-Some
 returns-in-Some c =
-    c.as_slice-in-Some.ensures ∙ some_named (λ (x : Sum). x.name) c.as_slice.result.now c.args.m.now.sums c.args.k c.in-Some.sum.now c.in-Some.ensures c.as_slice.ensures
+    c.as_slice-in-Some.ensures ∙ some_named (λ (x : Sum). x.name) c.as_slice.result.now c.args.model.now.sums c.args.k c.in-Some.sum.now c.in-Some.ensures c.as_slice.ensures

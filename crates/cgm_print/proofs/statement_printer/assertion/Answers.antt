@@ -8,6 +8,6 @@ use Rattle.cgm_print.proofs.statement_printer.assertion.Goals as goal
 
 pub returns : goal.returns
 returns c =
-    let m = lists_of c.args.m.now in
-    two_names (codes "assert") c.element_name.result.now c.truth_word.result.now (element_name m c.args.a.now.element) (truth_word c.args.a.now.truth) c.args.p.now.text.items (followed c.pair.new.p [])
+    let m = lists_of c.args.model.now in
+    two_names (codes "assert") c.element_name.result.now c.truth_word.result.now (element_name m c.args.item.now.element) (truth_word c.args.item.now.truth) c.args.printer.now.text.items (followed c.pair.new.printer [])
     c.element_name.ensures c.truth_word.ensures c.in_ok-pair.ensures

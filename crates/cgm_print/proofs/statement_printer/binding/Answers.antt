@@ -7,6 +7,6 @@ use Rattle.cgm_print.proofs.statement_printer.binding.Goals as goal
 
 pub returns : goal.returns
 returns c =
-    let m = lists_of c.args.m.now in
-    two_names (codes "bind") c.refinement_name.result.now c.refinement_name-2.result.now (refinement_name m c.args.e.now.from) (refinement_name m c.args.e.now.to) c.args.p.now.text.items (followed c.pair.new.p [])
+    let m = lists_of c.args.model.now in
+    two_names (codes "bind") c.refinement_name.result.now c.refinement_name-2.result.now (refinement_name m c.args.edge.now.from) (refinement_name m c.args.edge.now.to) c.args.printer.now.text.items (followed c.pair.new.printer [])
     c.refinement_name.ensures c.refinement_name-2.ensures c.in_ok-pair.ensures

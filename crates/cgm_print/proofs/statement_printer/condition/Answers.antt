@@ -9,6 +9,6 @@ use Rattle.cgm_print.proofs.statement_printer.condition.Goals as goal
 
 pub returns : goal.returns
 returns c =
-    let w = spelled (written_formula (lists_of c.args.m.now) c.args.f.now) [] in
+    let w = spelled (written_formula (lists_of c.args.model.now) c.args.tree.now) [] in
     c.in_ok-formula.ensures [] ∙ c.in_ok-named_line.ensures w
-    ∙ ap (λ (x : List ℕ). c.args.p.now.text.items ++ spelled_line (word (sort_word c.args.sort) ∷ word x ∷ w)) c.truth_name.ensures
+    ∙ ap (λ (x : List ℕ). c.args.printer.now.text.items ++ spelled_line (word (sort_word c.args.sort) ∷ word x ∷ w)) c.truth_name.ensures

@@ -7,6 +7,6 @@ use Rattle.cgm_print.proofs.statement_printer.conflict.Goals as goal
 
 pub returns : goal.returns
 returns c =
-    let m = lists_of c.args.m.now in
-    two_names (codes "conflict") c.element_name.result.now c.element_name-2.result.now (element_name m c.args.e.now.from) (element_name m c.args.e.now.to) c.args.p.now.text.items (followed c.pair.new.p [])
+    let m = lists_of c.args.model.now in
+    two_names (codes "conflict") c.element_name.result.now c.element_name-2.result.now (element_name m c.args.edge.now.from) (element_name m c.args.edge.now.to) c.args.printer.now.text.items (followed c.pair.new.printer [])
     c.element_name.ensures c.element_name-2.ensures c.in_ok-pair.ensures

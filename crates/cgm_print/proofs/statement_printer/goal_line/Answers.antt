@@ -8,4 +8,4 @@ pub returns-in_ok-word : goal.returns-in_ok-word
 returns-in_ok-word c =
     let yes : c.args.must ≡ true = cc in
     c.in_ok-word.ensures [] ∙ c.in_ok-named_line.ensures (word (codes "must") ∷ [])
-    ∙ ap (λ (b : Bool). c.args.p.now.text.items ++ spelled_line (statement_tokens (written_goal c.args.name.now b))) (sym yes)
+    ∙ ap (λ (b : Bool). c.args.printer.now.text.items ++ spelled_line (statement_tokens (written_goal c.args.name.now b))) (sym yes)

@@ -6,4 +6,4 @@ use Rattle.cgm_print.proofs.statement_printer.interest.Goals as goal
 pub returns : goal.returns
 returns c =
     c.in_ok-named_line.ensures []
-    ∙ ap (λ (x : List ℕ). c.args.p.now.text.items ++ spelled_line (word (codes "interest") ∷ word x ∷ [])) c.element_name.ensures
+    ∙ ap (λ (x : List ℕ). c.args.printer.now.text.items ++ spelled_line (word (codes "interest") ∷ word x ∷ [])) c.element_name.ensures

@@ -8,6 +8,6 @@ use Rattle.cgm_print.proofs.statement_printer.objective.Goals as goal
 
 pub returns : goal.returns
 returns c =
-    let m = lists_of c.args.m.now in
-    two_names (codes "objective") c.direction_word.result.now c.quantity_name.result.now (direction_word (direction_of c.args.o.now.max)) (quantity_name m c.args.o.now.of) c.args.p.now.text.items (followed c.pair.new.p [])
+    let m = lists_of c.args.model.now in
+    two_names (codes "objective") c.direction_word.result.now c.quantity_name.result.now (direction_word (direction_of c.args.item.now.max)) (quantity_name m c.args.item.now.of) c.args.printer.now.text.items (followed c.pair.new.printer [])
     c.direction_word.ensures c.quantity_name.ensures c.in_ok-pair.ensures

@@ -6,4 +6,4 @@ use Rattle.cgm_print.proofs.statement_printer.requirement.Goals as goal
 
 pub returns : goal.returns
 returns c =
-    c.in_ok-formula.ensures [] ∙ c.in_ok-begin_statement.ensures (spelled (written_formula (lists_of c.args.m.now) c.args.f.now) [])
+    c.in_ok-formula.ensures [] ∙ c.in_ok-begin_statement.ensures (spelled (written_formula (lists_of c.args.model.now) c.args.tree.now) [])

@@ -7,5 +7,5 @@ use Rattle.cgm_print.proofs.statement_printer.source_names.Given as goal
 
 abbrev pub invariant-loop-number : goal.invariant-loop-number
 invariant-loop-number l =
-    (after : List Lexeme) → followed l.p (words_before (map (element_name (lists_of l.m)) (drop l.number-index l.numbers)) after)
-    ≡ followed l.initial.p (words_before (map (element_name (lists_of l.m)) l.numbers) after)
+    (after : List Lexeme) → followed l.printer (words_before (map (element_name (lists_of l.model)) (drop l.number-index l.numbers)) after)
+    ≡ followed l.initial.printer (words_before (map (element_name (lists_of l.model)) l.numbers) after)

@@ -8,11 +8,11 @@ use Rattle.cgm_print.proofs.statement_printer.value.Goals as goal
 
 pub returns : goal.returns
 returns c =
-    let m = lists_of c.args.m.now in
-    let old = c.args.p.now.text.items in
-    let k = to_z w64 (of_z w64 c.args.v.now.k) in
-    let same : to_z w64 (of_z w64 c.args.v.now.k) ≡ c.args.v.now.k = omega (arith, ints) in
+    let m = lists_of c.args.model.now in
+    let old = c.args.printer.now.text.items in
+    let k = to_z w64 (of_z w64 c.args.item.now.k) in
+    let same : to_z w64 (of_z w64 c.args.item.now.k) ≡ c.args.item.now.k = omega (arith, ints) in
     c.in_ok-number.ensures [] ∙ c.in_ok-word.ensures (number k ∷ []) ∙ c.in_ok-named_line.ensures (word c.truth_name.result.now ∷ number k ∷ [])
     ∙ ap (λ (x : List ℕ). old ++ spelled_line (word (codes "value") ∷ word x ∷ word c.truth_name.result.now ∷ number k ∷ [])) c.sum_name.ensures
-    ∙ ap (λ (x : List ℕ). old ++ spelled_line (word (codes "value") ∷ word (sum_name m c.args.v.now.sum) ∷ word x ∷ number k ∷ [])) c.truth_name.ensures
-    ∙ ap (λ (z : ℤ). old ++ spelled_line (word (codes "value") ∷ word (sum_name m c.args.v.now.sum) ∷ word (truth_name m c.args.v.now.of) ∷ number z ∷ [])) same
+    ∙ ap (λ (x : List ℕ). old ++ spelled_line (word (codes "value") ∷ word (sum_name m c.args.item.now.sum) ∷ word x ∷ number k ∷ [])) c.truth_name.ensures
+    ∙ ap (λ (z : ℤ). old ++ spelled_line (word (codes "value") ∷ word (sum_name m c.args.item.now.sum) ∷ word (truth_name m c.args.item.now.of) ∷ number z ∷ [])) same

@@ -4,6 +4,6 @@ use Rattle.cgm_rows_problems.proofs.choices.follow.Given as goal
 
 abbrev pub invariant-loop-made : goal.invariant-loop-made
 invariant-loop-made l = record {
-  problem : l.t.problem ≡ l.p;
-  order : length l.order.variables ≡ var_count l.p;
+  problem : l.trail.problem ≡ l.problem;
+  order : length l.order.variables ≡ var_count l.problem;
 }

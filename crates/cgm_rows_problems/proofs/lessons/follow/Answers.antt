@@ -6,5 +6,5 @@ use Rattle.cgm_rows_problems.proofs.lessons.follow.Goals as goal
 
 pub returns : goal.returns
 returns c =
-    let given : IsGivenBy c.args.p.now c.args.log.now (box_of c.args.t.now) c.args.by c.args.a = search rules in
-    driven_by_hint c.args.p.now c.args.log.now c.args.t.now c.tighten.new.self c.args.a c.args.by c.requires.driven given c.in_ok-tighten.ensures.ok
+    let given : IsGivenBy c.args.problem.now c.args.log.now (box_of c.args.trail.now) c.args.by c.args.atom = search rules in
+    driven_by_hint c.args.problem.now c.args.log.now c.args.trail.now c.tighten.new.self c.args.atom c.args.by c.requires.driven given c.in_ok-tighten.ensures.ok

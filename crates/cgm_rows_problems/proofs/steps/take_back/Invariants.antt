@@ -5,8 +5,8 @@ use Rattle.cgm_rows_problems.proofs.steps.take_back.Given as goal
 abbrev pub invariant-loop-at : goal.invariant-loop-at
 invariant-loop-at l = record {
   started : l.from ≤ l.at;
-  known : l.at ≤ length l.t.changes;
-  state : l.b ≡ box_after l.t.problem.bounds (take l.at l.t.changes);
+  known : l.at ≤ length l.trail.changes;
+  state : l.bounds ≡ box_after l.trail.problem.bounds (take l.at l.trail.changes);
 }
 
 abbrev pub decreases-loop-at : goal.decreases-loop-at

@@ -4,6 +4,6 @@ use Rattle.cgm_rows_problems.proofs.stores.add_all.Given as goal
 
 abbrev pub invariant-loop-statement : goal.invariant-loop-statement
 invariant-loop-statement l = record {
-  store : IsStoreOf l.p l.s;
-  names : CanNamesLand l.first l.s.added;
+  store : IsStoreOf l.problem l.store;
+  names : CanNamesLand l.first l.store.added;
 }

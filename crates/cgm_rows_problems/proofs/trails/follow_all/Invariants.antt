@@ -5,7 +5,7 @@ use Rattle.cgm_rows_problems.proofs.trails.follow_all.Given as goal
 
 abbrev pub invariant-loop-statement : goal.invariant-loop-statement
 invariant-loop-statement l = record {
-  problem : l.t.problem ≡ l.p;
-  store : IsStoreOf l.p l.s;
-  order : length l.activity.weights ≡ var_count l.p;
+  problem : l.trail.problem ≡ l.problem;
+  store : IsStoreOf l.problem l.store;
+  order : length l.activity.weights ≡ var_count l.problem;
 }

@@ -17,7 +17,7 @@ returns-in-Conflict-clause-made c =
 
 pub returns-in-Conflict-clause-answer : goal.returns-in-Conflict-clause-answer
 returns-in-Conflict-clause-answer c =
-    store_conflict c.args.problem.now (all_clauses c.args.store.now) (box_of c.propagate.new.t) c.in-Conflict.hint (rw c.in-Conflict.is at c.in_ok-propagate.ensures.answer)
+    store_conflict c.args.problem.now (all_clauses c.args.store.now) (box_of c.propagate.new.trail) c.in-Conflict.hint (rw c.in-Conflict.is at c.in_ok-propagate.ensures.answer)
 
 pub returns-in-Spent-clause-made : goal.returns-in-Spent-clause-made
 returns-in-Spent-clause-made c =

@@ -10,7 +10,7 @@ returns-in_err-propagate_row-clause-made c =
 
 pub returns-in-Conflict-clause-answer : goal.returns-in-Conflict-clause-answer
 returns-in-Conflict-clause-answer c =
-    row_conflict c.args.problem.now c.loop-n.n c.loop-n.trail c.propagate_row.new.t c.in-Conflict.hint (slice_get c.args.problem.now.rows c.loop-n.n) refl
+    row_conflict c.args.problem.now c.loop-n.n c.loop-n.trail c.propagate_row.new.trail c.in-Conflict.hint (slice_get c.args.problem.now.rows c.loop-n.n) refl
     (rw c.in-Conflict.is at c.in_ok-propagate_row.ensures.answer)
 
 pub returns-in-Spent-clause-made : goal.returns-in-Spent-clause-made

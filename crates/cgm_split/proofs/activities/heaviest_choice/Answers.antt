@@ -13,4 +13,4 @@ heaviest_of-requires-clause-known c = known_each_once (length c.args.weights.now
 
 pub returns-clause-none : goal.returns-clause-none
 returns-clause-none c =
-    none_exactly c.args.b.now c.args.weights.now c.args.variables.now c.heaviest_of.result c.is_proper.ensures c.requires.count c.requires.each_once c.heaviest_of.ensures
+    none_exactly c.args.bounds.now c.args.weights.now c.args.variables.now c.heaviest_of.result c.is_proper.ensures c.requires.count c.requires.each_once c.heaviest_of.ensures

@@ -6,6 +6,6 @@ use Rattle.cgm_step.proofs.accepting.test_atoms.Goals as goal
 
 pub returns-clause-known : goal.returns-clause-known
 returns-clause-known c =
-    let count = var_count c.args.p.now in
+    let count = var_count c.args.problem.now in
     AreKnown-from_none count c.args.atoms.now
     (first_nowhere (is_unknown count) c.args.atoms.now c.loop-i.i (omega arith) c.loop-i.invariant)

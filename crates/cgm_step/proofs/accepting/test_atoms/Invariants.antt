@@ -6,4 +6,4 @@ use Rattle.cgm_step.proofs.accepting.test_atoms.Given as goal
 
 abbrev pub invariant-loop-i : goal.invariant-loop-i
 invariant-loop-i l =
-    position_from (is_unknown (var_count l.p)) l.i (drop l.i l.atoms) ≡ position_from (is_unknown (var_count l.p)) 0 l.atoms
+    position_from (is_unknown (var_count l.problem)) l.i (drop l.i l.atoms) ≡ position_from (is_unknown (var_count l.problem)) 0 l.atoms

@@ -4,7 +4,7 @@ use Rattle.cgm_step.proofs.accepting.test_less.Goals as goal
 
 pub is_less-requires-clause-others_known : goal.is_less-requires-clause-others_known
 is_less-requires-clause-others_known c =
-    let p = c.args.p.now in
+    let p = c.args.problem.now in
     let log = c.args.log.now in
     let valid = c.objectives-objectives.ensures.valid in
     objectives_known p c.objectives-objectives.result.now c.in-Some.best.now c.objectives-objectives.ensures.objectives valid

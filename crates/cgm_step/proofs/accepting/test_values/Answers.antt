@@ -4,4 +4,4 @@ use Rattle.cgm_step.proofs.accepting.test_values.Goals as goal
 
 pub returns-in-None-clause-fit : goal.returns-in-None-clause-fit
 returns-in-None-clause-fit c =
-    AreValuesOf-from_none c.args.p.now c.args.values.now c.recall_well_formed.ensures (sym c.in-None.ensures.first)
+    AreValuesOf-from_none c.args.problem.now c.args.values.now c.recall_well_formed.ensures (sym c.in-None.ensures.first)

@@ -15,14 +15,14 @@ pub loop-i-preserved : goal.loop-i-preserved
 loop-i-preserved c =
     elim c.match-narrow.branch [
       | in-Same w ↦
-          one_followed c.args.p.now c.args.log.now c.args.hints.now c.args.b.now c.loop-i.i filler c.loop-i.b c.narrow.new.b c.narrow.result
+          one_followed c.args.problem.now c.args.log.now c.args.hints.now c.args.bounds.now c.loop-i.i filler c.loop-i.bounds c.narrow.new.bounds c.narrow.result
           (omega arith) c.loop-i.invariant c.narrow.ensures.exact (ap is_conflict w.in-Same.is) c.narrow.ensures.within
       | in-Tighter w ↦
-          one_followed c.args.p.now c.args.log.now c.args.hints.now c.args.b.now c.loop-i.i filler c.loop-i.b c.narrow.new.b c.narrow.result
+          one_followed c.args.problem.now c.args.log.now c.args.hints.now c.args.bounds.now c.loop-i.i filler c.loop-i.bounds c.narrow.new.bounds c.narrow.result
           (omega arith) c.loop-i.invariant c.narrow.ensures.exact (ap is_conflict w.in-Tighter.is) c.narrow.ensures.within
     ]
 
 pub returns-clause-touched : goal.returns-clause-touched
 returns-clause-touched c =
-    subst (λ (hints : List Hint). ChangesOnly (vars_of_hints c.args.p.now c.args.log.now hints) c.args.b.now c.loop-i.b)
+    subst (λ (hints : List Hint). ChangesOnly (vars_of_hints c.args.problem.now c.args.log.now hints) c.args.bounds.now c.loop-i.bounds)
     (take_all c.loop-i.i c.args.hints.now (omega arith)) c.loop-i.invariant.touched

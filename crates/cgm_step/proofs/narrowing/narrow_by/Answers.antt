@@ -3,4 +3,4 @@ use Rattle.cgm_step.proofs.narrowing.narrow_by.Goals as goal
 
 pub narrow_by_row-requires-clause-row : goal.narrow_by_row-requires-clause-row
 narrow_by_row-requires-clause-row c =
-    IsRowOf-inside c.args.p.now.bounds c.args.b.now c.in-Row.row.now c.requires.in_box (rw c.in-Row.is at c.requires.known)
+    IsRowOf-inside c.args.problem.now.bounds c.args.bounds.now c.in-Row.row.now c.requires.in_box (rw c.in-Row.is at c.requires.known)

@@ -7,5 +7,5 @@ use Rattle.cgm_step.proofs.restoring.restore_atoms.Given as goal
 -- only the variables of the atoms to come are still to be taken back
 abbrev pub invariant-loop-i : goal.invariant-loop-i
 invariant-loop-i l =
-    IsBoxOf l.p.bounds l.b
-    × ((vars : List ℕ) → ChangesOnly (vars_of_atoms (atoms_of l.atoms) ++ vars) l.p.bounds l.fn.b → ChangesOnly (vars_of_atoms (drop l.i (atoms_of l.atoms)) ++ vars) l.p.bounds l.b)
+    IsBoxOf l.problem.bounds l.bounds
+    × ((vars : List ℕ) → ChangesOnly (vars_of_atoms (atoms_of l.atoms) ++ vars) l.problem.bounds l.fn.b → ChangesOnly (vars_of_atoms (drop l.i (atoms_of l.atoms)) ++ vars) l.problem.bounds l.bounds)

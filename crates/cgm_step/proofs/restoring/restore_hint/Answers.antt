@@ -7,5 +7,5 @@ use Rattle.cgm_step.proofs.restoring.restore_hint.Goals as goal
 pub returns-in-Some-clause-after : goal.returns-in-Some-clause-after
 returns-in-Some-clause-after c = λ vars h.
     c.restore_named.ensures.after vars
-    (subst (λ (all : List ℕ). ChangesOnly (all ++ vars) c.args.p.now.bounds c.args.b.now)
-    (vars_of_found c.args.p.now c.args.log.now c.args.h.now (constraint_of c.in-Some.found.named) c.in-Some.ensures.0) h)
+    (subst (λ (all : List ℕ). ChangesOnly (all ++ vars) c.args.problem.now.bounds c.args.bounds.now)
+    (vars_of_found c.args.problem.now c.args.log.now c.args.hint.now (constraint_of c.in-Some.found.named) c.in-Some.ensures.0) h)

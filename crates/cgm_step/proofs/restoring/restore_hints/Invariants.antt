@@ -6,5 +6,5 @@ use Rattle.cgm_step.proofs.restoring.restore_hints.Given as goal
 -- only the variables of the hints to come are still to be taken back
 abbrev pub invariant-loop-h : goal.invariant-loop-h
 invariant-loop-h l =
-    IsBoxOf l.p.bounds l.b
-    × ((vars : List ℕ) → ChangesOnly (vars_of_hints l.p l.log l.hints ++ vars) l.p.bounds l.fn.b → ChangesOnly (vars_of_hints l.p l.log (drop l.h-index l.hints) ++ vars) l.p.bounds l.b)
+    IsBoxOf l.problem.bounds l.bounds
+    × ((vars : List ℕ) → ChangesOnly (vars_of_hints l.problem l.log l.hints ++ vars) l.problem.bounds l.fn.b → ChangesOnly (vars_of_hints l.problem l.log (drop l.h-index l.hints) ++ vars) l.problem.bounds l.bounds)

@@ -8,5 +8,5 @@ returns-in-Row-clause-after c = λ vars h.
     c.restore_terms.ensures.after vars
     (rw c.as_slice.ensures
     (c.restore_guard.ensures.after (vars_of_terms r.terms ++ vars)
-    (subst (λ (all : List ℕ). ChangesOnly all c.args.p.now.bounds c.args.b.now)
+    (subst (λ (all : List ℕ). ChangesOnly all c.args.problem.now.bounds c.args.bounds.now)
     (append_assoc (vars_of_guard r.guard) (vars_of_terms r.terms) vars) (rw c.in-Row.is at h))))

@@ -12,7 +12,7 @@ filler = (pos 0, record { 0 = 0 })
 
 pub restore-requires-clause-known : goal.restore-requires-clause-known
 restore-requires-clause-known c =
-    term_known (var_count c.args.p.now) c.args.terms.now c.loop-term.term-index filler c.requires.known c.loop-term-test.true
+    term_known (var_count c.args.problem.now) c.args.terms.now c.loop-term.term-index filler c.requires.known c.loop-term-test.true
 
 pub loop-term-preserved : goal.loop-term-preserved
 loop-term-preserved c =
@@ -21,11 +21,11 @@ loop-term-preserved c =
       c.restore.ensures.within,
       λ vars h.
           c.restore.ensures.after (vars_of_terms (drop (i + 1) terms) ++ vars)
-          (subst (λ (rest : List (ℤ × Var)). ChangesOnly (vars_of_terms rest ++ vars) c.args.p.now.bounds c.loop-term.b)
+          (subst (λ (rest : List (ℤ × Var)). ChangesOnly (vars_of_terms rest ++ vars) c.args.problem.now.bounds c.loop-term.bounds)
           (drop_more terms i filler c.loop-term-test.true) (c.loop-term.invariant.1 vars h)),
     )
 
 pub returns-clause-after : goal.returns-clause-after
 returns-clause-after c = λ vars h.
-    subst (λ (rest : List (ℤ × Var)). ChangesOnly (vars_of_terms rest ++ vars) c.args.p.now.bounds c.loop-term.b)
+    subst (λ (rest : List (ℤ × Var)). ChangesOnly (vars_of_terms rest ++ vars) c.args.problem.now.bounds c.loop-term.bounds)
     (drop_all c.loop-term.term-index c.args.terms.now (omega arith)) (c.loop-term.invariant.1 vars h)

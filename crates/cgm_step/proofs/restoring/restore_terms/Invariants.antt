@@ -6,5 +6,5 @@ use Rattle.cgm_step.proofs.restoring.restore_terms.Given as goal
 -- only the variables of the terms to come are still to be taken back
 abbrev pub invariant-loop-term : goal.invariant-loop-term
 invariant-loop-term l =
-    IsBoxOf l.p.bounds l.b
-    × ((vars : List ℕ) → ChangesOnly (vars_of_terms l.terms ++ vars) l.p.bounds l.fn.b → ChangesOnly (vars_of_terms (drop l.term-index l.terms) ++ vars) l.p.bounds l.b)
+    IsBoxOf l.problem.bounds l.bounds
+    × ((vars : List ℕ) → ChangesOnly (vars_of_terms l.terms ++ vars) l.problem.bounds l.fn.b → ChangesOnly (vars_of_terms (drop l.term-index l.terms) ++ vars) l.problem.bounds l.bounds)

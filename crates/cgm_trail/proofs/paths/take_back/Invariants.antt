@@ -6,7 +6,7 @@ abbrev pub invariant-loop-at : goal.invariant-loop-at
 invariant-loop-at l = record {
   started : l.from ≤ l.at;
   known : l.at ≤ length l.changes;
-  state : l.state ≡ box_after l.p.bounds (take l.at l.changes);
+  state : l.state ≡ box_after l.problem.bounds (take l.at l.changes);
 }
 
 abbrev pub decreases-loop-at : goal.decreases-loop-at

@@ -7,7 +7,7 @@ use Rattle.cgm_atom.proofs.boxes.BoxState.relax.Goals as goal
 pub returns-then-a-clause-within : goal.returns-then-a-clause-within
 returns-then-a-clause-within c = λ limits place near.
     let b = box_bounds c.self.inside in
-    let a = c.args.a in
+    let a = c.args.atom in
     rw (to_z-of_z w64 a.k (search rules))
     (lower_relaxed limits b a.var.0 a.k (true_at_least b a c.if-a.true (rw (← c.self.view_is) at c.requires.met))
     (within_lower limits a c.if-a.true near) (rw (← c.self.view_is) at place))
@@ -15,7 +15,7 @@ returns-then-a-clause-within c = λ limits place near.
 pub returns-else-a-clause-within : goal.returns-else-a-clause-within
 returns-else-a-clause-within c = λ limits place near.
     let b = box_bounds c.self.inside in
-    let a = c.args.a in
+    let a = c.args.atom in
     rw (to_z-of_z w64 a.k (search rules))
     (upper_relaxed limits b a.var.0 a.k (true_at_most b a c.if-a.false (rw (← c.self.view_is) at c.requires.met))
     (within_upper limits a c.if-a.false near) (rw (← c.self.view_is) at place))

@@ -7,5 +7,5 @@ use Rattle.cgm_atom.proofs.builders.ProblemBuilder.clause.Goals as goal
 
 pub push_clause-requires-clause-known : goal.push_clause-requires-clause-known
 push_clause-requires-clause-known c =
-    let kept : c.of.result ≡ first_atoms [] c.args.c.atoms = search rules in
-    rw (kept, c.self.view_is) (All-first_atoms (IsAtomOf (var_count c.args.self.now)) [] c.args.c.atoms c.requires.known)
+    let kept : c.of.result ≡ first_atoms [] c.args.added.atoms = search rules in
+    rw (kept, c.self.view_is) (All-first_atoms (IsAtomOf (var_count c.args.self.now)) [] c.args.added.atoms c.requires.known)

@@ -7,6 +7,6 @@ pub invariant_of-result : goal.invariant_of-result
 invariant_of-result c =
     rw (c.vars.ensures.count, c.in_ok-clauses.ensures, c.new.ensures.items)
     (record {
-      clauses = numbered_known _ 0 c.args.p.now.clauses c.recall_well_formed.ensures.clauses;
+      clauses = numbered_known _ 0 c.args.problem.now.clauses c.recall_well_formed.ensures.clauses;
       added = All-nil (IsKnown _);
     })

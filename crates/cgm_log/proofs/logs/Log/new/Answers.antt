@@ -6,6 +6,6 @@ use Rattle.cgm_log.proofs.logs.Log.new.Goals as goal
 
 pub invariant_of-result : goal.invariant_of-result
 invariant_of-result c = record {
-  valid = empty_log c.args.p c.new.result.items c.new.ensures.items c.recall_well_formed.ensures;
+  valid = empty_log c.args.problem c.new.result.items c.new.ensures.items c.recall_well_formed.ensures;
   own = subst (λ (xs : List Entry). IsIndexOf c.new-2.result xs) (sym c.new.ensures.items) c.new-2.ensures.own;
 }

@@ -6,7 +6,7 @@ use Rattle.cgm_search.proofs.searches.Search.propagate_cut.Goals as goal
 
 pub returns-clause-ready : goal.returns-clause-ready
 returns-clause-ready c =
-    let new : Search = record c.args.self.now { known = record c.args.self.now.known { store = c.propagate.new.self }; trail = c.propagate.new.t } in
+    let new : Search = record c.args.self.now { known = record c.args.self.now.known { store = c.propagate.new.self }; trail = c.propagate.new.trail } in
     ready_propagated c.args.self.now new c.moves_left-left.result c.propagate.new.left c.requires.ready
     (round_of_store c.args.self.now new c.moves_left-left.result c.propagate.new.left
     (record { known = ap (λ (store : StoreState). record c.args.self.now.known { store = store }) c.propagate.ensures.store; choice = refl; plan = refl; worker = refl })
@@ -14,7 +14,7 @@ returns-clause-ready c =
 
 pub returns-clause-answer : goal.returns-clause-answer
 returns-clause-answer c =
-    let new : Search = record c.args.self.now { known = record c.args.self.now.known { store = c.propagate.new.self }; trail = c.propagate.new.t } in
+    let new : Search = record c.args.self.now { known = record c.args.self.now.known { store = c.propagate.new.self }; trail = c.propagate.new.trail } in
     outcome_of_cut c.args.self.now new c.moves_left-left.result c.propagate.new.left c.propagate.result c.requires.ready c.requires.behind
     (round_of_store c.args.self.now new c.moves_left-left.result c.propagate.new.left
     (record { known = ap (λ (store : StoreState). record c.args.self.now.known { store = store }) c.propagate.ensures.store; choice = refl; plan = refl; worker = refl })

@@ -2,7 +2,7 @@ use Rattle.cgm_split.proofs.Raising.{raised_count, raised_order}
 use Rattle.cgm_split.proofs.activities.Activity.raise.Goals as goal
 
 pub returns-clause-order : goal.returns-clause-order
-returns-clause-order c x y other h = rw c.lift.ensures (raised_order c.args.self.now c.args.v.0 x y c.requires other h)
+returns-clause-order c x y other h = rw c.lift.ensures (raised_order c.args.self.now c.args.variable.0 x y c.requires other h)
 
 pub returns-clause-count : goal.returns-clause-count
-returns-clause-count c = rw c.lift.ensures (raised_count c.args.self.now c.args.v.0)
+returns-clause-count c = rw c.lift.ensures (raised_count c.args.self.now c.args.variable.0)

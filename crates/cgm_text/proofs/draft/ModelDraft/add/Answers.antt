@@ -3,4 +3,4 @@ use Rattle.cgm_text.proofs.draft.ModelDraft.add.Goals as goal
 
 pub returns-in-Err-clause-stop : goal.returns-in-Err-clause-stop
 returns-in-Err-clause-stop c =
-    rw c.add_stop.ensures (not_added_stop c.args.self.now.builder c.args.s c.in-Err.stop c.in-Err.ensures.refused)
+    rw c.add_stop.ensures (not_added_stop c.args.self.now.builder c.args.statement c.in-Err.stop c.in-Err.ensures.refused)

@@ -44,7 +44,7 @@ assume-requires c =
     let from : IsFrom c.self.inside.changes.items c.args.level c.index-from.result.now = from_is _ _ _ _ _ _ _ c.self.invariant.led known c.index-from.ensures in
     rw (c.take_back.ensures, c.as_slice.ensures.value, from.kept) (rw (← c.self.view_is) at c.requires.undecided.known)
 
-jump_of : (c : goal.After-assume) → IsJump c.self.inside.problem.bounds c.self.inside.changes.items c.args.level c.args.a (By c.args.by) c.take_back.new.state c.replace_rest.new.changes.items
+jump_of : (c : goal.After-assume) → IsJump c.self.inside.problem.bounds c.self.inside.changes.items c.args.level c.args.atom (By c.args.by) c.take_back.new.state c.replace_rest.new.changes.items
 jump_of c =
     let earlier = rw (← c.self.view_is) at c.requires.earlier in
     let count = ap length c.self.invariant.led.opened in
@@ -54,7 +54,7 @@ jump_of c =
 
 pub invariant_of-self : goal.invariant_of-self
 invariant_of-self c =
-    let undecided : IsOpenIn (box_after c.self.inside.problem.bounds (cut_to c.args.level c.self.inside.changes.items)) c.args.a = rw (← c.self.view_is) at c.requires.undecided in
+    let undecided : IsOpenIn (box_after c.self.inside.problem.bounds (cut_to c.args.level c.self.inside.changes.items)) c.args.atom = rw (← c.self.view_is) at c.requires.undecided in
     record {
       problem = c.self.invariant.problem;
       led = led_jumped _ _ _ _ _ _ _ _ _ _ _ _ refl c.self.invariant.led (jump_of c) undecided c.truncate.ensures.items c.assume.ensures.answer c.assume.ensures.after;

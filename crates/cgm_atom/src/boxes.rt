@@ -119,5 +119,9 @@ impl BoxState {
 pub(crate) fn is_false_between(atom: Atom, lo: i64, hi: i64) -> bool
     ensures { result ≡ cond atom.at_least (int_lt hi atom.k) (int_lt atom.k lo) }
 {
-    if atom.at_least { hi < atom.k } else { atom.k < lo }
+    if atom.at_least {
+        hi < atom.k
+    } else {
+        atom.k < lo
+    }
 }

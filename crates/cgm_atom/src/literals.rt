@@ -33,7 +33,11 @@ pub fn negated(x: u32) -> Atom
 /// Adds a clause of these atoms, a later equal one dropped.
 /// Condition: their variables are known, their numbers are at most 2·10^15 in size, and the builder
 /// has fewer than 2^32 - 1 clauses so far. After want of memory the builder is given up.
-pub fn add_clause(alloc: Global, builder: &mut ProblemBuilder, atoms: &[Atom]) -> Result<(), OutOfMemory>
+pub fn add_clause(
+    alloc: Global,
+    builder: &mut ProblemBuilder,
+    atoms: &[Atom],
+) -> Result<(), OutOfMemory>
     requires { CanTake builder.old (clause atoms.now ∷ []) }
     ensures { OnOk result (builder.new ≡ with_written builder.old (clause atoms.now ∷ [])) }
 {

@@ -15,7 +15,12 @@ use cgm_solve::Answer;
 use std::alloc::Global;
 
 /// Prints the report of an answer, gives its memory back, and answers its status.
-pub(crate) fn print_answer<O: Sink>(alloc: Global, model: &Model, answer: Answer, out: &mut O) -> Status
+pub(crate) fn print_answer<O: Sink>(
+    alloc: Global,
+    model: &Model,
+    answer: Answer,
+    out: &mut O,
+) -> Status
     requires { IsReportable (lists_of model.now) answer }
     ensures { PrintsReportOrLacksMemory (report_of (lists_of model.now) answer)
         (answer_status answer) (O.state out.old) (O.state out.new) result }

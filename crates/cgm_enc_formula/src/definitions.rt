@@ -69,7 +69,11 @@ pub(crate) fn define_same(
     add_clause(alloc, builder, &[negated(p), atom(not_one), atom(other)])?;
     add_clause(alloc, builder, &[negated(p), atom(one), atom(not_other)])?;
     add_clause(alloc, builder, &[literal(p), atom(one), atom(other)])?;
-    add_clause(alloc, builder, &[literal(p), atom(not_one), atom(not_other)])?;
+    add_clause(
+        alloc,
+        builder,
+        &[literal(p), atom(not_one), atom(not_other)],
+    )?;
     Ok(positive(p))
 }
 

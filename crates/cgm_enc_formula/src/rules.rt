@@ -37,7 +37,11 @@ use std::alloc::Global;
 /// Condition: the builder has the variables of elements, refinements, variables and sums, in this
 /// order, and not more than 2^31 variables, clauses and rows so far. The rules add less than 2^20 of
 /// each.
-pub fn add_rules(alloc: Global, model: &Model, builder: &mut ProblemBuilder) -> Result<(), EncodeStop>
+pub fn add_rules(
+    alloc: Global,
+    model: &Model,
+    builder: &mut ProblemBuilder,
+) -> Result<(), EncodeStop>
     requires variables { model_variables (lists_of model.now) ≤ var_count builder.old }
     requires few_variables { var_count builder.old ≤ 2 ^ 31 }
     requires few_clauses { length builder.old.clauses ≤ 2 ^ 31 + 2 ^ 28 }
@@ -85,11 +89,19 @@ fn add_rule(
     match rule {
         Rule::Positive(name, formula) => {
             let l = name_formula(alloc, model, builder, formula)?;
-            add_clause(alloc, builder, &[negated(truth_variable(model, *name)), atom(l)])
+            add_clause(
+                alloc,
+                builder,
+                &[negated(truth_variable(model, *name)), atom(l)],
+            )
         }
         Rule::Negative(name, formula) => {
             let l = name_formula(alloc, model, builder, formula)?;
-            add_clause(alloc, builder, &[literal(truth_variable(model, *name)), atom(l)])
+            add_clause(
+                alloc,
+                builder,
+                &[literal(truth_variable(model, *name)), atom(l)],
+            )
         }
         Rule::Require(formula) => {
             let l = name_formula(alloc, model, builder, formula)?;

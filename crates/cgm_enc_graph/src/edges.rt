@@ -66,7 +66,12 @@ pub(crate) fn add_binds(
     Ok(())
 }
 
-fn add_bind(alloc: Global, builder: &mut ProblemBuilder, model: &Model, edge: &Edge) -> Result<(), OutOfMemory>
+fn add_bind(
+    alloc: Global,
+    builder: &mut ProblemBuilder,
+    model: &Model,
+    edge: &Edge,
+) -> Result<(), OutOfMemory>
     requires room { CanTake builder.old (bind_clauses (lists_of model.now) edge.now) }
     requires known { IsEdgeOf (length model.now.refinements) edge.now }
     ensures { OnOk result (builder.new ≡ with_written builder.old (bind_clauses (lists_of model.now) edge.now)) }

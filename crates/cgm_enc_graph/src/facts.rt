@@ -55,7 +55,11 @@ pub(crate) fn add_asserts(
     Ok(())
 }
 
-fn add_assertion(alloc: Global, builder: &mut ProblemBuilder, assertion: &Assertion) -> Result<(), OutOfMemory>
+fn add_assertion(
+    alloc: Global,
+    builder: &mut ProblemBuilder,
+    assertion: &Assertion,
+) -> Result<(), OutOfMemory>
     requires { CanTake builder.old (assertion_clause assertion.now ∷ []) }
     ensures { OnOk result (builder.new ≡ with_written builder.old (assertion_clause assertion.now ∷ [])) }
 {

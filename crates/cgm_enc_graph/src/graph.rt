@@ -28,7 +28,11 @@ use std::alloc::Global;
 /// A later equal atom of a clause is dropped. After want of memory the builder is given up.
 /// Condition: the builder has a variable for each element and refinement, and at most 2^31 clauses
 /// so far. The graph has less than 2^28 clauses.
-pub fn add_graph(alloc: Global, model: &Model, builder: &mut ProblemBuilder) -> Result<(), OutOfMemory>
+pub fn add_graph(
+    alloc: Global,
+    model: &Model,
+    builder: &mut ProblemBuilder,
+) -> Result<(), OutOfMemory>
     requires variables { truth_variables (lists_of model.now) ≤ var_count builder.old }
     requires room { length builder.old.clauses ≤ 2 ^ 31 }
     ensures { OnOk result (builder.new ≡ with_clauses builder.old (graph_clauses (lists_of model.now))) }
@@ -39,7 +43,11 @@ pub fn add_graph(alloc: Global, model: &Model, builder: &mut ProblemBuilder) -> 
 }
 
 /// The clauses of refinements and of refined elements.
-fn add_refinement_group(alloc: Global, builder: &mut ProblemBuilder, model: &Model) -> Result<(), OutOfMemory>
+fn add_refinement_group(
+    alloc: Global,
+    builder: &mut ProblemBuilder,
+    model: &Model,
+) -> Result<(), OutOfMemory>
     requires { CanTake builder.old (refinement_group (lists_of model.now)) }
     ensures { OnOk result (builder.new ≡ with_written builder.old (refinement_group (lists_of model.now))) }
 {
@@ -52,7 +60,11 @@ fn add_refinement_group(alloc: Global, builder: &mut ProblemBuilder, model: &Mod
 }
 
 /// The clauses of contributions, conflicts and bindings.
-fn add_edge_group(alloc: Global, builder: &mut ProblemBuilder, model: &Model) -> Result<(), OutOfMemory>
+fn add_edge_group(
+    alloc: Global,
+    builder: &mut ProblemBuilder,
+    model: &Model,
+) -> Result<(), OutOfMemory>
     requires { CanTake builder.old (edge_group (lists_of model.now)) }
     ensures { OnOk result (builder.new ≡ with_written builder.old (edge_group (lists_of model.now))) }
 {
@@ -62,7 +74,11 @@ fn add_edge_group(alloc: Global, builder: &mut ProblemBuilder, model: &Model) ->
 }
 
 /// The clauses of goals with `must` and of assertions.
-fn add_fact_group(alloc: Global, builder: &mut ProblemBuilder, model: &Model) -> Result<(), OutOfMemory>
+fn add_fact_group(
+    alloc: Global,
+    builder: &mut ProblemBuilder,
+    model: &Model,
+) -> Result<(), OutOfMemory>
     requires { CanTake builder.old (fact_group (lists_of model.now)) }
     ensures { OnOk result (builder.new ≡ with_written builder.old (fact_group (lists_of model.now))) }
 {

@@ -55,7 +55,12 @@ pub fn encode(alloc: Global, model: &Model, earlier: &Earlier) -> Result<Encoded
 }
 
 /// Adds all of the problem.
-fn build(alloc: Global, builder: &mut ProblemBuilder, model: &Model, earlier: &Earlier) -> Result<(), EncodeStop>
+fn build(
+    alloc: Global,
+    builder: &mut ProblemBuilder,
+    model: &Model,
+    earlier: &Earlier,
+) -> Result<(), EncodeStop>
     requires { builder.old ≡ empty_instance }
     ensures { IsBuildAnswer (lists_of model.now) earlier.now.pairs builder.new result }
 {
@@ -66,7 +71,12 @@ fn build(alloc: Global, builder: &mut ProblemBuilder, model: &Model, earlier: &E
 }
 
 /// Adds what stands behind the sums.
-fn add_rest(alloc: Global, builder: &mut ProblemBuilder, model: &Model, earlier: &Earlier) -> Result<(), EncodeStop>
+fn add_rest(
+    alloc: Global,
+    builder: &mut ProblemBuilder,
+    model: &Model,
+    earlier: &Earlier,
+) -> Result<(), EncodeStop>
     requires { builder.old ≡ numbers_instance (lists_of model.now) }
     ensures { IsBuildAnswer (lists_of model.now) earlier.now.pairs builder.new result }
 {
@@ -79,7 +89,11 @@ fn add_rest(alloc: Global, builder: &mut ProblemBuilder, model: &Model, earlier:
 
 /// The variables of elements, refinements, variables and sums, the clauses of the goal graph and the
 /// rows of the sums.
-fn add_numbers(alloc: Global, builder: &mut ProblemBuilder, model: &Model) -> Result<(), OutOfMemory>
+fn add_numbers(
+    alloc: Global,
+    builder: &mut ProblemBuilder,
+    model: &Model,
+) -> Result<(), OutOfMemory>
     requires { builder.old ≡ empty_instance }
     ensures { OnOk result (builder.new ≡ numbers_instance (lists_of model.now)) }
 {
@@ -89,7 +103,11 @@ fn add_numbers(alloc: Global, builder: &mut ProblemBuilder, model: &Model) -> Re
 }
 
 /// The variables of elements, refinements and variables.
-fn add_own_variables(alloc: Global, builder: &mut ProblemBuilder, model: &Model) -> Result<(), OutOfMemory>
+fn add_own_variables(
+    alloc: Global,
+    builder: &mut ProblemBuilder,
+    model: &Model,
+) -> Result<(), OutOfMemory>
     requires { builder.old ≡ empty_instance }
     ensures { OnOk result (builder.new ≡ own_instance (lists_of model.now)) }
 {

@@ -64,7 +64,11 @@ fn was_true(earlier: Option<bool>) -> bool
 }
 
 /// The leaf tasks of interest that weren't true.
-pub(crate) fn possible_work(alloc: Global, model: &Model, earlier: &Earlier) -> Result<Vec<u32>, OutOfMemory>
+pub(crate) fn possible_work(
+    alloc: Global,
+    model: &Model,
+    earlier: &Earlier,
+) -> Result<Vec<u32>, OutOfMemory>
     ensures { IfOk result (λ tasks. tasks.items ≡ quantities.possible_work (lists_of model.now) earlier.now.pairs) }
 {
     let interest = elements_of_interest(alloc, model)?;

@@ -54,5 +54,9 @@ fn add_preference(
     let worse = truth_variable(model, preference.worse);
     add_clause(alloc, builder, &[negated(u), negated(better)])?;
     add_clause(alloc, builder, &[negated(u), literal(worse)])?;
-    add_clause(alloc, builder, &[literal(u), literal(better), negated(worse)])
+    add_clause(
+        alloc,
+        builder,
+        &[literal(u), literal(better), negated(worse)],
+    )
 }

@@ -68,7 +68,11 @@ fn with_first(
 }
 
 /// Adds a row without a guard.
-fn add_row(builder: &mut ProblemBuilder, terms: Vec<(i64, Var)>, least: i64) -> Result<(), OutOfMemory>
+fn add_row(
+    builder: &mut ProblemBuilder,
+    terms: Vec<(i64, Var)>,
+    least: i64,
+) -> Result<(), OutOfMemory>
     requires terms { AreTermsOf (var_count builder.old) terms.items }
     requires size { IsRowSize builder.old.bounds (row_of terms.items least) }
     requires room { length builder.old.rows < 2 ^ 32 - 1 }

@@ -60,7 +60,11 @@ fn expressions_of(
     Ok(expressions)
 }
 
-fn expression(alloc: Global, model: &Model, shares: &[(i64, u32)]) -> Result<Expression, OutOfMemory>
+fn expression(
+    alloc: Global,
+    model: &Model,
+    shares: &[(i64, u32)],
+) -> Result<Expression, OutOfMemory>
     requires known { All (λ s. s.1 < truth_variables (lists_of model.now)) shares.now }
     requires small { share_size shares.now < 2 ^ 63 }
     ensures { IfOk result (λ e. e ≡ expression_of (truth_variables (lists_of model.now)) (plain shares.now)) }

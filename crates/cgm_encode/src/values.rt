@@ -103,7 +103,11 @@ fn rules<'m>(model: &'m Model, assignment: &Assignment, sums: &[i64]) -> &'m [Ru
 }
 
 /// The values of elements, refinements, variables and sums.
-fn push_numbers(out: &mut Vec<i64>, assignment: &Assignment, sums: &[i64]) -> Result<(), OutOfMemory>
+fn push_numbers(
+    out: &mut Vec<i64>,
+    assignment: &Assignment,
+    sums: &[i64],
+) -> Result<(), OutOfMemory>
     ensures { OnOk result (out.new.items ≡ out.old.items ++ (((map bit_of assignment.now.elements ++ map bit_of assignment.now.refinements) ++ assignment.now.vars) ++ sums.now)) }
 {
     push_bits(out, assignment.elements.as_slice())?;

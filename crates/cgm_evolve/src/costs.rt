@@ -55,7 +55,10 @@ fn differs(earlier: Option<bool>, truth: bool) -> bool
 fn is_changed(model: &Model, earlier: &Earlier, assignment: &Assignment, element: u32) -> bool
     ensures { result ≡ costs.is_changed (lists_of model.now) earlier.now.pairs assignment.now element }
 {
-    differs(earlier_truth(model, earlier, element), is_true(assignment, element))
+    differs(
+        earlier_truth(model, earlier, element),
+        is_true(assignment, element),
+    )
 }
 
 fn was_true(earlier: Option<bool>) -> bool
@@ -70,7 +73,9 @@ fn was_true(earlier: Option<bool>) -> bool
 fn is_new_work(model: &Model, earlier: &Earlier, assignment: &Assignment, element: u32) -> bool
     ensures { result ≡ costs.is_new_work (lists_of model.now) earlier.now.pairs assignment.now element }
 {
-    model.is_leaf_task(element) && is_true(assignment, element) && !was_true(earlier_truth(model, earlier, element))
+    model.is_leaf_task(element)
+        && is_true(assignment, element)
+        && !was_true(earlier_truth(model, earlier, element))
 }
 
 /// The elements on interest lines.
@@ -82,7 +87,12 @@ fn interests(model: &Model) -> &[u32]
 }
 
 /// How many of these elements changed.
-fn changed_among(model: &Model, earlier: &Earlier, assignment: &Assignment, elements: &[u32]) -> usize
+fn changed_among(
+    model: &Model,
+    earlier: &Earlier,
+    assignment: &Assignment,
+    elements: &[u32],
+) -> usize
     ensures { result ≡ count_by (costs.is_changed (lists_of model.now) earlier.now.pairs assignment.now) elements.now }
 {
     elements
@@ -114,7 +124,12 @@ fn changed(model: &Model, earlier: &Earlier, assignment: &Assignment) -> usize
 }
 
 /// How many of these elements are new work.
-fn new_work_among(model: &Model, earlier: &Earlier, assignment: &Assignment, elements: &[u32]) -> usize
+fn new_work_among(
+    model: &Model,
+    earlier: &Earlier,
+    assignment: &Assignment,
+    elements: &[u32],
+) -> usize
     ensures { result ≡ count_by (costs.is_new_work (lists_of model.now) earlier.now.pairs assignment.now) elements.now }
 {
     elements

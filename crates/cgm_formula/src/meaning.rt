@@ -107,7 +107,10 @@ fn term_value(term: &(i64, Number), assignment: &Assignment, sums: &[i64]) -> i1
     ensures value { result ≡ term.now.0 *ℤ number_in assignment.now sums.now term.now.1 }
     ensures size { unsigned_abs result ≡ unsigned_abs term.now.0 * unsigned_abs (number_in assignment.now sums.now term.now.1) }
 {
-    product(i128::from(term.0), i128::from(number(assignment, sums, term.1)))
+    product(
+        i128::from(term.0),
+        i128::from(number(assignment, sums, term.1)),
+    )
 }
 
 fn product(x: i128, y: i128) -> i128

@@ -20,7 +20,11 @@ pub(crate) fn opposite(atom: Atom) -> Atom
     Atom {
         var: atom.var,
         at_least: !atom.at_least,
-        k: if atom.at_least { atom.k - 1 } else { atom.k + 1 },
+        k: if atom.at_least {
+            atom.k - 1
+        } else {
+            atom.k + 1
+        },
     }
 }
 
@@ -70,7 +74,12 @@ fn above(rest: &BoxState, variable: Var) -> Atom
     }
 }
 
-fn add_lower(problem: &Problem, rest: &BoxState, variable: Var, atoms: &mut Vec<Atom>) -> Result<(), OutOfMemory>
+fn add_lower(
+    problem: &Problem,
+    rest: &BoxState,
+    variable: Var,
+    atoms: &mut Vec<Atom>,
+) -> Result<(), OutOfMemory>
     requires known { variable.0 < var_count problem.now }
     requires limits { IsBoxOf problem.now.bounds rest.now }
     requires sizes { AreBounds rest.now }
@@ -83,7 +92,12 @@ fn add_lower(problem: &Problem, rest: &BoxState, variable: Var, atoms: &mut Vec<
     Ok(())
 }
 
-fn add_upper(problem: &Problem, rest: &BoxState, variable: Var, atoms: &mut Vec<Atom>) -> Result<(), OutOfMemory>
+fn add_upper(
+    problem: &Problem,
+    rest: &BoxState,
+    variable: Var,
+    atoms: &mut Vec<Atom>,
+) -> Result<(), OutOfMemory>
     requires known { variable.0 < var_count problem.now }
     requires limits { IsBoxOf problem.now.bounds rest.now }
     requires sizes { AreBounds rest.now }

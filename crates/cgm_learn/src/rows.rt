@@ -129,7 +129,11 @@ fn explain_term(work: &BoxState, need: &mut BoxState, term: &(i64, Var), slack: 
 fn is_same_side(term: &(i64, Var), atom: Atom) -> bool
     ensures { result ≡ cond (int_lt term.now.0 (pos 0)) atom.at_least (not atom.at_least) }
 {
-    if term.0 < 0 { atom.at_least } else { !atom.at_least }
+    if term.0 < 0 {
+        atom.at_least
+    } else {
+        !atom.at_least
+    }
 }
 
 /// Whether an atom speaks of the bound that the greatest value of a term reads.

@@ -81,7 +81,12 @@ fn is_claimed(bounds: &BoxState, guard: Option<Atom>) -> bool
 }
 
 /// Makes the guard of a row false that no values of the box meet.
-fn refuse_guard(row: &Row, trail: &mut Trail, by: Hint, left: &mut u64) -> Result<Swept, OutOfMemory>
+fn refuse_guard(
+    row: &Row,
+    trail: &mut Trail,
+    by: Hint,
+    left: &mut u64,
+) -> Result<Swept, OutOfMemory>
     requires row { IsRowOf (box_of trail.old) row.now }
     requires unmet { greatest_activity_in (box_of trail.old) row.now.terms <ℤ row.now.least }
     requires budget { trail.old.moves + left.old ≤ 2 ^ 62 }

@@ -13,7 +13,12 @@ use cgm_trail::{Trail, step};
 /// now. A step is taken only where the atom isn't true yet, and it isn't true afterwards where none
 /// is left. The trail's moves with `left` are at most 2^62. Memory is wanted for a step alone, and
 /// for want of it nothing changes.
-pub(crate) fn make(trail: &mut Trail, atom: Atom, by: Hint, left: &mut u64) -> Result<bool, OutOfMemory>
+pub(crate) fn make(
+    trail: &mut Trail,
+    atom: Atom,
+    by: Hint,
+    left: &mut u64,
+) -> Result<bool, OutOfMemory>
     requires known { atom.var.0 < length (box_of trail.old).lower }
     requires not_false { is_false_in (box_of trail.old) atom ≡ false }
     requires room { trail.old.moves + left.old ≤ 2 ^ 62 }

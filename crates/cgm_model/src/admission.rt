@@ -20,7 +20,12 @@ use cgm_base::Which;
 
 /// The answer of the first test that the statement fails. `acyclic` says whether the graph has no
 /// cycle with it.
-pub(crate) fn refusal(lists: &Lists, aids: &Aids, statement: &Statement, acyclic: bool) -> Option<AddStop>
+pub(crate) fn refusal(
+    lists: &Lists,
+    aids: &Aids,
+    statement: &Statement,
+    acyclic: bool,
+) -> Option<AddStop>
     requires well_formed { IsWellFormed lists.now }
     requires aids { AreFor lists.now aids.now }
     requires proper { tests.IsProper lists.now statement.now }
@@ -37,7 +42,10 @@ pub(crate) fn refusal(lists: &Lists, aids: &Aids, statement: &Statement, acyclic
             has_small_coefficients(aids, statement),
             AddStop::Limit(Which::Coefficient),
         ),
-        (has_small_bounds(statement), AddStop::Limit(Which::VariableBound)),
+        (
+            has_small_bounds(statement),
+            AddStop::Limit(Which::VariableBound),
+        ),
         (
             has_ordered_bounds(statement),
             AddStop::Refused(Fault::CrossedBounds),
@@ -54,7 +62,10 @@ pub(crate) fn refusal(lists: &Lists, aids: &Aids, statement: &Statement, acyclic
             has_new_interest(aids, statement),
             AddStop::Refused(Fault::DoubleInterest),
         ),
-        (!refines_task(lists, statement), AddStop::Refused(Fault::TaskRefined)),
+        (
+            !refines_task(lists, statement),
+            AddStop::Refused(Fault::TaskRefined),
+        ),
         (
             !refines_assumption(lists, statement),
             AddStop::Refused(Fault::AssumptionRefined),

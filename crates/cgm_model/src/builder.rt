@@ -256,7 +256,11 @@ fn make_room(aids: &mut Aids) -> Result<(), AddStop>
     aids.interests.push(false).map_err(|_| AddStop::Memory)
 }
 
-fn push_refinement(lists: &mut Lists, aids: &mut Aids, refinement: Refinement) -> Result<(), AddStop>
+fn push_refinement(
+    lists: &mut Lists,
+    aids: &mut Aids,
+    refinement: Refinement,
+) -> Result<(), AddStop>
     requires well_formed { IsWellFormed lists.old }
     requires aids { AreFor lists.old aids.old }
     requires proper { IsProper lists.old (Statement.Refine refinement) }
@@ -268,8 +272,16 @@ fn push_refinement(lists: &mut Lists, aids: &mut Aids, refinement: Refinement) -
     let number = lists.refinements.as_slice().len() as u32;
     graph::link(&mut aids.graph, number, &refinement).map_err(|_| AddStop::Memory)?;
     let thing = Thing::Refinement(number);
-    names::declare(aids.alloc, &mut aids.names, refinement.name.as_slice(), thing)?;
-    lists.refinements.push(refinement).map_err(|_| AddStop::Memory)
+    names::declare(
+        aids.alloc,
+        &mut aids.names,
+        refinement.name.as_slice(),
+        thing,
+    )?;
+    lists
+        .refinements
+        .push(refinement)
+        .map_err(|_| AddStop::Memory)
 }
 
 fn push_variable(lists: &mut Lists, aids: &mut Aids, variable: Variable) -> Result<(), AddStop>

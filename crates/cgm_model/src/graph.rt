@@ -50,7 +50,11 @@ pub(crate) fn grow(alloc: Global, graph: &mut Graph) -> Result<(), OutOfMemory>
 }
 
 /// Takes the refinement with this number into the graph.
-pub(crate) fn link(graph: &mut Graph, number: u32, refinement: &Refinement) -> Result<(), OutOfMemory>
+pub(crate) fn link(
+    graph: &mut Graph,
+    number: u32,
+    refinement: &Refinement,
+) -> Result<(), OutOfMemory>
     requires known { IsKnown (length graph.old.marks.items) refinement.now }
     requires index { IsIndexOf [] graph.old }
     ensures kept { (rs : List Refinement) → IsIndexOf rs graph.old → IsIndexOf rs graph.new }
@@ -74,7 +78,11 @@ fn flag_each(flags: &mut Vec<bool>, elements: &[u32])
 }
 
 /// Says whether the graph of the refinements still has no cycle with one more.
-pub(crate) fn stays_acyclic(graph: &mut Graph, refinements: &[Refinement], refinement: &Refinement) -> bool
+pub(crate) fn stays_acyclic(
+    graph: &mut Graph,
+    refinements: &[Refinement],
+    refinement: &Refinement,
+) -> bool
     requires acyclic { IsAcyclic refinements.now }
     requires index { IsIndexOf refinements.now graph.old }
     requires known { All (IsKnown (length graph.old.marks.items)) refinements.now }
@@ -101,7 +109,8 @@ fn is_on_top(is_source: &[bool], refinement: &Refinement) -> bool
     ensures old { IsTrue result → slice_index_or is_source.now refinement.now.target false ≡ false }
     ensures new { IsTrue result → list_any (λ y. y == refinement.now.target) refinement.now.sources ≡ false }
 {
-    !is_source[refinement.target as usize] && !refinement.sources.as_slice().contains(&refinement.target)
+    !is_source[refinement.target as usize]
+        && !refinement.sources.as_slice().contains(&refinement.target)
 }
 
 /// Says whether the target isn't reached from the sources.

@@ -225,8 +225,10 @@ fn keeps_rule(assignment: &Assignment, sums: &[i64], rule: &Rule) -> bool
     ensures { IsTrue result ↔ KeepsRule assignment.now sums.now 0 rule.now }
 {
     match rule {
-        Rule::Positive(name, formula) => !name_is_true(assignment, *name) || holds(formula, assignment, sums),
-        Rule::Negative(name, formula) => name_is_true(assignment, *name) || holds(formula, assignment, sums),
+        Rule::Positive(name, formula) => !name_is_true(assignment, *name)
+            || holds(formula, assignment, sums),
+        Rule::Negative(name, formula) => name_is_true(assignment, *name)
+            || holds(formula, assignment, sums),
         Rule::Require(formula) => holds(formula, assignment, sums),
     }
 }
@@ -284,7 +286,9 @@ fn is_true_refinement(model: &Model, assignment: &Assignment, number: u32, eleme
 fn are_true(assignment: &Assignment, elements: &[u32]) -> bool
     ensures { IsTrue result ↔ All (ElementIsTrue assignment.now) elements.now }
 {
-    elements.iter().all(|element| element_is_true(assignment, *element))
+    elements
+        .iter()
+        .all(|element| element_is_true(assignment, *element))
 }
 
 fn element_is_true(assignment: &Assignment, number: u32) -> bool

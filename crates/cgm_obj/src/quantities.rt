@@ -12,7 +12,13 @@ use cgm_formula::number_at;
 use cgm_model::{Assignment, Model, Quantity};
 
 /// The value of a quantity.
-pub(crate) fn quantity(model: &Model, earlier: &Earlier, assignment: &Assignment, sums: &[i64], asked: Quantity) -> i64
+pub(crate) fn quantity(
+    model: &Model,
+    earlier: &Earlier,
+    assignment: &Assignment,
+    sums: &[i64],
+    asked: Quantity,
+) -> i64
     requires fits { Fits (lists_of model.now) assignment.now }
     requires sums { sums.now ≡ sums_of (lists_of model.now) assignment.now }
     ensures { result ≡ vectors.quantity (lists_of model.now) earlier.now.pairs assignment.now asked }

@@ -18,7 +18,13 @@ fn negated(x: i64) -> i64
 }
 
 /// The number of an objective in the vector.
-fn objective_number(model: &Model, earlier: &Earlier, assignment: &Assignment, sums: &[i64], objective: Objective) -> i64
+fn objective_number(
+    model: &Model,
+    earlier: &Earlier,
+    assignment: &Assignment,
+    sums: &[i64],
+    objective: Objective,
+) -> i64
     requires fits { Fits (lists_of model.now) assignment.now }
     requires sums { sums.now ≡ sums_of (lists_of model.now) assignment.now }
     ensures { result ≡ number_of_objective (lists_of model.now) earlier.now.pairs assignment.now objective }

@@ -68,7 +68,11 @@ fn comparison(
 
 /// Writes a formula.
 #[cycle(formula)]
-pub(crate) fn formula(printer: &mut Printer, model: &Model, tree: &Formula) -> Result<(), OutOfMemory>
+pub(crate) fn formula(
+    printer: &mut Printer,
+    model: &Model,
+    tree: &Formula,
+) -> Result<(), OutOfMemory>
     ensures { OnOk result (Writes printer.old printer.new (spelled (written_formula (lists_of model.now) tree.now))) }
 {
     match tree {
@@ -99,7 +103,12 @@ pub(crate) fn formula(printer: &mut Printer, model: &Model, tree: &Formula) -> R
 }
 
 #[cycle(formula)]
-fn joined(printer: &mut Printer, model: &Model, joint: Joint, parts: &[Formula]) -> Result<(), OutOfMemory>
+fn joined(
+    printer: &mut Printer,
+    model: &Model,
+    joint: Joint,
+    parts: &[Formula],
+) -> Result<(), OutOfMemory>
     ensures { OnOk result (Writes printer.old printer.new
         (spelled (joined_with joint (map (written_formula (lists_of model.now)) parts.now)))) }
 {

@@ -55,7 +55,11 @@ pub(crate) fn element(printer: &mut Printer, item: &Element) -> Result<(), OutOf
     match item.kind {
         ElementKind::Goal => goal_line(printer, item.name.as_slice(), item.must)?,
         ElementKind::Task => named_line(printer, Sort::Name(NameWord::Task), item.name.as_slice())?,
-        ElementKind::Assume => named_line(printer, Sort::Name(NameWord::Assume), item.name.as_slice())?,
+        ElementKind::Assume => named_line(
+            printer,
+            Sort::Name(NameWord::Assume),
+            item.name.as_slice(),
+        )?,
     }
     Ok(())
 }
@@ -70,7 +74,11 @@ fn source_names(printer: &mut Printer, model: &Model, numbers: &[u32]) -> Result
     Ok(())
 }
 
-pub(crate) fn refinement(printer: &mut Printer, model: &Model, item: &Refinement) -> Result<(), OutOfMemory>
+pub(crate) fn refinement(
+    printer: &mut Printer,
+    model: &Model,
+    item: &Refinement,
+) -> Result<(), OutOfMemory>
     ensures { OnOk result (IsLine printer.old printer.new
         (statement_tokens (written (lists_of model.now) (Statement.Refine item.now)))) }
 {
@@ -104,7 +112,11 @@ fn pair(printer: &mut Printer, sort: Sort, one: &[u8], other: &[u8]) -> Result<(
     Ok(())
 }
 
-pub(crate) fn contribution(printer: &mut Printer, model: &Model, edge: &Edge) -> Result<(), OutOfMemory>
+pub(crate) fn contribution(
+    printer: &mut Printer,
+    model: &Model,
+    edge: &Edge,
+) -> Result<(), OutOfMemory>
     ensures { OnOk result (IsLine printer.old printer.new
         (statement_tokens (written (lists_of model.now) (Statement.Contrib edge.now)))) }
 {
@@ -143,7 +155,11 @@ pub(crate) fn binding(printer: &mut Printer, model: &Model, edge: &Edge) -> Resu
     Ok(())
 }
 
-pub(crate) fn assertion(printer: &mut Printer, model: &Model, item: &Assertion) -> Result<(), OutOfMemory>
+pub(crate) fn assertion(
+    printer: &mut Printer,
+    model: &Model,
+    item: &Assertion,
+) -> Result<(), OutOfMemory>
     ensures { OnOk result (IsLine printer.old printer.new
         (statement_tokens (written (lists_of model.now) (Statement.Assert item.now)))) }
 {
@@ -163,7 +179,11 @@ pub(crate) fn sum(printer: &mut Printer, of_sum: &Sum) -> Result<(), OutOfMemory
     Ok(())
 }
 
-pub(crate) fn value(printer: &mut Printer, model: &Model, item: &SumValue) -> Result<(), OutOfMemory>
+pub(crate) fn value(
+    printer: &mut Printer,
+    model: &Model,
+    item: &SumValue,
+) -> Result<(), OutOfMemory>
     ensures { OnOk result (IsLine printer.old printer.new
         (statement_tokens (written (lists_of model.now) (Statement.Value item.now)))) }
 {
@@ -173,7 +193,12 @@ pub(crate) fn value(printer: &mut Printer, model: &Model, item: &SumValue) -> Re
     Ok(())
 }
 
-fn weighing(printer: &mut Printer, model: &Model, sort: Sort, item: &Weighing) -> Result<(), OutOfMemory>
+fn weighing(
+    printer: &mut Printer,
+    model: &Model,
+    sort: Sort,
+    item: &Weighing,
+) -> Result<(), OutOfMemory>
     ensures { OnOk result (IsLine printer.old printer.new
         (word (sort_word sort) ∷ word (name_of_element (lists_of model.now) item.now.element)
         ∷ number item.now.k ∷ [])) }
@@ -183,14 +208,22 @@ fn weighing(printer: &mut Printer, model: &Model, sort: Sort, item: &Weighing) -
     Ok(())
 }
 
-pub(crate) fn reward(printer: &mut Printer, model: &Model, item: &Weighing) -> Result<(), OutOfMemory>
+pub(crate) fn reward(
+    printer: &mut Printer,
+    model: &Model,
+    item: &Weighing,
+) -> Result<(), OutOfMemory>
     ensures { OnOk result (IsLine printer.old printer.new
         (statement_tokens (written (lists_of model.now) (Statement.Reward item.now)))) }
 {
     weighing(printer, model, Sort::Weight(WeightWord::Reward), item)
 }
 
-pub(crate) fn penalty(printer: &mut Printer, model: &Model, item: &Weighing) -> Result<(), OutOfMemory>
+pub(crate) fn penalty(
+    printer: &mut Printer,
+    model: &Model,
+    item: &Weighing,
+) -> Result<(), OutOfMemory>
     ensures { OnOk result (IsLine printer.old printer.new
         (statement_tokens (written (lists_of model.now) (Statement.Penalty item.now)))) }
 {
@@ -218,7 +251,11 @@ pub(crate) fn interest(printer: &mut Printer, model: &Model, k: u32) -> Result<(
     ensures { OnOk result (IsLine printer.old printer.new
         (statement_tokens (written (lists_of model.now) (Statement.Interest k)))) }
 {
-    named_line(printer, Sort::Name(NameWord::Interest), element_name(model, k))?;
+    named_line(
+        printer,
+        Sort::Name(NameWord::Interest),
+        element_name(model, k),
+    )?;
     Ok(())
 }
 
@@ -232,7 +269,11 @@ fn direction_word(max: bool) -> &'static [u8]
     }
 }
 
-pub(crate) fn objective(printer: &mut Printer, model: &Model, item: &Objective) -> Result<(), OutOfMemory>
+pub(crate) fn objective(
+    printer: &mut Printer,
+    model: &Model,
+    item: &Objective,
+) -> Result<(), OutOfMemory>
     ensures { OnOk result (IsLine printer.old printer.new
         (statement_tokens (written (lists_of model.now) (Statement.Objective item.now)))) }
 {
@@ -275,8 +316,20 @@ pub(crate) fn rule(printer: &mut Printer, model: &Model, item: &Rule) -> Result<
         (statement_tokens (written_rule (lists_of model.now) item.now))) }
 {
     match item {
-        Rule::Positive(x, f) => condition(printer, model, Sort::Condition(ConditionWord::Positive), *x, f)?,
-        Rule::Negative(x, f) => condition(printer, model, Sort::Condition(ConditionWord::Negative), *x, f)?,
+        Rule::Positive(x, f) => condition(
+            printer,
+            model,
+            Sort::Condition(ConditionWord::Positive),
+            *x,
+            f,
+        )?,
+        Rule::Negative(x, f) => condition(
+            printer,
+            model,
+            Sort::Condition(ConditionWord::Negative),
+            *x,
+            f,
+        )?,
         Rule::Require(f) => requirement(printer, model, f)?,
     }
     Ok(())

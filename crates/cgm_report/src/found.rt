@@ -45,7 +45,11 @@ pub(crate) fn push_found(
         found.vector.as_slice(),
     )?;
     push_elements(report, model.elements.as_slice(), a.elements.as_slice())?;
-    push_refinements(report, model.refinements.as_slice(), a.refinements.as_slice())?;
+    push_refinements(
+        report,
+        model.refinements.as_slice(),
+        a.refinements.as_slice(),
+    )?;
     push_variables(alloc, report, model.vars.as_slice(), a.vars.as_slice())?;
     push_sums(alloc, report, model.sums.as_slice(), values.as_slice())
 }

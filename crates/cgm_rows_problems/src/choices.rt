@@ -80,7 +80,12 @@ fn are_all(alloc: Global, problem: &Problem, words: &str) -> Result<bool, Fail> 
     are_followed(alloc, problem, &mut order, wanted)
 }
 
-fn are_followed(alloc: Global, problem: &Problem, order: &mut Order, wanted: &str) -> Result<bool, Fail>
+fn are_followed(
+    alloc: Global,
+    problem: &Problem,
+    order: &mut Order,
+    wanted: &str,
+) -> Result<bool, Fail>
     requires { length order.old.variables ≡ var_count problem.now }
 {
     let mut t = Trail::new(alloc, problem)?;
@@ -88,7 +93,12 @@ fn are_followed(alloc: Global, problem: &Problem, order: &mut Order, wanted: &st
 }
 
 /// Whether there are so many decisions until all is fixed. Each is open when it is made.
-fn follow(problem: &Problem, trail: &mut Trail, order: &mut Order, wanted: &str) -> Result<bool, Fail>
+fn follow(
+    problem: &Problem,
+    trail: &mut Trail,
+    order: &mut Order,
+    wanted: &str,
+) -> Result<bool, Fail>
     requires problem { trail.old.problem ≡ problem.now }
     requires order { length order.old.variables ≡ var_count problem.now }
 {
@@ -131,7 +141,12 @@ fn raise_often(activity: &mut Activity, x: u32, times: u32)
     }
 }
 
-fn is_heaviest(problem: &Problem, trail: &Trail, activity: &Activity, wanted: &str) -> Result<bool, Fail>
+fn is_heaviest(
+    problem: &Problem,
+    trail: &Trail,
+    activity: &Activity,
+    wanted: &str,
+) -> Result<bool, Fail>
     requires problem { trail.now.problem ≡ problem.now }
     requires order { length activity.now.weights ≡ var_count problem.now }
 {

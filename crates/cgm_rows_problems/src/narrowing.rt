@@ -70,7 +70,12 @@ fn is_assumed(problem: &Problem, bounds: &mut BoxState, words: &str) -> Result<b
     Ok(bounds.assume(a) == (wanted == "= yes"))
 }
 
-fn is_narrowed(alloc: Global, problem: &Problem, bounds: &mut BoxState, words: &str) -> Result<bool, Fail>
+fn is_narrowed(
+    alloc: Global,
+    problem: &Problem,
+    bounds: &mut BoxState,
+    words: &str,
+) -> Result<bool, Fail>
     requires { IsBoxOf problem.now.bounds bounds.old }
     ensures { IsBoxOf problem.now.bounds bounds.new }
 {

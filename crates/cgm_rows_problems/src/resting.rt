@@ -45,7 +45,12 @@ fn do_clauses_rest(alloc: Global, problem: &Problem, bounds: &BoxState) -> Resul
     Ok(true)
 }
 
-fn does_clause_rest(alloc: Global, problem: &Problem, bounds: &BoxState, n: u32) -> Result<bool, Fail>
+fn does_clause_rest(
+    alloc: Global,
+    problem: &Problem,
+    bounds: &BoxState,
+    n: u32,
+) -> Result<bool, Fail>
     requires known { n < length problem.now.clauses }
     requires in_box { IsBoxOf problem.now.bounds bounds.now }
     ensures { IfOk result (λ rests. IsTrue rests → HoldsAt (λ c. left_by_clause bounds.now c ≡ Some bounds.now) problem.now.clauses n) }

@@ -43,7 +43,13 @@ pub(crate) fn take(
 }
 
 /// Takes a step that no store takes part in.
-fn step(alloc: Global, problem: &Problem, trail: &mut Trail, head: &str, rest: &str) -> Result<bool, Fail>
+fn step(
+    alloc: Global,
+    problem: &Problem,
+    trail: &mut Trail,
+    head: &str,
+    rest: &str,
+) -> Result<bool, Fail>
     requires { trail.old.problem ≡ problem.now }
     ensures { trail.new.problem ≡ problem.now }
 {
@@ -75,7 +81,12 @@ pub(crate) fn may_make(problem: &Problem, trail: &Trail, atom: Atom) -> bool
 }
 
 /// Whether a level may be opened by an atom: it may be made true, and nothing propagates.
-pub(crate) fn may_decide(alloc: Global, problem: &Problem, trail: &Trail, atom: Atom) -> Result<bool, Fail>
+pub(crate) fn may_decide(
+    alloc: Global,
+    problem: &Problem,
+    trail: &Trail,
+    atom: Atom,
+) -> Result<bool, Fail>
     requires { trail.now.problem ≡ problem.now }
     ensures undecided { IfOk result (λ may. IsTrue may → IsOpenIn (box_of trail.now) atom) }
     ensures room { IfOk result (λ may. IsTrue may → trail.now.moves < 1000000) }
@@ -141,7 +152,13 @@ fn jump(alloc: Global, problem: &Problem, trail: &mut Trail, words: &str) -> Res
 }
 
 /// Whether a jump to a level may make an atom true: it is open there, and moves are left.
-fn may_jump(alloc: Global, problem: &Problem, trail: &Trail, level: u64, atom: Atom) -> Result<bool, Fail>
+fn may_jump(
+    alloc: Global,
+    problem: &Problem,
+    trail: &Trail,
+    level: u64,
+    atom: Atom,
+) -> Result<bool, Fail>
     requires { trail.now.problem ≡ problem.now }
     ensures earlier { IfOk result (λ may. IsTrue may → level < level_of trail.now.changes) }
     ensures undecided { IfOk result (λ may. IsTrue may → IsOpenIn (box_of (cut_trail level trail.now)) atom) }
@@ -211,7 +228,12 @@ fn has_room(trail: &Trail, left: u64) -> bool
     trail.moves() < MANY
 }
 
-fn sweep_clauses(problem: &Problem, store: &mut ClauseStore, trail: &mut Trail, words: &str) -> Result<bool, Fail>
+fn sweep_clauses(
+    problem: &Problem,
+    store: &mut ClauseStore,
+    trail: &mut Trail,
+    words: &str,
+) -> Result<bool, Fail>
     requires problem { trail.old.problem ≡ problem.now }
     requires store { IsStoreOf problem.now store.old }
     ensures problem { trail.new.problem ≡ problem.now }
@@ -239,7 +261,13 @@ fn sweep_row(problem: &Problem, trail: &mut Trail, words: &str) -> Result<bool, 
     sweep_by(problem, n, trail, count(steps)?, wanted)
 }
 
-fn sweep_by(problem: &Problem, n: u32, trail: &mut Trail, steps: u64, wanted: &str) -> Result<bool, Fail>
+fn sweep_by(
+    problem: &Problem,
+    n: u32,
+    trail: &mut Trail,
+    steps: u64,
+    wanted: &str,
+) -> Result<bool, Fail>
     requires problem { trail.old.problem ≡ problem.now }
     requires known { n < length problem.now.rows }
     ensures { trail.new.problem ≡ problem.now }

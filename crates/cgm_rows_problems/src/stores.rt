@@ -31,7 +31,12 @@ fn fill(alloc: Global, problem: &Problem, store: &mut ClauseStore, text: &str) -
 }
 
 /// Adds the clauses of a text, of which the first lemma may land then.
-fn add_named(alloc: Global, problem: &Problem, store: &mut ClauseStore, text: &str) -> Result<(), Fail>
+fn add_named(
+    alloc: Global,
+    problem: &Problem,
+    store: &mut ClauseStore,
+    text: &str,
+) -> Result<(), Fail>
     requires store { IsStoreOf problem.now store.old }
     requires empty { store.old.added ≡ [] }
     ensures { IsStoreOf problem.now store.new }

@@ -22,7 +22,11 @@ pub(crate) fn failing<'t>(
     failing
 }
 
-fn failing_of<'t>(alloc: Global, problem: &Problem, case: &'t str) -> Result<Option<&'t str>, Fail> {
+fn failing_of<'t>(
+    alloc: Global,
+    problem: &Problem,
+    case: &'t str,
+) -> Result<Option<&'t str>, Fail> {
     for statement in case.split(';') {
         if !is_met(alloc, problem, statement)? {
             return Ok(Some(statement));

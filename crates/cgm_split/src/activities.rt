@@ -43,7 +43,12 @@ impl Model for Activity {
 impl Activity {
     /// The order for a problem, a seed and a worker, with all weights 0. `OutOfMemory` where memory
     /// ran out.
-    pub fn new(alloc: Global, problem: &Problem, seed: u64, worker: u32) -> Result<Activity, OutOfMemory>
+    pub fn new(
+        alloc: Global,
+        problem: &Problem,
+        seed: u64,
+        worker: u32,
+    ) -> Result<Activity, OutOfMemory>
         ensures unweighed { IfOk result (λ a. a ≡ unweighed (order_of (var_count problem.now) seed worker)) }
         ensures each_once { IfOk result (λ a. IsEachOnce (var_count problem.now) a.variables) }
         ensures count { IfOk result (λ a. length a.weights ≡ var_count problem.now) }

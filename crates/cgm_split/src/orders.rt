@@ -33,7 +33,12 @@ impl Model for Order {
 
 impl Order {
     /// The order for a problem, a seed and a worker. `OutOfMemory` where memory ran out.
-    pub fn new(alloc: Global, problem: &Problem, seed: u64, worker: u32) -> Result<Order, OutOfMemory>
+    pub fn new(
+        alloc: Global,
+        problem: &Problem,
+        seed: u64,
+        worker: u32,
+    ) -> Result<Order, OutOfMemory>
         ensures objectives { IfOk result (λ o. o.objectives ≡ problem.now.objectives) }
         ensures variables { IfOk result (λ o. o.variables ≡ order_of (var_count problem.now) seed worker) }
         ensures each_once { IfOk result (λ o. IsEachOnce (var_count problem.now) o.variables) }

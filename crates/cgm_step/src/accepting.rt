@@ -172,7 +172,11 @@ fn test_atoms(problem: &Problem, atoms: &[Atom]) -> Result<(), BadStep>
 }
 
 /// The hints name something. Answers the greatest that they carry.
-fn test_hints<'l>(problem: &'l Problem, log: &IndexedLog<'l>, hints: &[Hint]) -> Result<u64, BadStep>
+fn test_hints<'l>(
+    problem: &'l Problem,
+    log: &IndexedLog<'l>,
+    hints: &[Hint],
+) -> Result<u64, BadStep>
     requires accepted { IsAcceptedState problem.now log.now }
     ensures exact { IsVerdict
         (option_map (λ i. fault.Hint (i + 1)) (position_from (λ h. is_none (named problem.now log.now h)) 0 hints.now))

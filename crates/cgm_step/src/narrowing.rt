@@ -17,7 +17,12 @@ use cgm_atom::{BoxState, Hint, Narrowed, Problem, narrow_by_atoms, narrow_by_row
 /// `Conflict` comes where it leaves nothing of the box, which then is as it was, and `Tighter` where a bound
 /// has changed. Values of the box that meet the clause or row stay in it. Takes no memory.
 /// Condition: the log is accepted, and the box is one of the problem.
-pub fn narrow(problem: &Problem, log: &IndexedLog<'_>, bounds: &mut BoxState, hint: &Hint) -> Narrowed
+pub fn narrow(
+    problem: &Problem,
+    log: &IndexedLog<'_>,
+    bounds: &mut BoxState,
+    hint: &Hint,
+) -> Narrowed
     requires accepted { IsAcceptedState problem.now log.now }
     requires in_box { IsBoxOf problem.now.bounds bounds.old }
     ensures exact { IsNarrowing (narrowed problem.now log.now bounds.old hint.now) bounds.old bounds.new result }

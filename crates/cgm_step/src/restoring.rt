@@ -107,7 +107,12 @@ fn restore_hint(problem: &Problem, log: &IndexedLog<'_>, bounds: &mut BoxState, 
 }
 
 /// Gives the variables of what the hints name the problem's bounds again.
-pub(crate) fn restore_hints(problem: &Problem, log: &IndexedLog<'_>, bounds: &mut BoxState, hints: &[Hint])
+pub(crate) fn restore_hints(
+    problem: &Problem,
+    log: &IndexedLog<'_>,
+    bounds: &mut BoxState,
+    hints: &[Hint],
+)
     requires accepted { IsAcceptedState problem.now log.now }
     requires in_box { IsBoxOf problem.now.bounds bounds.old }
     ensures after { (vars : List ℕ)

@@ -157,7 +157,11 @@ fn change_from(bounds: &BoxState, atom: Atom, reason: Reason) -> Change
 {
     Change {
         atom,
-        was: if atom.at_least { bounds.lo(atom.var) } else { bounds.hi(atom.var) },
+        was: if atom.at_least {
+            bounds.lo(atom.var)
+        } else {
+            bounds.hi(atom.var)
+        },
         reason,
     }
 }

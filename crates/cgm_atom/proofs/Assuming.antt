@@ -3,7 +3,7 @@ use Rattle.std.proofs.Common.{◌≡◌, ℕ, zero, suc, Bool, true, false, cond
 use Rattle.std.specs.Prelude.{ℤ, ◌≤ℤ◌, FitsSigned, int_lt, slice_set}
 use Rattle.std.specs.Int.{int_max, int_min}
 use Rattle.std.proofs.lemmas.Int.{ints, clamps, to_z-of_z}
-use Rattle.cgm_atom.specs.Bounds.{Bounds, IsBoxOf, IsProper, value_of, lower_of, upper_of}
+use Rattle.cgm_atom.specs.Bounds.{Bounds, IsBoxOf, AreProperBounds, value_of, lower_of, upper_of}
 use Rattle.cgm_atom.specs.Narrowing.{raised, reduced}
 use Rattle.cgm_atom.proofs.SignedSteps.{≤ℤ_trans}
 
@@ -84,8 +84,8 @@ box_reduced limits b i k h box = record {
   ordered = reduced_ordered b i k box.ordered h;
 }
 
-pub IsProper-raised : (b : Bounds) (i : ℕ) (k : ℤ) → k ≤ℤ upper_of b i → IsProper b → IsProper (raised b i k)
+pub IsProper-raised : (b : Bounds) (i : ℕ) (k : ℤ) → k ≤ℤ upper_of b i → AreProperBounds b → AreProperBounds (raised b i k)
 IsProper-raised b i k h proper = record { same_count = rw length-set proper.same_count; ordered = raised_ordered b i k proper.ordered h }
 
-pub IsProper-reduced : (b : Bounds) (i : ℕ) (k : ℤ) → lower_of b i ≤ℤ k → IsProper b → IsProper (reduced b i k)
+pub IsProper-reduced : (b : Bounds) (i : ℕ) (k : ℤ) → lower_of b i ≤ℤ k → AreProperBounds b → AreProperBounds (reduced b i k)
 IsProper-reduced b i k h proper = record { same_count = rw length-set proper.same_count; ordered = reduced_ordered b i k proper.ordered h }

@@ -11,7 +11,7 @@ use Rattle.cgm_atom.specs.declared.entries.Entry.{Entry}
 use Rattle.cgm_atom.specs.declared.entries.Entry.TheVariants.{Best, Lemma}
 use Rattle.cgm_atom.specs.Acceptance.{IsAccepted, IsClosed}
 use Rattle.cgm_atom.specs.Atoms.{atom_true}
-use Rattle.cgm_atom.specs.Bounds.{IsProper}
+use Rattle.cgm_atom.specs.Bounds.{AreProperBounds}
 use Rattle.cgm_atom.specs.Entailment.{Follows, IsUnderBound, best_values}
 use Rattle.cgm_atom.specs.Instance.{Instance, IsSolution, vector}
 use Rattle.cgm_atom.specs.Laws.{IsConcluded, IsEntailed}
@@ -70,7 +70,7 @@ concluded_by_bests p log (suc bound) [] e accepted le refuted solutions = absurd
 concluded_by_bests p log bound (x ∷ xs) e accepted le refuted solutions =
     concluded_at p log bound (length xs) (last_or (Some x) xs) (ap (λ (bests : List (List ℤ)). slice_get bests (length xs)) e ∙ last_at x xs) (some_last x xs) accepted le refuted solutions
 
-pub closed_log_is_least : (p : Instance) (log : List Entry) → IsProper p.bounds → IsAccepted p log → IsClosed log → IsConcluded p (last_best (state_of log))
+pub closed_log_is_least : (p : Instance) (log : List Entry) → AreProperBounds p.bounds → IsAccepted p log → IsClosed log → IsConcluded p (last_best (state_of log))
 unfolding state_of
 closed_log_is_least p log proper accepted closed =
     let closing = closing_bound p log empty_state log refl (all_entailed p log accepted) closed in

@@ -15,7 +15,7 @@ use Rattle.cgm_atom.specs.declared.constraints.Var.{Var}
 use Rattle.cgm_atom.specs.Bounds.{value_of}
 use Rattle.cgm_atom.specs.Cut.{cut, at_most_atom, with_lesser}
 use Rattle.cgm_atom.specs.Instance.{Instance, values_at, var_count, vector}
-use Rattle.cgm_atom.specs.Limits.{IsBound, IsWellFormed, AreValuesOf}
+use Rattle.cgm_atom.specs.Limits.{IsBound, IsWellFormedProblem, AreValuesOf}
 use Rattle.cgm_atom.specs.Constraints.{of_clause}
 use Rattle.cgm_atom.specs.ClauseAtoms.{AreKnown, cut_limit, part_atoms}
 
@@ -144,7 +144,7 @@ part_past values os objectives part e h =
     (ap (option_map of_clause) (slice_get_past (cut os (values_at values os)) part past))
 
 -- a part that is there, as it is looked up
-pub part_there : (p : Instance) (values : List ℤ) (os : List Var) (part : ℕ) → os ≡ p.objectives → IsWellFormed p → AreValuesOf p values → part < max 1 (length os)
+pub part_there : (p : Instance) (values : List ℤ) (os : List Var) (part : ℕ) → os ≡ p.objectives → IsWellFormedProblem p → AreValuesOf p values → part < max 1 (length os)
     → (option_map of_clause (slice_get (cut p.objectives (vector p values)) part) ≡ Some (of_clause (record { atoms = part_atoms os (values_at values os) part })))
     × ((All (λ v. v.0 < length values) os × All IsBound values × (part < max 1 (length os))) × AreKnown (var_count p) (part_atoms os (values_at values os) part))
 part_there p values os part e wf fit h =

@@ -11,7 +11,7 @@ use Rattle.cgm_atom.specs.declared.constraints.Var.{Var}
 use Rattle.cgm_atom.specs.Bounds.{Bounds, value_of, lower_of, upper_of}
 use Rattle.cgm_atom.specs.Building.{with_var}
 use Rattle.cgm_atom.specs.Instance.{Instance, var_count}
-use Rattle.cgm_atom.specs.Limits.{IsBound, IsAtomOf, IsClauseOf, AreTermsOf, IsRowOf, IsWellFormed, greatest_size, measure}
+use Rattle.cgm_atom.specs.Limits.{IsBound, IsAtomOf, IsClauseOf, AreTermsOf, IsRowOf, IsWellFormedProblem, greatest_size, measure}
 
 -- what holds of the two values at each place holds still after one more of each
 each_of_both_pushed : (P : ℤ → ℤ → Type 0) (ls us : List ℤ) (l u : ℤ) → P (pos 0) (pos 0) → length us ≡ length ls → ((x : ℕ) → P (value_of ls x) (value_of us x)) → P l u → (x : ℕ) → P (value_of (ls ++ l ∷ []) x) (value_of (us ++ u ∷ []) x)
@@ -63,7 +63,7 @@ row_of_pushed b lo hi r e h =
       least_limit = h.least_limit;
     }
 
-pub IsWellFormed-with_var : (p : Instance) (lo hi : ℤ) → IsWellFormed p → lo ≤ℤ hi → IsBound lo → IsBound hi → var_count p < 2 ^ 32 - 1 → IsWellFormed (with_var p lo hi)
+pub IsWellFormed-with_var : (p : Instance) (lo hi : ℤ) → IsWellFormedProblem p → lo ≤ℤ hi → IsBound lo → IsBound hi → var_count p < 2 ^ 32 - 1 → IsWellFormedProblem (with_var p lo hi)
 IsWellFormed-with_var p lo hi h order low high room =
     let more : length (p.bounds.lower ++ lo ∷ []) ≡ length p.bounds.lower + 1 = length-append p.bounds.lower (lo ∷ []) in
     let more_too : length (p.bounds.upper ++ hi ∷ []) ≡ length p.bounds.upper + 1 = length-append p.bounds.upper (hi ∷ []) in

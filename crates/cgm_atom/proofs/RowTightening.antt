@@ -8,13 +8,13 @@ use Rattle.std.proofs.lemmas.List.{get_or-set_other}
 use Rattle.cgm_atom.specs.declared.constraints.Atom.{Atom}
 use Rattle.cgm_atom.specs.declared.constraints.Row.{Row}
 use Rattle.cgm_atom.specs.declared.constraints.Var.{Var}
-use Rattle.cgm_atom.specs.Bounds.{Bounds, IsBoxOf, IsProper, lower_of, upper_of}
+use Rattle.cgm_atom.specs.Bounds.{Bounds, IsBoxOf, AreProperBounds, lower_of, upper_of}
 use Rattle.cgm_atom.specs.Limits.{AreTermsOf, IsAbsent}
 use Rattle.cgm_atom.specs.Narrowing.{greatest_activity, is_claimed_in, left_by_met, left_by_row, left_by_unmet, made_true, raised, reduced, tightened_by_term, tightened_by_terms}
 use Rattle.cgm_atom.specs.declared.outcome.Narrowed.{Narrowed}
 use Rattle.cgm_atom.specs.declared.outcome.Narrowed.TheVariants.{Same}
-use Rattle.cgm_atom.specs.Outcome.{IsTightening, joined}
-use Rattle.cgm_atom.specs.Steps.{AreBounds, IsKept}
+use Rattle.cgm_atom.specs.Outcome.{IsTightening, outcomes_joined}
+use Rattle.cgm_atom.specs.Steps.{AreBounds, IsKeptAtom}
 use Rattle.cgm_atom.proofs.Tightening.{AreBounds-inside, IsBoxOf-itself, tightening_after}
 
 -- two boxes have the same bounds of a variable
@@ -73,7 +73,7 @@ tightening_begins b room terms known sizes = record {
   within = λ limits box. box;
 }
 
-pub tightening_steps : (old : Bounds) (room : ℕ) (terms rest : List (ℤ × Var)) (t : ℤ × Var) (now new : Bounds) (a : Atom) (outcome step : Narrowed) → IsTightenedSoFar old room terms (t ∷ rest) now outcome → IsKept now room t.0 t.1 a → IsProper now → new ≡ made_true now a → IsTightening now new step → ((limits : Bounds) → IsBoxOf limits now → IsBoxOf limits new) → IsTightenedSoFar old room terms rest new (joined outcome step)
+pub tightening_steps : (old : Bounds) (room : ℕ) (terms rest : List (ℤ × Var)) (t : ℤ × Var) (now new : Bounds) (a : Atom) (outcome step : Narrowed) → IsTightenedSoFar old room terms (t ∷ rest) now outcome → IsKeptAtom now room t.0 t.1 a → AreProperBounds now → new ≡ made_true now a → IsTightening now new step → ((limits : Bounds) → IsBoxOf limits now → IsBoxOf limits new) → IsTightenedSoFar old room terms rest new (outcomes_joined outcome step)
 tightening_steps old room terms rest t now new a outcome step far kept proper e answer within =
     let own : IsBoxOf now new = within now (IsBoxOf-itself now proper) in
     let same : a.var.0 ≡ t.1.0 = ap (λ (x : Var). x.0) kept.var in

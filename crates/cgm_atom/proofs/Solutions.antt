@@ -9,7 +9,7 @@ use Rattle.std.proofs.lemmas.List.{get_or_past}
 use Rattle.cgm_atom.specs.declared.checks.Violated.{Violated}
 use Rattle.cgm_atom.specs.declared.checks.Violated.TheVariants as violated
 use Rattle.cgm_atom.specs.Atoms.{clause_true, row_true}
-use Rattle.cgm_atom.specs.Bounds.{Bounds, IsProper, IsWithin, lower_of, upper_of, value_of}
+use Rattle.cgm_atom.specs.Bounds.{Bounds, AreProperBounds, IsWithin, lower_of, upper_of, value_of}
 use Rattle.cgm_atom.specs.Instance.{Instance, IsSolution, fault_unless, first_some, first_violation, outside_from, var_count}
 
 -- ---- the first of the faults
@@ -87,17 +87,17 @@ none-outside_from b x (v ∷ values) h =
 le_refl : (x : ℤ) → x ≤ℤ x
 le_refl x = omega (arith, ints)
 
-within-past : (b : Bounds) (values : List ℤ) (x : ℕ) → IsProper b → length values ≡ length b.lower → length values ≤ x → IsBetween b x (value_of values x)
+within-past : (b : Bounds) (values : List ℤ) (x : ℕ) → AreProperBounds b → length values ≡ length b.lower → length values ≤ x → IsBetween b x (value_of values x)
 within-past b values x proper count past =
     let same : length b.upper ≡ length b.lower = proper.same_count in
     rw (get_or_past values x (pos 0) past, get_or_past b.lower x (pos 0) (omega arith), get_or_past b.upper x (pos 0) (omega arith))
     (le_refl (pos 0), le_refl (pos 0))
 
-within-at : (b : Bounds) (values : List ℤ) (x : ℕ) → IsProper b → length values ≡ length b.lower → outside_from b 0 values ≡ None → (x < length values) ⊎ (length values ≤ x) → IsBetween b x (value_of values x)
+within-at : (b : Bounds) (values : List ℤ) (x : ℕ) → AreProperBounds b → length values ≡ length b.lower → outside_from b 0 values ≡ None → (x < length values) ⊎ (length values ≤ x) → IsBetween b x (value_of values x)
 within-at b values x proper count h (inl lt) = rw (zero-add x) at (outside_from-none b 0 values h x lt)
 within-at b values x proper count h (inr past) = within-past b values x proper count past
 
-pub within-outside_from : (b : Bounds) (values : List ℤ) → IsProper b → length values ≡ length b.lower → outside_from b 0 values ≡ None → IsWithin b values
+pub within-outside_from : (b : Bounds) (values : List ℤ) → AreProperBounds b → length values ≡ length b.lower → outside_from b 0 values ≡ None → IsWithin b values
 within-outside_from b values proper count h = λ x. within-at b values x proper count h (cases_lt x (length values))
 
 pub outside_from-within : (b : Bounds) (values : List ℤ) → IsWithin b values → outside_from b 0 values ≡ None
@@ -105,7 +105,7 @@ outside_from-within b values h = none-outside_from b 0 values (λ i. rw (zero-ad
 
 -- ---- solutions
 
-pub solution-none : (p : Instance) (values : List ℤ) → IsProper p.bounds → first_violation p values ≡ None → IsSolution p values
+pub solution-none : (p : Instance) (values : List ℤ) → AreProperBounds p.bounds → first_violation p values ≡ None → IsSolution p values
 solution-none p values proper h =
     let count = first_some-none (fault_unless (length values == var_count p) violated.Count) _ h in
     let bound = first_some-none (option_map violated.Bound (outside_from p.bounds 0 values)) _ count.1 in
@@ -128,10 +128,10 @@ is_some-false : {X : Type 0} (o : Option X) → is_some o ≡ false → o ≡ No
 is_some-false None h = refl
 is_some-false (Some x) h = absurd (cc)
 
-pub none_exactly : (p : Instance) (values : List ℤ) (found : Option Violated) → IsProper p.bounds → found ≡ first_violation p values → IsNone found ↔ IsSolution p values
+pub none_exactly : (p : Instance) (values : List ℤ) (found : Option Violated) → AreProperBounds p.bounds → found ≡ first_violation p values → IsNone found ↔ IsSolution p values
 none_exactly p values found proper first =
     (λ none. solution-none p values proper (sym first ∙ is_some-false found none), λ solution. ap is_some (first ∙ none-solution p values solution))
 
-pub within_exactly : (b : Bounds) (values : List ℤ) (found : Option ℕ) → IsProper b → length values ≡ length b.lower → found ≡ outside_from b 0 values → IsNone found ↔ IsWithin b values
+pub within_exactly : (b : Bounds) (values : List ℤ) (found : Option ℕ) → AreProperBounds b → length values ≡ length b.lower → found ≡ outside_from b 0 values → IsNone found ↔ IsWithin b values
 within_exactly b values found proper count first =
     (λ none. within-outside_from b values proper count (sym first ∙ is_some-false found none), λ within. ap is_some (first ∙ outside_from-within b values within))

@@ -7,11 +7,11 @@ use Rattle.std.specs.Int.{int_max, int_min}
 use Rattle.std.proofs.lemmas.Int.{ints, clamps}
 use Rattle.std.proofs.lemmas.List.{get_or-set_same}
 use Rattle.cgm_atom.specs.declared.constraints.Atom.{Atom}
-use Rattle.cgm_atom.specs.Bounds.{Bounds, IsBoxOf, IsInside, IsProper, lower_of, upper_of}
+use Rattle.cgm_atom.specs.Bounds.{Bounds, IsBoxOf, IsInside, AreProperBounds, lower_of, upper_of}
 use Rattle.cgm_atom.specs.Narrowing.{is_false_in, is_true_in, made_true, raised, reduced}
 use Rattle.cgm_atom.specs.declared.outcome.Narrowed.{Narrowed}
 use Rattle.cgm_atom.specs.declared.outcome.Narrowed.TheVariants.{Same, Tighter, Conflict}
-use Rattle.cgm_atom.specs.Outcome.{IsNarrower, IsNarrowing, IsTightening, joined}
+use Rattle.cgm_atom.specs.Outcome.{IsNarrower, IsNarrowing, IsTightening, outcomes_joined}
 use Rattle.cgm_atom.specs.Steps.{AreBounds}
 use Rattle.cgm_atom.specs.Limits.{max_bound}
 use Rattle.cgm_atom.proofs.SignedSteps.{≤ℤ_refl, ≤ℤ_trans}
@@ -64,7 +64,7 @@ narrowing_from left old new Tighter e h = (e, narrower_differs old new h)
 narrowing_from left old new Conflict e h = absurd h
 
 -- a second step after a first
-pub tightening_after : (old mid new : Bounds) (first second : Narrowed) → IsInside new mid → IsTightening old mid first → IsTightening mid new second → IsTightening old new (joined first second)
+pub tightening_after : (old mid new : Bounds) (first second : Narrowed) → IsInside new mid → IsTightening old mid first → IsTightening mid new second → IsTightening old new (outcomes_joined first second)
 tightening_after old mid new Same Same inside h k = k ∙ h
 tightening_after old mid new Same Tighter inside h k = subst (λ (b : Bounds). IsNarrower new b) h k
 tightening_after old mid new Same Conflict inside h k = k
@@ -83,7 +83,7 @@ AreBounds-inside outer inner sizes inside ordered x = (
 )
 
 -- a box is one within itself
-pub IsBoxOf-itself : (b : Bounds) → IsProper b → IsBoxOf b b
+pub IsBoxOf-itself : (b : Bounds) → AreProperBounds b → IsBoxOf b b
 IsBoxOf-itself b proper = record {
   lower_count = refl;
   upper_count = proper.same_count;

@@ -24,7 +24,7 @@ abbrev pub IsInside : Bounds → Bounds → Type 0
 IsInside inner outer = (x : ℕ) → (lower_of outer x ≤ℤ lower_of inner x) × (upper_of inner x ≤ℤ upper_of outer x)
 
 -- each variable has a least and a greatest value, in this order
-pub record IsProper (b : Bounds) : Type 0 where
+pub record AreProperBounds (b : Bounds) : Type 0 where
   pub same_count : length b.upper ≡ length b.lower
   pub ordered : (x : ℕ) → lower_of b x ≤ℤ upper_of b x
 

@@ -10,7 +10,7 @@ use Rattle.cgm_atom.specs.declared.entries.Entry.TheVariants.{Best, Lemma}
 use Rattle.cgm_atom.specs.declared.entries.Hint.{Hint}
 use Rattle.cgm_atom.specs.Acceptance.{IsAccepted, IsAcceptedState, IsClosed, first_fault}
 use Rattle.cgm_atom.specs.Atoms.{atom_true, clause_true, row_true}
-use Rattle.cgm_atom.specs.Bounds.{Bounds, IsInside, IsProper, IsWithin}
+use Rattle.cgm_atom.specs.Bounds.{Bounds, IsInside, AreProperBounds, IsWithin}
 use Rattle.cgm_atom.specs.Cut.{cut}
 use Rattle.cgm_atom.specs.Entailment.{Follows, best_values}
 use Rattle.cgm_atom.specs.Instance.{Instance, HasNoSolution, IsLeast, IsSolution, values_at}
@@ -116,7 +116,7 @@ LemmasFollow = (p : Instance) (log : List Entry) → IsAccepted p log → All (I
 abbrev pub BestsAreSolutions : Type 0
 BestsAreSolutions =
     (p : Instance) (log : List Entry)
-    → IsProper p.bounds
+    → AreProperBounds p.bounds
     → IsAccepted p log
     → All (IsSolution p) (best_values log)
 
@@ -143,7 +143,7 @@ IsConcluded p (Some values) = IsSolution p values × IsLeast p values
 abbrev pub ClosedLogIsLeast : Type 0
 ClosedLogIsLeast =
     (p : Instance) (log : List Entry)
-    → IsProper p.bounds
+    → AreProperBounds p.bounds
     → IsAccepted p log
     → IsClosed log
     → IsConcluded p (last_best (state_of log))

@@ -5,7 +5,7 @@ use Rattle.cgm_atom.specs.declared.constraints.Atom.{Atom}
 use Rattle.cgm_atom.specs.declared.constraints.Clause.{Clause}
 use Rattle.cgm_atom.specs.declared.constraints.Row.{Row}
 use Rattle.cgm_atom.specs.declared.constraints.Var.{Var}
-use Rattle.cgm_atom.specs.Bounds.{Bounds, IsProper, lower_of, upper_of}
+use Rattle.cgm_atom.specs.Bounds.{Bounds, AreProperBounds, lower_of, upper_of}
 use Rattle.cgm_atom.specs.Instance.{Instance, var_count}
 
 -- ---- the limits
@@ -85,8 +85,8 @@ pub record AreValuesOf (p : Instance) (values : List ℤ) : Type 0 where
   pub count : length values ≡ var_count p
   pub sizes : All IsBound values
 
-pub record IsWellFormed (p : Instance) : Type 0 where
-  pub proper : IsProper p.bounds
+pub record IsWellFormedProblem (p : Instance) : Type 0 where
+  pub proper : AreProperBounds p.bounds
   pub sizes : (x : ℕ) → IsBound (lower_of p.bounds x) × IsBound (upper_of p.bounds x)
   pub clauses : All (IsClauseOf (var_count p)) p.clauses
   pub rows : All (IsRowOf p.bounds) p.rows

@@ -30,7 +30,7 @@ IsTightening old new Tighter = IsNarrower new old
 IsTightening old new Conflict = ⊥
 
 -- the answer of two steps, the second after the first
-abbrev pub joined : Narrowed → Narrowed → Narrowed
-joined Same second = second
-joined Tighter second = Tighter
-joined Conflict second = Conflict
+abbrev pub outcomes_joined : Narrowed → Narrowed → Narrowed
+outcomes_joined Same second = second
+outcomes_joined Tighter second = Tighter
+outcomes_joined Conflict second = Conflict

@@ -11,7 +11,7 @@ abbrev pub AreBounds : Bounds → Type 0
 AreBounds b = (x : ℕ) → IsBound (lower_of b x) × IsBound (upper_of b x)
 
 -- the atom that a term with so much room makes true
-pub record IsKept (b : Bounds) (room : ℕ) (c : ℤ) (x : Var) (a : Atom) : Type 0 where
+pub record IsKeptAtom (b : Bounds) (room : ℕ) (c : ℤ) (x : Var) (a : Atom) : Type 0 where
   pub var : a.var ≡ x
   pub known : a.var.0 < length b.lower
   pub unmet : is_false_in b a ≡ false

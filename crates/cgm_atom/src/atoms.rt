@@ -1,7 +1,7 @@
 //! Atoms in a box.
 ghost use Rattle.std.specs.Prelude.{◌≡◌, ◌<◌, length, true, false, MatchOption};
 ghost use Rattle.cgm_atom.specs.Atoms.{negation};
-ghost use Rattle.cgm_atom.specs.Bounds.{Bounds, IsBoxOf, IsProper};
+ghost use Rattle.cgm_atom.specs.Bounds.{Bounds, IsBoxOf, AreProperBounds};
 ghost use Rattle.cgm_atom.specs.Narrowing.{is_false_in, is_true_in, made_true};
 ghost use Rattle.cgm_atom.specs.Outcome.{IsTightening};
 
@@ -13,7 +13,7 @@ use crate::outcome::Narrowed;
 pub fn is_true(bounds: &BoxState, atom: Atom) -> bool
     requires { atom.var.0 < length bounds.now.lower }
     ensures value { result ≡ is_true_in bounds.now atom }
-    ensures proper { IsProper bounds.now }
+    ensures proper { AreProperBounds bounds.now }
 {
     if atom.at_least {
         atom.k <= bounds.lo(atom.var)

@@ -1,6 +1,6 @@
 //! Boxes.
 ghost use Rattle.std.specs.Prelude.{◌≡◌, ℕ, ◌<◌, ◌≤ℤ◌, cond, length, not, if◌then◌else◌, int_lt, IsTrue, IfOk};
-ghost use Rattle.cgm_atom.specs.Bounds.{Bounds, IsBoxOf, IsProper, lower_of, upper_of};
+ghost use Rattle.cgm_atom.specs.Bounds.{Bounds, IsBoxOf, AreProperBounds, lower_of, upper_of};
 ghost use Rattle.cgm_atom.specs.Narrowing.{is_false_in, is_true_in, made_true};
 ghost use Rattle.cgm_atom.specs.Relaxing.{IsNumberWithin, relaxed};
 
@@ -22,11 +22,11 @@ impl Model for BoxState {
     ghost Value = { Bounds };
 
     ghost use Rattle.cgm_atom.specs.Fields.{box_bounds};
-    ghost use Rattle.cgm_atom.specs.Bounds.{IsProper};
+    ghost use Rattle.cgm_atom.specs.Bounds.{AreProperBounds};
 
     ghost view = { box_bounds };
 
-    ghost invariant = { λ b. IsProper (box_bounds b) };
+    ghost invariant = { λ b. AreProperBounds (box_bounds b) };
 }
 
 impl BoxState {
@@ -65,7 +65,7 @@ impl BoxState {
     pub fn lo(&self, variable: Var) -> i64
         requires { variable.0 < length self.now.lower }
         ensures value { result ≡ lower_of self.now variable.0 }
-        ensures proper { IsProper self.now }
+        ensures proper { AreProperBounds self.now }
     {
         self.lower[variable.0 as usize]
     }
@@ -74,7 +74,7 @@ impl BoxState {
     pub fn hi(&self, variable: Var) -> i64
         requires { variable.0 < length self.now.lower }
         ensures value { result ≡ upper_of self.now variable.0 }
-        ensures proper { IsProper self.now }
+        ensures proper { AreProperBounds self.now }
     {
         self.upper[variable.0 as usize]
     }

@@ -4,7 +4,7 @@ ghost use Rattle.std.specs.BTreeSet.{contains};
 ghost use Rattle.cgm_atom.specs.Bounds.{lower_of, upper_of};
 ghost use Rattle.cgm_atom.specs.Building.{HasOneMore, IsRowAnswer, IsRowSize, IsVarAnswer, empty_instance, atom_order, first_atoms as first_atoms_after, with_clause, with_objective, without_repeats};
 ghost use Rattle.cgm_atom.specs.Instance.{var_count};
-ghost use Rattle.cgm_atom.specs.Limits.{AreTermsOf, IsBound, IsClauseOf, IsWellFormed, greatest_size, max_bound, max_measure, max_objectives, measure};
+ghost use Rattle.cgm_atom.specs.Limits.{AreTermsOf, IsBound, IsClauseOf, IsWellFormedProblem, greatest_size, max_bound, max_measure, max_objectives, measure};
 
 use crate::constraints::{Atom, Clause, Row, Var};
 use crate::limits::{MAX_BOUND, MAX_LEAST, MAX_MEASURE};
@@ -54,7 +54,7 @@ impl ProblemBuilder {
 
     /// What holds of the problem so far, for the proof of a caller.
     pub fn recall_well_formed(&self)
-        ensures { IsWellFormed self.now }
+        ensures { IsWellFormedProblem self.now }
     {
         self.problem.recall_well_formed();
     }

@@ -13,11 +13,11 @@ pub enum Narrowed {
 }
 
 impl Narrowed {
-    ghost use Rattle.cgm_atom.specs.Outcome.{joined};
+    ghost use Rattle.cgm_atom.specs.Outcome.{outcomes_joined};
 
     /// The answer of this step and one after it.
     pub(crate) fn then(self, second: Narrowed) -> Narrowed
-        ensures { result ≡ joined self second }
+        ensures { result ≡ outcomes_joined self second }
     {
         match self {
             Narrowed::Same => second,

@@ -3,7 +3,7 @@ ghost use Rattle.std.specs.Prelude.{◌≡◌, ℕ, ◌+◌, ◌-◌, ◌^◌, �
 ghost use Rattle.cgm_atom.specs.Bounds.{lower_of, upper_of};
 ghost use Rattle.cgm_atom.specs.Building.{IsRowSize, empty_instance, with_clause, with_objective, with_row, with_var};
 ghost use Rattle.cgm_atom.specs.Instance.{var_count};
-ghost use Rattle.cgm_atom.specs.Limits.{AreTermsOf, IsBound, IsClauseOf, IsRowOf, IsWellFormed, max_objectives};
+ghost use Rattle.cgm_atom.specs.Limits.{AreTermsOf, IsBound, IsClauseOf, IsRowOf, IsWellFormedProblem, max_objectives};
 
 use crate::constraints::{Clause, Row, Var};
 use std::alloc::{AllocError as OutOfMemory, Global};
@@ -22,7 +22,7 @@ pub struct Problem {
 
 impl Model for Problem {
     ghost use Rattle.cgm_atom.specs.Instance.{Instance};
-    ghost use Rattle.cgm_atom.specs.Limits.{IsWellFormed};
+    ghost use Rattle.cgm_atom.specs.Limits.{IsWellFormedProblem};
 
     ghost Value = { Instance };
 
@@ -30,14 +30,14 @@ impl Model for Problem {
 
     ghost view = { instance };
 
-    ghost invariant = { λ p. IsWellFormed (instance p) };
+    ghost invariant = { λ p. IsWellFormedProblem (instance p) };
 }
 
 impl Problem {
     /// How many variables there are.
     pub fn vars(&self) -> u32
         ensures count { result ≡ var_count self.now }
-        ensures valid { IsWellFormed self.now }
+        ensures valid { IsWellFormedProblem self.now }
     {
         self.lower.len() as u32
     }
@@ -46,7 +46,7 @@ impl Problem {
     pub fn bounds(&self, variable: Var) -> (i64, i64)
         requires { variable.0 < var_count self.now }
         ensures bounds { result ≡ (lower_of self.now.bounds variable.0, upper_of self.now.bounds variable.0) }
-        ensures valid { IsWellFormed self.now }
+        ensures valid { IsWellFormedProblem self.now }
     {
         let at = variable.0 as usize;
         (self.lower[at], self.upper[at])
@@ -64,7 +64,7 @@ impl Problem {
     /// How many clauses there are.
     pub fn clauses(&self) -> u32
         ensures count { result ≡ length self.now.clauses }
-        ensures valid { IsWellFormed self.now }
+        ensures valid { IsWellFormedProblem self.now }
     {
         self.clauses.len() as u32
     }
@@ -81,7 +81,7 @@ impl Problem {
     /// How many rows there are.
     pub fn rows(&self) -> u32
         ensures count { result ≡ length self.now.rows }
-        ensures valid { IsWellFormed self.now }
+        ensures valid { IsWellFormedProblem self.now }
     {
         self.rows.len() as u32
     }
@@ -89,14 +89,14 @@ impl Problem {
     /// The objective variables, in their order.
     pub fn objectives(&self) -> &[Var]
         ensures objectives { result.now ≡ self.now.objectives }
-        ensures valid { IsWellFormed self.now }
+        ensures valid { IsWellFormedProblem self.now }
     {
         self.objectives.as_slice()
     }
 
     /// Does nothing: a proof learns here that the problem is well formed.
     pub fn recall_well_formed(&self)
-        ensures { IsWellFormed self.now }
+        ensures { IsWellFormedProblem self.now }
     {
         let _ = &self.lower;
     }

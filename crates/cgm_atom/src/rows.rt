@@ -1,10 +1,10 @@
 //! Narrowing by a row.
 ghost use Rattle.std.specs.Prelude.{◌≡◌, ◌≢◌, ◌+◌, ◌*◌, ◌^◌, ◌<◌, ◌≤◌, length, pos, ◌+ℤ◌, ◌-ℤ◌, ◌*ℤ◌, ◌≤ℤ◌, unsigned_abs, IfSome};
-ghost use Rattle.cgm_atom.specs.Bounds.{Bounds, IsBoxOf, IsProper, lower_of, upper_of};
+ghost use Rattle.cgm_atom.specs.Bounds.{Bounds, IsBoxOf, AreProperBounds, lower_of, upper_of};
 ghost use Rattle.cgm_atom.specs.Limits.{AreTermsOf, IsBound, IsRowOf, greatest_size, max_least, max_measure, max_room, measure};
 ghost use Rattle.cgm_atom.specs.Narrowing.{greatest_activity as greatest_activity_in, greatest_term as greatest_term_in, is_claimed_in, kept_atom, left_by_row, left_by_unmet, tightened_by_terms};
 ghost use Rattle.cgm_atom.specs.Outcome.{IsNarrowing, IsTightening};
-ghost use Rattle.cgm_atom.specs.Steps.{AreBounds, IsKept};
+ghost use Rattle.cgm_atom.specs.Steps.{AreBounds, IsKeptAtom};
 
 use crate::arithmetic::{product, sum_of};
 use crate::atoms::{is_true, make_true, negated};
@@ -80,8 +80,8 @@ pub fn kept_by_term(bounds: &BoxState, room: u64, term: &(i64, Var)) -> Atom
     requires low { IsBound (lower_of bounds.now term.now.1.0) }
     requires high { IsBound (upper_of bounds.now term.now.1.0) }
     ensures atom { result ≡ kept_atom bounds.now room term.now.0 term.now.1 }
-    ensures kept { IsKept bounds.now room term.now.0 term.now.1 result }
-    ensures proper { IsProper bounds.now }
+    ensures kept { IsKeptAtom bounds.now room term.now.0 term.now.1 result }
+    ensures proper { AreProperBounds bounds.now }
 {
     let by = room / term.0.unsigned_abs();
     if term.0 < 0 {

@@ -7,19 +7,19 @@ use Rattle.std.proofs.lemmas.Bool.Decides.{nat_tests}
 use Rattle.cgm_cases.specs.declared.flaw.Flaw.{Flaw}
 use Rattle.cgm_cases.specs.declared.flaw.Flaw.TheVariants.{Form, Memory}
 use Rattle.cgm_cases.specs.Flaws.{OnForm}
-use Rattle.cgm_cases.specs.Content.{followed, content, line_bytes, is_nothing}
+use Rattle.cgm_cases.specs.Content.{bytes_followed, content_bytes, line_bytes, is_nothing}
 use Rattle.cgm_cases.proofs.Following.{followed-append}
 
 -- a line whose bytes are known comes before the rest
 pub content_step : (front more line : List ℕ) (rest : List (List ℕ)) → line_bytes line (is_nothing rest) ≡ Some more
-    → followed (Some front) (content (line ∷ rest)) ≡ followed (Some (front ++ more)) (content rest)
+    → bytes_followed (Some front) (content_bytes (line ∷ rest)) ≡ bytes_followed (Some (front ++ more)) (content_bytes rest)
 content_step front more line rest found =
-    ap (λ first. followed (Some front) (followed first (content rest))) found ∙ followed-append front more (content rest)
+    ap (λ first. bytes_followed (Some front) (bytes_followed first (content_bytes rest))) found ∙ followed-append front more (content_bytes rest)
 
--- a line that spells nothing leaves no content
+-- a line that spells nothing leaves no content_bytes
 pub content_flaw : (front line : List ℕ) (rest : List (List ℕ)) → line_bytes line (is_nothing rest) ≡ None
-    → followed (Some front) (content (line ∷ rest)) ≡ None
-content_flaw front line rest flaw = ap (λ first. followed (Some front) (followed first (content rest))) flaw
+    → bytes_followed (Some front) (content_bytes (line ∷ rest)) ≡ None
+content_flaw front line rest flaw = ap (λ first. bytes_followed (Some front) (bytes_followed first (content_bytes rest))) flaw
 
 -- the items from a place on are the one there and those after it
 pub items_from : {A : Type 0} (f : A → List ℕ) (xs : List A) (i : ℕ) (d : A) → i < length xs
@@ -48,18 +48,18 @@ nothing_after f xs i inside =
 pub content_at_line : {A : Type 0} (f : A → List ℕ) (xs : List A) (i : ℕ) (d : A) (front now : List ℕ)
     → i < length xs
     → (more : List ℕ) × ((line_bytes (f (get_or xs i d)) (nat_eq (i + 1) (length xs)) ≡ Some more) × (now ≡ front ++ more))
-    → followed (Some front) (content (map f (drop i xs))) ≡ followed (Some now) (content (map f (drop (i + 1) xs)))
+    → bytes_followed (Some front) (content_bytes (map f (drop i xs))) ≡ bytes_followed (Some now) (content_bytes (map f (drop (i + 1) xs)))
 content_at_line f xs i d front now inside (more, (found, grown)) =
-    ap (λ lines. followed (Some front) (content lines)) (items_from f xs i d inside)
+    ap (λ lines. bytes_followed (Some front) (content_bytes lines)) (items_from f xs i d inside)
     ∙ content_step front more (f (get_or xs i d)) (map f (drop (i + 1) xs)) (ap (line_bytes (f (get_or xs i d))) (nothing_after f xs i inside) ∙ found)
-    ∙ ap (λ bytes. followed (Some bytes) (content (map f (drop (i + 1) xs)))) (sym grown)
+    ∙ ap (λ bytes. bytes_followed (Some bytes) (content_bytes (map f (drop (i + 1) xs)))) (sym grown)
 
--- the line at a place that spells nothing leaves no content
+-- the line at a place that spells nothing leaves no content_bytes
 pub content_at_flaw : {A : Type 0} (f : A → List ℕ) (xs : List A) (i : ℕ) (d : A) (front : List ℕ)
     → i < length xs → line_bytes (f (get_or xs i d)) (nat_eq (i + 1) (length xs)) ≡ None
-    → followed (Some front) (content (map f (drop i xs))) ≡ None
+    → bytes_followed (Some front) (content_bytes (map f (drop i xs))) ≡ None
 content_at_flaw f xs i d front inside flaw =
-    ap (λ lines. followed (Some front) (content lines)) (items_from f xs i d inside)
+    ap (λ lines. bytes_followed (Some front) (content_bytes lines)) (items_from f xs i d inside)
     ∙ content_flaw front (f (get_or xs i d)) (map f (drop (i + 1) xs)) (ap (line_bytes (f (get_or xs i d))) (nothing_after f xs i inside) ∙ flaw)
 
 -- what follows from a fact of a flaw of the form is one too

@@ -3,7 +3,7 @@ use Rattle.std.proofs.Common.{◌≡◌, ◌↔◌, ℕ, List, ◌∷◌, All, S
 use Rattle.std.specs.declared.alloc.Global.{Global}
 use Rattle.std.specs.String.{string_bytes}
 use Rattle.std.proofs.lemmas.List.Elements.{All-cons, All-head, All-rest, All-same}
-use Rattle.cgm_cases.specs.Agreement.{IsWrittenTo, Names}
+use Rattle.cgm_cases.specs.Agreement.{IsWrittenTo, NamesFile}
 
 -- where it holds of the first that is left, it is left to the others
 pub each_step : {X : Type 0} (P : X → Type 0) (all left rest : List X) (x : X) → left ≡ x ∷ rest → P x
@@ -21,17 +21,17 @@ each_stop P all left rest x split other same =
 
 -- a first word that names the file
 pub written_here : (words : List (String Global)) (word : String Global) (rest : List (String Global)) (name : List ℕ)
-    → words ≡ word ∷ rest → Names (string_bytes word) name → IsWrittenTo words name
+    → words ≡ word ∷ rest → NamesFile (string_bytes word) name → IsWrittenTo words name
 written_here words word rest name split named =
     subst (λ (w : List (String Global)). IsWrittenTo w name) (sym split) (inl named)
 
 written_case : (word : String Global) (rest : List (String Global)) (name : List ℕ)
-    → ¬ Names (string_bytes word) name → IsWrittenTo (word ∷ rest) name → IsWrittenTo rest name
+    → ¬ NamesFile (string_bytes word) name → IsWrittenTo (word ∷ rest) name → IsWrittenTo rest name
 written_case word rest name other = elim [ inl named ↦ absurd (other named) | inr later ↦ later ]
 
 -- a first word that doesn't
 pub written_later : (all words : List (String Global)) (word : String Global) (rest : List (String Global)) (name : List ℕ)
-    → words ≡ word ∷ rest → ¬ Names (string_bytes word) name → (IsWrittenTo all name ↔ IsWrittenTo words name)
+    → words ≡ word ∷ rest → ¬ NamesFile (string_bytes word) name → (IsWrittenTo all name ↔ IsWrittenTo words name)
     → (IsWrittenTo all name ↔ IsWrittenTo rest name)
 written_later all words word rest name split other same = (
   (λ held. written_case word rest name other (subst (λ (w : List (String Global)). IsWrittenTo w name) split (same.0 held))),

@@ -14,30 +14,30 @@ IsOutput Whole wanted printed = printed ≡ wanted
 IsOutput Front wanted printed = take (length wanted) printed ≡ wanted
 
 -- the files have these bytes under the wanted file's name, or none where it has none
-abbrev pub IsLeft : Files → WantedFile → Type 0
-IsLeft files file = files (string_bytes file.name) ≡ option_map (λ bytes. bytes.items) file.bytes
+abbrev pub IsLeftFile : Files → WantedFile → Type 0
+IsLeftFile files file = files (string_bytes file.name) ≡ option_map (λ bytes. bytes.items) file.bytes
 
 -- these bytes are the front and then the rest
 abbrev pub IsJoined : List ℕ → List ℕ → List ℕ → Type 0
 IsJoined bytes front rest = (take (length front) bytes ≡ front) × (drop (length front) bytes ≡ rest)
 
 -- the word names this file as one that is written
-abbrev pub Names : List ℕ → List ℕ → Type 0
-Names word name = IsJoined word (codes "--cert=") name ⊎ IsJoined word (codes "--core=") name
+abbrev pub NamesFile : List ℕ → List ℕ → Type 0
+NamesFile word name = IsJoined word (codes "--cert=") name ⊎ IsJoined word (codes "--core=") name
 
 -- one of the words does
 abbrev pub IsWrittenTo : List (String Global) → List ℕ → Type 0
 IsWrittenTo [] name = ⊥
-IsWrittenTo (word ∷ words) name = Names (string_bytes word) name ⊎ IsWrittenTo words name
+IsWrittenTo (word ∷ words) name = NamesFile (string_bytes word) name ⊎ IsWrittenTo words name
 
 -- a file is as before, or a word names it as one that is written
-abbrev pub IsKept : List (String Global) → Files → Files → List ℕ → Type 0
-IsKept words before after name = IsWrittenTo words name ⊎ (after name ≡ before name)
+abbrev pub IsKeptFile : List (String Global) → Files → Files → List ℕ → Type 0
+IsKeptFile words before after name = IsWrittenTo words name ⊎ (after name ≡ before name)
 
 -- the run ended with the wanted status and the wanted output, left each wanted file so, and of the files with these names
 -- it changed none but those that its words name
-pub record IsGiven (run : Run) (code : ℕ) (printed : List ℕ) (names : List (String Global)) (before after : Files) : Type 0 where
+pub record IsWantedEnd (run : Run) (code : ℕ) (printed : List ℕ) (names : List (String Global)) (before after : Files) : Type 0 where
   pub status : code ≡ run.status.code
   pub output : IsOutput run.output.extent run.output.bytes.items printed
-  pub files : All (IsLeft after) run.files.items
-  pub kept : All (λ name. IsKept run.words.items before after (string_bytes name)) names
+  pub files : All (IsLeftFile after) run.files.items
+  pub kept : All (λ name. IsKeptFile run.words.items before after (string_bytes name)) names

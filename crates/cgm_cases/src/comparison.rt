@@ -5,7 +5,7 @@ ghost use Rattle.std.specs.String.{string_bytes};
 ghost use Rattle.cgm_base.specs.Status.{code_of};
 ghost use Rattle.cgm_shelf.specs.MemShelf.{mem_files};
 ghost use Rattle.cgm_cases.specs.Folder.{files_of};
-ghost use Rattle.cgm_cases.specs.Agreement.{IsGiven, IsJoined, IsKept, IsLeft, IsOutput, IsWrittenTo, Names};
+ghost use Rattle.cgm_cases.specs.Agreement.{IsWantedEnd, IsJoined, IsKeptFile, IsLeftFile, IsOutput, IsWrittenTo, NamesFile};
 
 use crate::case::{Extent, Output, Run, WantedFile};
 use crate::folder::Folder;
@@ -36,7 +36,7 @@ pub(crate) enum Difference<'a> {
 
 /// What differs first between a run and what it must give, or none where nothing does.
 pub(crate) fn first_difference<'a>(run: &'a Run, ended: &Ended<'a>) -> Option<Difference<'a>>
-    ensures { IsNone result ↔ IsGiven run.now (code_of ended.now.status) ended.now.printed.now
+    ensures { IsNone result ↔ IsWantedEnd run.now (code_of ended.now.status) ended.now.printed.now
         ended.now.names.now (files_of ended.now.before.now) (mem_files ended.now.after.now) }
 {
     if ended.status.code() as u64 != run.status.code {
@@ -51,8 +51,8 @@ pub(crate) fn first_difference<'a>(run: &'a Run, ended: &Ended<'a>) -> Option<Di
 
 /// The first file that isn't as it must be, or none where each is.
 fn first_file<'a>(run: &'a Run, ended: &Ended<'a>) -> Option<Difference<'a>>
-    ensures { IsNone result ↔ (All (IsLeft (mem_files ended.now.after.now)) run.now.files.items
-        × All (λ name. IsKept run.now.words.items (files_of ended.now.before.now)
+    ensures { IsNone result ↔ (All (IsLeftFile (mem_files ended.now.after.now)) run.now.files.items
+        × All (λ name. IsKeptFile run.now.words.items (files_of ended.now.before.now)
         (mem_files ended.now.after.now) (string_bytes name)) ended.now.names.now) }
 {
     match other_file(run.files.as_slice(), ended.after) {
@@ -87,7 +87,7 @@ fn begins_with(bytes: &[u8], front: &[u8]) -> bool
 
 /// The first wanted file that the shelf doesn't have so.
 fn other_file<'a>(files: &'a [WantedFile], shelf: &MemShelf) -> Option<&'a WantedFile>
-    ensures { IsNone result ↔ All (IsLeft (mem_files shelf.now)) files.now }
+    ensures { IsNone result ↔ All (IsLeftFile (mem_files shelf.now)) files.now }
 {
     let mut left = files;
     while let Some((file, rest)) = left.split_first() {
@@ -102,7 +102,7 @@ fn other_file<'a>(files: &'a [WantedFile], shelf: &MemShelf) -> Option<&'a Wante
 
 /// Whether the shelf has the wanted file, or none where none is wanted.
 fn is_left(file: &WantedFile, shelf: &MemShelf) -> bool
-    ensures { IsTrue result ↔ IsLeft (mem_files shelf.now) file.now }
+    ensures { IsTrue result ↔ IsLeftFile (mem_files shelf.now) file.now }
 {
     are_same(shelf.bytes(file.name.as_str()), wanted_bytes(file))
 }
@@ -124,7 +124,7 @@ fn changed_file<'a>(
     before: &Folder,
     after: &MemShelf,
 ) -> Option<&'a str>
-    ensures { IsNone result ↔ All (λ name. IsKept words.now (files_of before.now)
+    ensures { IsNone result ↔ All (λ name. IsKeptFile words.now (files_of before.now)
         (mem_files after.now) (string_bytes name)) names.now }
 {
     let mut left = names;
@@ -140,7 +140,7 @@ fn changed_file<'a>(
 
 /// Whether a file is as before, or is one that a word of the run names.
 fn is_kept(words: &[String], name: &str, before: &Folder, after: &MemShelf) -> bool
-    ensures { IsTrue result ↔ IsKept words.now (files_of before.now) (mem_files after.now) name.now }
+    ensures { IsTrue result ↔ IsKeptFile words.now (files_of before.now) (mem_files after.now) name.now }
 {
     if is_written_to(words, name) {
         return true;
@@ -164,7 +164,7 @@ fn is_written_to(words: &[String], name: &str) -> bool
 
 /// Whether the word names the file as one that is written.
 fn names_written(word: &str, name: &str) -> bool
-    ensures { IsTrue result ↔ Names word.now name.now }
+    ensures { IsTrue result ↔ NamesFile word.now name.now }
 {
     if is_joined(word.as_bytes(), b"--cert=", name.as_bytes()) {
         return true;

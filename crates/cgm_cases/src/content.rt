@@ -1,6 +1,6 @@
 //! Content lines: the bytes that they spell together.
 ghost use Rattle.std.specs.Prelude.{◌≡◌, ℕ, List, ◌++◌, ◌==◌, length, take_while, reverse, map, IfOk, IfErr, OnOk, IfSome, None, Some};
-ghost use Rattle.cgm_cases.specs.Content.{content, is_open as ends_open, line_bytes, unescaped};
+ghost use Rattle.cgm_cases.specs.Content.{content_bytes, is_open as ends_open, line_bytes, unescaped};
 ghost use Rattle.cgm_cases.specs.Flaws.{OnForm};
 
 use crate::directive::Line;
@@ -8,12 +8,12 @@ use crate::escapes::unescape;
 use crate::flaw::{Fault, Flaw};
 use std::alloc::Global;
 
-/// The bytes of content lines. Each has its line feed, unless a lone backslash takes away the last
+/// The bytes of content_bytes lines. Each has its line feed, unless a lone backslash takes away the last
 /// one's.
 pub(crate) fn content_of(alloc: Global, lines: &[Line<'_>]) -> Result<Vec<u8>, Flaw>
-    ensures bytes { IfOk result (λ bytes. content (map (λ line. line.bytes.now) lines.now)
+    ensures bytes { IfOk result (λ bytes. content_bytes (map (λ line. line.bytes.now) lines.now)
         ≡ Some bytes.items) }
-    ensures flaw { IfErr result (OnForm (content (map (λ line. line.bytes.now) lines.now) ≡ None)) }
+    ensures flaw { IfErr result (OnForm (content_bytes (map (λ line. line.bytes.now) lines.now) ≡ None)) }
 {
     let mut bytes = Vec::new(alloc);
     for at in 0..lines.len() {

@@ -17,10 +17,10 @@ use Rattle.cgm_atom.specs.Constraints.{Constraint, of_clause}
 use Rattle.cgm_atom.specs.Instance.{Instance}
 use Rattle.cgm_atom.specs.Limits.{IsClauseOf}
 use Rattle.cgm_atom.specs.LogState.{LogState, named}
-use Rattle.cgm_trail.specs.Landing.{landed}
+use Rattle.cgm_trail.specs.Landing.{hint_landed}
 use Rattle.cgm_clauses.specs.declared.named.Named.{Named}
 use Rattle.cgm_clauses.specs.Standing.{IsQuietIn}
-use Rattle.cgm_clauses.specs.StoreState.{IsForgotten, IsKnown, IsNamedIn, IsStoreOf, StoreState, all_clauses, landed_named, numbered}
+use Rattle.cgm_clauses.specs.StoreState.{IsForgotten, HasKnownVariables, IsPairIn, IsStoreOf, StoreState, all_clauses, landed_named, numbered}
 use Rattle.cgm_clauses.specs.Sweeping.{AreQuiet}
 
 -- ---- the clauses of a problem
@@ -40,10 +40,10 @@ numbered_pushed clauses items new n c copied short e ec en h =
 atoms_known : (count : ℕ) (c : Clause) → IsClauseOf count c → AreKnown count c.atoms
 atoms_known count c h = λ k d short. (h k d short).0
 
-pub numbered_known : (count n : ℕ) (clauses : List Clause) → All (IsClauseOf count) clauses → All (IsKnown count) (numbered n clauses)
-numbered_known count n [] h = All-nil (IsKnown count)
+pub numbered_known : (count n : ℕ) (clauses : List Clause) → All (IsClauseOf count) clauses → All (HasKnownVariables count) (numbered n clauses)
+numbered_known count n [] h = All-nil (HasKnownVariables count)
 numbered_known count n (c ∷ clauses) h =
-    All-cons (IsKnown count) (record { clause = c; name = hint.Clause n }) (numbered (n + 1) clauses)
+    All-cons (HasKnownVariables count) (record { clause = c; name = hint.Clause n }) (numbered (n + 1) clauses)
     (atoms_known count c (All-head (IsClauseOf count) c clauses h))
     (numbered_known count (n + 1) clauses (All-tail (IsClauseOf count) c clauses h))
 
@@ -74,7 +74,7 @@ named_from p log n (c ∷ clauses) h =
     (λ i. let next : n + suc i ≡ n + 1 + i = omega arith in h (suc i) ∙ ap (slice_get p.clauses) next))
 
 -- the names of the problem's clauses name them
-pub problem_named : (p : Instance) (log : LogState) (h : Hint) (k : Constraint) → IsNamedIn (numbered 0 p.clauses) h k → named p log h ≡ Some k
+pub problem_named : (p : Instance) (log : LogState) (h : Hint) (k : Constraint) → IsPairIn (numbered 0 p.clauses) h k → named p log h ≡ Some k
 problem_named p log h k pair =
     rw (pair.2, pair.3)
     (All-contains (λ m. named p log m.name ≡ Some (of_clause m.clause)) (numbered 0 p.clauses) pair.0
@@ -116,10 +116,10 @@ forgotten_contains name old new n h k =
 
 -- ---- landing
 
-pub landed_known : (count first : ℕ) (added : List Named) → All (IsKnown count) added → All (IsKnown count) (map (landed_named first) added)
-landed_known count first added h = All-map (IsKnown count) (landed_named first) added h
+pub landed_known : (count first : ℕ) (added : List Named) → All (HasKnownVariables count) added → All (HasKnownVariables count) (map (landed_named first) added)
+landed_known count first added h = All-map (HasKnownVariables count) (landed_named first) added h
 
--- one name more is landed, in place
-pub landed_more : (first : ℕ) (xs ys : List Named) (i : ℕ) (d : Named) (name : Hint) → i < length xs → i < length ys → ys ≡ map (landed_named first) (take i xs) ++ drop i xs → name ≡ landed first (get_or ys i d).name → set ys i (record { clause = (get_or ys i d).clause; name = name }) ≡ map (landed_named first) (take (i + 1) xs) ++ drop (i + 1) xs
+-- one name more is hint_landed, in place
+pub landed_more : (first : ℕ) (xs ys : List Named) (i : ℕ) (d : Named) (name : Hint) → i < length xs → i < length ys → ys ≡ map (landed_named first) (take i xs) ++ drop i xs → name ≡ hint_landed first (get_or ys i d).name → set ys i (record { clause = (get_or ys i d).clause; name = name }) ≡ map (landed_named first) (take (i + 1) xs) ++ drop (i + 1) xs
 landed_more first xs ys i d name h k e f =
     rw f (map_over_more (landed_named first) xs ys i (get_or ys i d) h e (get_or_default ys i d (get_or ys i d) k))

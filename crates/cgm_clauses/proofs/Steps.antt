@@ -15,8 +15,8 @@ use Rattle.cgm_trail.specs.TrailState.{TrailState, box_of}
 use Rattle.cgm_trail.proofs.Propagating.{more_names, one_after_another}
 use Rattle.cgm_clauses.specs.declared.named.Named.{Named}
 use Rattle.cgm_clauses.specs.Standing.{IsQuietIn}
-use Rattle.cgm_clauses.specs.StoreState.{IsNamedIn}
-use Rattle.cgm_clauses.specs.Sweeping.{AreQuiet, IsOneSweep, IsStop}
+use Rattle.cgm_clauses.specs.StoreState.{IsPairIn}
+use Rattle.cgm_clauses.specs.Sweeping.{AreQuiet, IsOneSweep, IsSweepStop}
 
 -- ---- a propagation
 
@@ -41,13 +41,13 @@ trail_stays Names old new left left' h e = h.after ∙ grown_by old h.added (ome
 
 -- ---- more clauses
 
-pub names_of_more : (xs ys : List Named) → ((n : Named) → Contains xs n → Contains ys n) → (h : Hint) (k : Constraint) → IsNamedIn xs h k → IsNamedIn ys h k
+pub names_of_more : (xs ys : List Named) → ((n : Named) → Contains xs n → Contains ys n) → (h : Hint) (k : Constraint) → IsPairIn xs h k → IsPairIn ys h k
 names_of_more xs ys f h k named = (named.0, f named.0 named.1, named.2, named.3)
 
-pub name_of_one : (ys : List Named) (n : Named) → Contains ys n → (h : Hint) (k : Constraint) → IsOnly n.name (of_clause n.clause) h k → IsNamedIn ys h k
+pub name_of_one : (ys : List Named) (n : Named) → Contains ys n → (h : Hint) (k : Constraint) → IsOnly n.name (of_clause n.clause) h k → IsPairIn ys h k
 name_of_one ys n there h k only = (n, there, only.0, only.1)
 
-pub stop_of_more : {E : Type 0} (quiet quiet' : Type 0) (b : Bounds) (xs ys : List Named) (left : ℕ) (answer : Result Swept E) → ((n : Named) → Contains xs n → Contains ys n) → (quiet → quiet') → IsStop quiet b xs left answer → IsStop quiet' b ys left answer
+pub stop_of_more : {E : Type 0} (quiet quiet' : Type 0) (b : Bounds) (xs ys : List Named) (left : ℕ) (answer : Result Swept E) → ((n : Named) → Contains xs n → Contains ys n) → (quiet → quiet') → IsSweepStop quiet b xs left answer → IsSweepStop quiet' b ys left answer
 stop_of_more quiet quiet' b xs ys left (Ok swept.Quiet) f g h = g h
 stop_of_more quiet quiet' b xs ys left (Ok (swept.Conflict name)) f g h = (h.0, f h.0 h.1, h.2, h.3)
 stop_of_more quiet quiet' b xs ys left (Ok swept.Spent) f g h = (h.0, (h.1.0, f h.1.0 h.1.1, h.1.2))
@@ -56,10 +56,10 @@ stop_of_more quiet quiet' b xs ys left (Err error) f g h = (h.0, (h.1.0, f h.1.0
 -- ---- one clause after those before it
 
 -- what propagation by a clause of the list makes next
-pub made_next : (xs : List Named) (n : Named) (old mid new : TrailState) (left left' left'' : ℕ) → Contains xs n → IsPropagated (IsNamedIn xs) old mid left left' → IsPropagated (IsOnly n.name (of_clause n.clause)) mid new left' left'' → IsPropagated (IsNamedIn xs) old new left left''
+pub made_next : (xs : List Named) (n : Named) (old mid new : TrailState) (left left' left'' : ℕ) → Contains xs n → IsPropagated (IsPairIn xs) old mid left left' → IsPropagated (IsOnly n.name (of_clause n.clause)) mid new left' left'' → IsPropagated (IsPairIn xs) old new left left''
 made_next xs n old mid new left left' left'' there h k =
-    one_after_another (IsNamedIn xs) old mid new left left' left'' h
-    (more_names (IsOnly n.name (of_clause n.clause)) (IsNamedIn xs) mid new left' left'' (name_of_one xs n there) k)
+    one_after_another (IsPairIn xs) old mid new left left' left'' h
+    (more_names (IsOnly n.name (of_clause n.clause)) (IsPairIn xs) mid new left' left'' (name_of_one xs n there) k)
 
 -- where the second left `left` as it was, so did the first, and what was quiet stays so
 quiet_still : (NamesA NamesB : Hint → Constraint → Type 0) (xs : List Named) (old mid new : TrailState) (left left' left'' : ℕ) → IsPropagated NamesA old mid left left' → IsPropagated NamesB mid new left' left'' → (left' ≡ left → AreQuiet (box_of mid) xs) → left'' ≡ left → AreQuiet (box_of new) xs
@@ -84,24 +84,24 @@ quiet_at_end b xs i long quiet = rw (take_all i xs long) at quiet
 
 -- ---- one list after another
 
-pub made_by_first : (xs ys : List Named) (old new : TrailState) (left left' : ℕ) → IsPropagated (IsNamedIn xs) old new left left' → IsPropagated (IsNamedIn (xs ++ ys)) old new left left'
+pub made_by_first : (xs ys : List Named) (old new : TrailState) (left left' : ℕ) → IsPropagated (IsPairIn xs) old new left left' → IsPropagated (IsPairIn (xs ++ ys)) old new left left'
 made_by_first xs ys old new left left' h =
-    more_names (IsNamedIn xs) (IsNamedIn (xs ++ ys)) old new left left' (names_of_more xs (xs ++ ys) (λ n. Contains-append_left xs ys n)) h
+    more_names (IsPairIn xs) (IsPairIn (xs ++ ys)) old new left left' (names_of_more xs (xs ++ ys) (λ n. Contains-append_left xs ys n)) h
 
-pub made_by_both : (xs ys : List Named) (old mid new : TrailState) (left left' left'' : ℕ) → IsPropagated (IsNamedIn xs) old mid left left' → IsPropagated (IsNamedIn ys) mid new left' left'' → IsPropagated (IsNamedIn (xs ++ ys)) old new left left''
+pub made_by_both : (xs ys : List Named) (old mid new : TrailState) (left left' left'' : ℕ) → IsPropagated (IsPairIn xs) old mid left left' → IsPropagated (IsPairIn ys) mid new left' left'' → IsPropagated (IsPairIn (xs ++ ys)) old new left left''
 made_by_both xs ys old mid new left left' left'' h k =
-    one_after_another (IsNamedIn (xs ++ ys)) old mid new left left' left'' (made_by_first xs ys old mid left left' h)
-    (more_names (IsNamedIn ys) (IsNamedIn (xs ++ ys)) mid new left' left'' (names_of_more ys (xs ++ ys) (λ n. Contains-append_right xs ys n)) k)
+    one_after_another (IsPairIn (xs ++ ys)) old mid new left left' left'' (made_by_first xs ys old mid left left' h)
+    (more_names (IsPairIn ys) (IsPairIn (xs ++ ys)) mid new left' left'' (names_of_more ys (xs ++ ys) (λ n. Contains-append_right xs ys n)) k)
 
-pub swept_by_both : {E : Type 0} (xs ys : List Named) (old mid new : TrailState) (left left' left'' : ℕ) (answer : Result Swept E) → IsPropagated (IsNamedIn xs) old mid left left' → IsPropagated (IsNamedIn ys) mid new left' left'' → (left' ≡ left → AreQuiet (box_of mid) xs) → IsOneSweep (box_of new) ys left' left'' answer → IsOneSweep (box_of new) (xs ++ ys) left left'' answer
+pub swept_by_both : {E : Type 0} (xs ys : List Named) (old mid new : TrailState) (left left' left'' : ℕ) (answer : Result Swept E) → IsPropagated (IsPairIn xs) old mid left left' → IsPropagated (IsPairIn ys) mid new left' left'' → (left' ≡ left → AreQuiet (box_of mid) xs) → IsOneSweep (box_of new) ys left' left'' answer → IsOneSweep (box_of new) (xs ++ ys) left left'' answer
 swept_by_both xs ys old mid new left left' left'' answer h k quiet rest =
     stop_of_more (left'' ≡ left' → AreQuiet (box_of new) ys) (left'' ≡ left → AreQuiet (box_of new) (xs ++ ys)) (box_of new) ys (xs ++ ys) left'' answer
     (λ n. Contains-append_right xs ys n)
     (λ (last : left'' ≡ left' → AreQuiet (box_of new) ys) (e : left'' ≡ left).
-    let less = left_is_less (IsNamedIn xs) old mid left left' h in
-    let less' = left_is_less (IsNamedIn ys) mid new left' left'' k in
+    let less = left_is_less (IsPairIn xs) old mid left left' h in
+    let less' = left_is_less (IsPairIn ys) mid new left' left'' k in
     let second : left'' ≡ left' = omega arith in
     All-append (λ n. IsQuietIn (box_of new) n.clause) xs ys
-    (quiet_still (IsNamedIn xs) (IsNamedIn ys) xs old mid new left left' left'' h k quiet e)
+    (quiet_still (IsPairIn xs) (IsPairIn ys) xs old mid new left left' left'' h k quiet e)
     (last second))
     rest

@@ -12,7 +12,7 @@ use Rattle.cgm_atom.specs.LogState.{LogState, named}
 use Rattle.cgm_trail.specs.Steps.{IsGiven}
 use Rattle.cgm_trail.specs.TrailState.{IsOpenIn}
 use Rattle.cgm_clauses.specs.declared.named.Named.{Named}
-use Rattle.cgm_clauses.specs.StoreState.{IsForgotten, IsNamedIn, IsStoreOf, StoreState, all_clauses, numbered}
+use Rattle.cgm_clauses.specs.StoreState.{IsForgotten, IsPairIn, IsStoreOf, StoreState, all_clauses, numbered}
 use Rattle.cgm_clauses.specs.Sweeping.{AreQuiet}
 use Rattle.cgm_clauses.specs.Standing.{IsFalseIn, IsQuietIn, IsUnitBy, IsUnitIn}
 
@@ -45,7 +45,7 @@ QuietStoresRest =
 abbrev pub ProblemClausesAreNamed : Type 0
 ProblemClausesAreNamed =
     (p : Instance) (log : LogState) (h : Hint) (k : Constraint)
-    → IsNamedIn (numbered 0 p.clauses) h k
+    → IsPairIn (numbered 0 p.clauses) h k
     → named p log h ≡ Some k
 
 -- what is left after forgetting was there

@@ -7,7 +7,7 @@ use Rattle.cgm_atom.specs.declared.entries.Hint.TheVariants as hint
 use Rattle.cgm_atom.specs.ClauseAtoms.{AreKnown}
 use Rattle.cgm_atom.specs.Constraints.{Constraint, of_clause}
 use Rattle.cgm_atom.specs.Instance.{Instance, var_count}
-use Rattle.cgm_trail.specs.Landing.{CanLand, landed}
+use Rattle.cgm_trail.specs.Landing.{CanLand, hint_landed}
 use Rattle.cgm_clauses.specs.declared.named.Named.{Named}
 
 pub record StoreState : Type 0 where
@@ -21,16 +21,16 @@ abbrev pub all_clauses : StoreState → List Named
 all_clauses s = s.clauses ++ s.added
 
 -- the hint and the clause are a pair of the list
-abbrev pub IsNamedIn : List Named → Hint → Constraint → Type 0
-IsNamedIn clauses h k = (n : Named) × Contains clauses n × (h ≡ n.name) × (k ≡ of_clause n.clause)
+abbrev pub IsPairIn : List Named → Hint → Constraint → Type 0
+IsPairIn clauses h k = (n : Named) × Contains clauses n × (h ≡ n.name) × (k ≡ of_clause n.clause)
 
 -- the clauses of a problem, from a number on
 abbrev pub numbered : ℕ → List Clause → List Named
 numbered number [] = []
 numbered number (c ∷ clauses) = record { clause = c; name = hint.Clause number } ∷ numbered (number + 1) clauses
 
-abbrev pub started : Instance → StoreState
-started p = record { vars = var_count p; clauses = numbered 0 p.clauses; added = [] }
+abbrev pub store_started : Instance → StoreState
+store_started p = record { vars = var_count p; clauses = numbered 0 p.clauses; added = [] }
 
 -- the store is one of this problem, whatever was added
 pub record IsStoreOf (p : Instance) (s : StoreState) : Type 0 where
@@ -38,13 +38,13 @@ pub record IsStoreOf (p : Instance) (s : StoreState) : Type 0 where
   pub clauses : s.clauses ≡ numbered 0 p.clauses
 
 -- each atom's variable is one of so many
-abbrev pub IsKnown : ℕ → Named → Type 0
-IsKnown count n = AreKnown count n.clause.atoms
+abbrev pub HasKnownVariables : ℕ → Named → Type 0
+HasKnownVariables count n = AreKnown count n.clause.atoms
 
 -- ---- changes of a store
 
-abbrev pub with_clause : StoreState → Clause → Hint → StoreState
-with_clause s c name = record s { added = s.added ++ record { clause = c; name = name } ∷ [] }
+abbrev pub store_with_clause : StoreState → Clause → Hint → StoreState
+store_with_clause s c name = record s { added = s.added ++ record { clause = c; name = name } ∷ [] }
 
 -- the first clause of this name is dropped; where there is none, the list stays
 abbrev pub IsForgotten : Hint → List Named → List Named → Type 0
@@ -52,9 +52,9 @@ IsForgotten name [] new = new ≡ []
 IsForgotten name (n ∷ old) new =
     ((n.name ≡ name) × (new ≡ old)) ⊎ ((n.name ≢ name) × (rest : List Named) × (new ≡ n ∷ rest) × IsForgotten name old rest)
 
--- names of lemmas that had no place yet become the places where these landed
+-- names of lemmas that had no place yet become the places where these hint_landed
 abbrev pub landed_named : ℕ → Named → Named
-landed_named first n = record n { name = landed first n.name }
+landed_named first n = record n { name = hint_landed first n.name }
 
 abbrev pub landed_store : ℕ → StoreState → StoreState
 landed_store first s = record s { added = map (landed_named first) s.added }

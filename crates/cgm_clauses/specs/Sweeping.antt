@@ -13,16 +13,16 @@ AreQuiet b clauses = All (λ n. IsQuietIn b n.clause) clauses
 
 -- at a conflict the hint names a clause that is false, and where `left` is spent, a clause is unit;
 -- memory is wanted only where a clause is unit and something is left
-abbrev pub IsStop : {E : Type 0} → Type 0 → Bounds → List Named → ℕ → Result Swept E → Type 0
-IsStop quiet b clauses left (Ok swept.Quiet) = quiet
-IsStop quiet b clauses left (Ok (swept.Conflict h)) = (n : Named) × Contains clauses n × (h ≡ n.name) × IsFalseIn b n.clause
-IsStop quiet b clauses left (Ok swept.Spent) = (left ≡ 0) × ((n : Named) × Contains clauses n × IsUnitIn b n.clause)
-IsStop quiet b clauses left (Err e) = (0 < left) × ((n : Named) × Contains clauses n × IsUnitIn b n.clause)
+abbrev pub IsSweepStop : {E : Type 0} → Type 0 → Bounds → List Named → ℕ → Result Swept E → Type 0
+IsSweepStop quiet b clauses left (Ok swept.Quiet) = quiet
+IsSweepStop quiet b clauses left (Ok (swept.Conflict h)) = (n : Named) × Contains clauses n × (h ≡ n.name) × IsFalseIn b n.clause
+IsSweepStop quiet b clauses left (Ok swept.Spent) = (left ≡ 0) × ((n : Named) × Contains clauses n × IsUnitIn b n.clause)
+IsSweepStop quiet b clauses left (Err e) = (0 < left) × ((n : Named) × Contains clauses n × IsUnitIn b n.clause)
 
 -- the box and `left` are those at the end
 abbrev pub IsSwept : {E : Type 0} → Bounds → List Named → ℕ → Result Swept E → Type 0
-IsSwept b clauses left result = IsStop (AreQuiet b clauses) b clauses left result
+IsSwept b clauses left result = IsSweepStop (AreQuiet b clauses) b clauses left result
 
 -- one look at each clause: they are quiet where nothing was made
 abbrev pub IsOneSweep : {E : Type 0} → Bounds → List Named → ℕ → ℕ → Result Swept E → Type 0
-IsOneSweep b clauses left left' result = IsStop (left' ≡ left → AreQuiet b clauses) b clauses left' result
+IsOneSweep b clauses left left' result = IsSweepStop (left' ≡ left → AreQuiet b clauses) b clauses left' result

@@ -3,7 +3,7 @@ ghost use Rattle.std.specs.Prelude.{◌≡◌, ◌+◌, ◌^◌, ◌<◌, ◌≤
 ghost use Rattle.cgm_atom.specs.ClauseAtoms.{AreKnown};
 ghost use Rattle.cgm_trail.specs.Steps.{IsPropagated};
 ghost use Rattle.cgm_trail.specs.TrailState.{box_of};
-ghost use Rattle.cgm_clauses.specs.StoreState.{CanNamesLand, IsForgotten, IsNamedIn, IsStoreOf, all_clauses, landed_store, started, with_clause};
+ghost use Rattle.cgm_clauses.specs.StoreState.{CanNamesLand, IsForgotten, IsPairIn, IsStoreOf, all_clauses, landed_store, store_started, store_with_clause};
 ghost use Rattle.cgm_clauses.specs.Sweeping.{IsSwept};
 
 use crate::named::{Named, clauses_of, forget_first, land_all};
@@ -36,7 +36,7 @@ impl Model for ClauseStore {
 impl ClauseStore {
     /// The problem's clauses, each named by its number.
     pub fn new(alloc: Global, problem: &Problem) -> Result<ClauseStore, OutOfMemory>
-        ensures store { IfOk result (λ s. s ≡ started problem.now) }
+        ensures store { IfOk result (λ s. s ≡ store_started problem.now) }
         ensures of_problem { IfOk result (λ s. IsStoreOf problem.now s) }
     {
         problem.recall_well_formed();
@@ -52,7 +52,7 @@ impl ClauseStore {
     /// For want of memory the store stays as it is.
     pub fn add(&mut self, clause: Clause, name: Hint) -> Result<(), OutOfMemory>
         requires known { AreKnown self.old.vars clause.atoms }
-        ensures ok { OnOk result (self.new ≡ with_clause self.old clause name) }
+        ensures ok { OnOk result (self.new ≡ store_with_clause self.old clause name) }
         ensures err { OnErr result (self.new ≡ self.old) }
     {
         self.added.push(Named { clause, name })?;
@@ -89,7 +89,7 @@ impl ClauseStore {
     pub fn propagate(&mut self, trail: &mut Trail, left: &mut u64) -> Result<Swept, OutOfMemory>
         requires problem { IsStoreOf trail.old.problem self.old }
         requires room { trail.old.moves + left.old ≤ 2 ^ 62 }
-        ensures made { IsPropagated (IsNamedIn (all_clauses self.old)) trail.old trail.new left.old left.new }
+        ensures made { IsPropagated (IsPairIn (all_clauses self.old)) trail.old trail.new left.old left.new }
         ensures answer { IsSwept (box_of trail.new) (all_clauses self.old) left.new result }
         ensures store { self.new ≡ self.old }
     {

@@ -5,7 +5,7 @@ ghost use Rattle.cgm_atom.specs.Constraints.{of_clause};
 ghost use Rattle.cgm_atom.specs.Instance.{var_count};
 ghost use Rattle.cgm_trail.specs.Steps.{IsOnly, IsPropagated};
 ghost use Rattle.cgm_trail.specs.TrailState.{box_of};
-ghost use Rattle.cgm_clauses.specs.StoreState.{IsKnown, IsNamedIn};
+ghost use Rattle.cgm_clauses.specs.StoreState.{HasKnownVariables, IsPairIn};
 ghost use Rattle.cgm_clauses.specs.Sweeping.{IsOneSweep, IsSwept};
 
 use crate::named::Named;
@@ -20,10 +20,10 @@ pub(crate) fn propagate_by(
     trail: &mut Trail,
     left: &mut u64,
 ) -> Result<Swept, OutOfMemory>
-    requires clauses { All (IsKnown (var_count trail.old.problem)) clauses.now }
-    requires added { All (IsKnown (var_count trail.old.problem)) added.now }
+    requires clauses { All (HasKnownVariables (var_count trail.old.problem)) clauses.now }
+    requires added { All (HasKnownVariables (var_count trail.old.problem)) added.now }
     requires room { trail.old.moves + left.old ≤ 2 ^ 62 }
-    ensures made { IsPropagated (IsNamedIn (clauses.now ++ added.now)) trail.old trail.new left.old left.new }
+    ensures made { IsPropagated (IsPairIn (clauses.now ++ added.now)) trail.old trail.new left.old left.new }
     ensures answer { IsSwept (box_of trail.new) (clauses.now ++ added.now) left.new result }
 {
     loop {
@@ -46,10 +46,10 @@ fn sweep_both(
     trail: &mut Trail,
     left: &mut u64,
 ) -> Result<Swept, OutOfMemory>
-    requires clauses { All (IsKnown (var_count trail.old.problem)) clauses.now }
-    requires added { All (IsKnown (var_count trail.old.problem)) added.now }
+    requires clauses { All (HasKnownVariables (var_count trail.old.problem)) clauses.now }
+    requires added { All (HasKnownVariables (var_count trail.old.problem)) added.now }
     requires room { trail.old.moves + left.old ≤ 2 ^ 62 }
-    ensures made { IsPropagated (IsNamedIn (clauses.now ++ added.now)) trail.old trail.new left.old left.new }
+    ensures made { IsPropagated (IsPairIn (clauses.now ++ added.now)) trail.old trail.new left.old left.new }
     ensures answer { IsOneSweep (box_of trail.new) (clauses.now ++ added.now) left.old left.new result }
 {
     match sweep(clauses, trail, left)? {
@@ -61,9 +61,9 @@ fn sweep_both(
 
 /// Looks at each clause once, up to one that stops it.
 fn sweep(clauses: &[Named], trail: &mut Trail, left: &mut u64) -> Result<Swept, OutOfMemory>
-    requires known { All (IsKnown (var_count trail.old.problem)) clauses.now }
+    requires known { All (HasKnownVariables (var_count trail.old.problem)) clauses.now }
     requires room { trail.old.moves + left.old ≤ 2 ^ 62 }
-    ensures made { IsPropagated (IsNamedIn clauses.now) trail.old trail.new left.old left.new }
+    ensures made { IsPropagated (IsPairIn clauses.now) trail.old trail.new left.old left.new }
     ensures answer { IsOneSweep (box_of trail.new) clauses.now left.old left.new result }
 {
     for named in clauses {
@@ -78,7 +78,7 @@ fn sweep(clauses: &[Named], trail: &mut Trail, left: &mut u64) -> Result<Swept, 
 
 /// Makes the open atom of the clause true, if the clause is unit.
 fn look_at(named: &Named, trail: &mut Trail, left: &mut u64) -> Result<Swept, OutOfMemory>
-    requires known { IsKnown (var_count trail.old.problem) named.now }
+    requires known { HasKnownVariables (var_count trail.old.problem) named.now }
     requires room { trail.old.moves + left.old ≤ 2 ^ 62 }
     ensures made { IsPropagated (IsOnly named.now.name (of_clause named.now.clause)) trail.old trail.new
         left.old left.new }

@@ -29,7 +29,7 @@ use Rattle.cgm_report.specs.Report.{realized, unrealizable}
 use Rattle.cgm_cli.specs.CheckOutcome.{HasCertificateOutcome, HasCheckOutcome, HasEntriesOutcome, HasNoEntries}
 use Rattle.cgm_cli.specs.Effects.{IsPrinted, Outside, outside_of}
 use Rattle.cgm_cli.specs.Inputs.{HasEarlierFaultOutcome, HasFaultOutcome, HasInputOutcome, HasNoModel, HasNoProblem, HasNoText, HasNothingKnown, HasProblemOutcome, IsFileOf, IsInputOf, IsKnownOf}
-use Rattle.cgm_cli.specs.Laws.{Agrees, CertificatesAreAccepted, HasEarlier, IsGoodInput, IsLater, IsOneOf, IsSameEarlier, Names, PrintSame, PrintSameBest, printed_between}
+use Rattle.cgm_cli.specs.Laws.{Agrees, CertificatesAreAccepted, HasEarlier, IsGoodInput, IsLater, IsOneOf, IsSameEarlier, RunNames, PrintSame, PrintSameBest, printed_between}
 use Rattle.cgm_cli.specs.SolveOutcome.{HasSolveOutcome, IsCertified, wanted}
 use Rattle.cgm_cli.proofs.Completing.{no_bytes}
 use Rattle.cgm_cli.proofs.GoodInputs.{HasFile, Lacks, both, of_input, where_told}
@@ -196,7 +196,7 @@ kept_earlier told before now (Some name) (Some again) earlier found same known =
     kept_file told before now name again (λ text. IsEarlierTextOf text earlier) found same known
 
 -- the input of `solve` is good still
-good_still : (first second : Names) (old new later : ShelfState) (m : Lists) (lines : List ℕ) (earlier : List Pair) → IsLater first second old new later → IsInputOf old.files first.model first.earlier m lines earlier → IsEncodable m → IsGoodInput later second.model second.earlier m earlier
+good_still : (first second : RunNames) (old new later : ShelfState) (m : Lists) (lines : List ℕ) (earlier : List Pair) → IsLater first second old new later → IsInputOf old.files first.model first.earlier m lines earlier → IsEncodable m → IsGoodInput later second.model second.earlier m earlier
 good_still first second old new later m lines earlier is input encodable = record {
   files = is.now;
   told = is.told;
@@ -216,7 +216,7 @@ record IsWritten (now : Files) (cert : List ℕ) (entries : List Entry) : Type 0
   here : now cert ≡ Some text
   text_is : IsTextOf text entries
 
-certificate_written : (first second : Names) (old new later : ShelfState) (entries : List Entry) (is : IsLater first second old new later) → IsCertified (Some first.cert) entries old new → IsWritten is.now second.cert entries
+certificate_written : (first second : RunNames) (old new later : ShelfState) (entries : List Entry) (is : IsLater first second old new later) → IsCertified (Some first.cert) entries old new → IsWritten is.now second.cert entries
 certificate_written first second old new later entries is certified =
     let left : Leaves old.files (Some is.after) first.cert certified.0 = subst (λ after. Leaves old.files after first.cert certified.0) is.left certified.1.1 in
     record { text = certified.0; here = is.certificate ∙ written old.files is.after first.cert certified.0 left; text_is = certified.1.0 }
@@ -255,7 +255,7 @@ entries_found found left now cert m earlier entries answer told is (inr outcome)
     of_check found left now cert m earlier entries answer told is outcome
 
 -- what comes of the entries that were written, unless `check` lacks something before it has them
-later_entries : (first second : Names) (old new : ShelfState) (later last : Outside) (m : Lists) (lines : List ℕ) (earlier : List Pair) (entries : List Entry) (answer : Status) → IsLater first second old new later.shelf → IsInputOf old.files first.model first.earlier m lines earlier → IsEncodable m → IsCertified (Some first.cert) entries old new → HasInputOutcome (HasProblemOutcome (HasCheckOutcome second.cert later last) later.sink last.sink) second.model second.earlier later last answer → among answer ⊎ HasEntriesOutcome m earlier entries later.sink last.sink answer
+later_entries : (first second : RunNames) (old new : ShelfState) (later last : Outside) (m : Lists) (lines : List ℕ) (earlier : List Pair) (entries : List Entry) (answer : Status) → IsLater first second old new later.shelf → IsInputOf old.files first.model first.earlier m lines earlier → IsEncodable m → IsCertified (Some first.cert) entries old new → HasInputOutcome (HasProblemOutcome (HasCheckOutcome second.cert later last) later.sink last.sink) second.model second.earlier later last answer → among answer ⊎ HasEntriesOutcome m earlier entries later.sink last.sink answer
 later_entries first second old new later last m lines earlier entries answer is input encodable certified outcome =
     let good = good_still first second old new later.shelf m lines earlier is input encodable in
     let here = certificate_written first second old new later.shelf entries is certified in

@@ -7,7 +7,7 @@ use Rattle.std.specs.Str.{all_ascii_digits}
 use Rattle.std.specs.Str.Parse.{ParsesUnsigned, digits_value}
 use Rattle.std.proofs.lemmas.Bool.Decides.{nat_tests}
 use Rattle.std.proofs.lemmas.Str.Parse.{IsNumeralModel, numerals_by_value, parse_digits, tells_all_ascii_digits}
-use Rattle.cgm_cli.specs.Numbers.{is_between, is_numeral, number_in}
+use Rattle.cgm_cli.specs.Numbers.{is_between, is_numeral, numeral_in}
 
 digits : IsNumeralModel (λ text. all_ascii_digits text ≡ true) (digits_value 10)
 digits = numerals_by_value (λ text. all_ascii_digits text ≡ true) tells_all_ascii_digits
@@ -51,26 +51,26 @@ parsed text r is parses = parse_digits digits 64 text r parses (numeral text is)
 
 -- ---- the number of a text
 
-pub no_numeral : (least greatest : ℕ) (text : List ℕ) → is_numeral text ≡ false → None ≡ number_in least greatest text
-unfolding number_in
+pub no_numeral : (least greatest : ℕ) (text : List ℕ) → is_numeral text ≡ false → None ≡ numeral_in least greatest text
+unfolding numeral_in
 no_numeral least greatest text fails =
     none_by (digits_value 10 text) (is_numeral text && is_between least greatest (digits_value 10 text))
     (rw fails refl)
 
-pub within : (least greatest n : ℕ) (text : List ℕ) → is_numeral text ≡ true → n ≡ digits_value 10 text → is_between least greatest n ≡ true → Some n ≡ number_in least greatest text
-unfolding number_in
+pub within : (least greatest n : ℕ) (text : List ℕ) → is_numeral text ≡ true → n ≡ digits_value 10 text → is_between least greatest n ≡ true → Some n ≡ numeral_in least greatest text
+unfolding numeral_in
 within least greatest n text numeral value between =
-    subst (λ k. Some k ≡ number_in least greatest text) (sym value)
+    subst (λ k. Some k ≡ numeral_in least greatest text) (sym value)
     (some_by (digits_value 10 text) (is_numeral text && is_between least greatest (digits_value 10 text))
     (rw numeral (subst (λ k. is_between least greatest k ≡ true) value between)))
 
-outside : (least greatest : ℕ) (text : List ℕ) → is_between least greatest (digits_value 10 text) ≡ false → None ≡ number_in least greatest text
-unfolding number_in
+outside : (least greatest : ℕ) (text : List ℕ) → is_between least greatest (digits_value 10 text) ≡ false → None ≡ numeral_in least greatest text
+unfolding numeral_in
 outside least greatest text fails =
     none_by (digits_value 10 text) (is_numeral text && is_between least greatest (digits_value 10 text))
     (false_at_right (is_numeral text) (is_between least greatest (digits_value 10 text)) fails)
 
-pub not_within : (least greatest n : ℕ) (text : List ℕ) → n ≡ digits_value 10 text → is_between least greatest n ≡ false → None ≡ number_in least greatest text
+pub not_within : (least greatest n : ℕ) (text : List ℕ) → n ≡ digits_value 10 text → is_between least greatest n ≡ false → None ≡ numeral_in least greatest text
 not_within least greatest n text value fails =
     outside least greatest text (subst (λ k. is_between least greatest k ≡ false) value fails)
 
@@ -79,12 +79,12 @@ above least greatest n more =
     let fails : nat_le n greatest ≡ false = grind (arith, nat_tests) in
     false_at_right (nat_le least n) (nat_le n greatest) fails
 
-too_great_by : (least greatest : ℕ) (text : List ℕ) (less : Bool) → nat_lt (digits_value 10 text) (2 ^ 64) ≡ less → 0 < length text → greatest < 2 ^ 64 → ¬ ((0 < length text) × (digits_value 10 text < 2 ^ 64)) → None ≡ number_in least greatest text
+too_great_by : (least greatest : ℕ) (text : List ℕ) (less : Bool) → nat_lt (digits_value 10 text) (2 ^ 64) ≡ less → 0 < length text → greatest < 2 ^ 64 → ¬ ((0 < length text) × (digits_value 10 text < 2 ^ 64)) → None ≡ numeral_in least greatest text
 too_great_by least greatest text true less some fits not = absurd (not (some, grind (arith, nat_tests)))
 too_great_by least greatest text false less some fits not =
     let more : greatest < digits_value 10 text = grind (arith, nat_tests) in
     outside least greatest text (above least greatest (digits_value 10 text) more)
 
-pub too_great : (least greatest : ℕ) (text : List ℕ) → is_numeral text ≡ true → greatest < 2 ^ 64 → ¬ ((0 < length text) × (digits_value 10 text < 2 ^ 64)) → None ≡ number_in least greatest text
+pub too_great : (least greatest : ℕ) (text : List ℕ) → is_numeral text ≡ true → greatest < 2 ^ 64 → ¬ ((0 < length text) × (digits_value 10 text < 2 ^ 64)) → None ≡ numeral_in least greatest text
 too_great least greatest text is fits not =
     too_great_by least greatest text (nat_lt (digits_value 10 text) (2 ^ 64)) refl (numeral text is).some fits not

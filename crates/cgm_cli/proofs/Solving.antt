@@ -24,7 +24,7 @@ use Rattle.cgm_report.specs.Answers.{IsReportable, report_of}
 use Rattle.cgm_report.specs.Shown.{IsShowable}
 use Rattle.cgm_report.proofs.Showing.{show_quantities}
 use Rattle.cgm_cli.specs.Answers.{answer_status, entries_of}
-use Rattle.cgm_cli.specs.Effects.{IsExtended, IsPrinted, IsUnchanged, IsUntouched, Outside, World, outside_of}
+use Rattle.cgm_cli.specs.Effects.{AreTrailsExtended, IsPrinted, IsUnchanged, IsUntouched, Outside, World, outside_of}
 use Rattle.cgm_cli.specs.Outcome.{AreFilesOfSearch, IsWorkOfSearch, OnlyTouches}
 use Rattle.cgm_cli.specs.SolveOutcome.{HasSolveOutcome, IsCertificateCut, IsCertified, IsDelivered, Wanted}
 
@@ -148,7 +148,7 @@ files_left cert report found left answer status (inr (inr memory)) =
 
 -- ---- what is left of the trails
 
-none_gained : (old new : List TrailState) → IsUnchanged old new → IsExtended old new
+none_gained : (old new : List TrailState) → IsUnchanged old new → AreTrailsExtended old new
 none_gained old new same = ([], same ∙ sym (append-nil old))
 
 pub unchanged : (old new : List TrailState) (status : Status) → IsUnchanged old new → IsWorkOfSearch old new status
@@ -164,7 +164,7 @@ unchanged old new statuses.Limit same = same
 unchanged old new statuses.Certificate same = same
 unchanged old new statuses.Read same = same
 
-extended : (m : Lists) (pairs : List Pair) (plan : Plan) (old new : List TrailState) (answer : Answer) → IsSolved m pairs plan old new answer → IsExtended old new
+extended : (m : Lists) (pairs : List Pair) (plan : Plan) (old new : List TrailState) (answer : Answer) → IsSolved m pairs plan old new answer → AreTrailsExtended old new
 extended m pairs plan old new (Realized found entries) solved = none_gained old new solved.2
 extended m pairs plan old new (Unrealizable entries) solved = none_gained old new solved.2
 extended m pairs plan old new (Exhausted best spent entries) solved = (solved.2.trail ∷ [], solved.2.added)

@@ -41,8 +41,8 @@ abbrev pub IsUnchanged : List TrailState → List TrailState → Type 0
 IsUnchanged old new = new ≡ old
 
 -- the trails stay, and more may come behind them
-abbrev pub IsExtended : List TrailState → List TrailState → Type 0
-IsExtended old new = (gained : List TrailState) × (new ≡ old ++ gained)
+abbrev pub AreTrailsExtended : List TrailState → List TrailState → Type 0
+AreTrailsExtended old new = (gained : List TrailState) × (new ≡ old ++ gained)
 
 -- ---- what is printed: each word tells what, then the sink as it was found, then as it was left
 

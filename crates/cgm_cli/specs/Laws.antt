@@ -95,7 +95,7 @@ ShowCompletes =
 -- ---- `check` over what `solve` wrote
 
 -- the names that a run is given: of the model's file, of the earlier text's file where there is one, and of the certificate's file
-pub record Names : Type 0 where
+pub record RunNames : Type 0 where
   pub model : List ℕ
   pub earlier : Option (List ℕ)
   pub cert : List ℕ
@@ -108,7 +108,7 @@ IsSameEarlier before now (Some name) None = ⊥
 IsSameEarlier before now (Some name) (Some again) = now again ≡ before name
 
 -- the shelf of a later `check`, under names of its own, tells the bytes of the model and of the earlier text as `solve` found them, and those of the certificate as `solve` left them
-pub record IsLater (first second : Names) (old new later : ShelfState) : Type 0 where
+pub record IsLater (first second : RunNames) (old new later : ShelfState) : Type 0 where
   pub before : Files
   pub after : Files
   pub now : Files
@@ -144,7 +144,7 @@ Agrees other printed status again = Unit {0}
 -- the certificate of an answer is accepted, also where it was written over the file of the model or of the earlier text: `check` gives the same answer, unless a read, the sink or memory fails
 abbrev pub CertificatesAreAccepted : Type 0
 CertificatesAreAccepted =
-    (first second : Names) (workers : ℕ) (plan : Plan) (found left later last : World)
+    (first second : RunNames) (workers : ℕ) (plan : Plan) (found left later last : World)
     (status answer : Status)
     → HasCommandOutcome (solve first.model first.earlier (Some first.cert) workers plan)
     found left status

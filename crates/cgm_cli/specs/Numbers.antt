@@ -13,12 +13,12 @@ abbrev pub is_between : ℕ → ℕ → ℕ → Bool
 is_between least greatest number = nat_le least number && nat_le number greatest
 
 -- the number that a text writes, where it is a numeral and lies in the range
-unfoldable pub number_in : ℕ → ℕ → List ℕ → Option ℕ
-number_in least greatest text =
+unfoldable pub numeral_in : ℕ → ℕ → List ℕ → Option ℕ
+numeral_in least greatest text =
     if is_numeral text && is_between least greatest (digits_value 10 text)
     then Some (digits_value 10 text) else None
 
 -- the same of a text that may be left out, which then stands for the default
 abbrev pub number_or : ℕ → ℕ → ℕ → Option (List ℕ) → Option ℕ
 number_or least greatest default None = Some default
-number_or least greatest default (Some text) = number_in least greatest text
+number_or least greatest default (Some text) = numeral_in least greatest text

@@ -12,7 +12,7 @@ use Rattle.cgm_encode.specs.Problem.{problem_of}
 use Rattle.cgm_encode.specs.ProblemText.{problem_text}
 use Rattle.cgm_cli.specs.CheckOutcome.{HasCheckOutcome}
 use Rattle.cgm_cli.specs.CommandLine.{Command, solve, check, show, encode, command_line, earlier_file, model_file}
-use Rattle.cgm_cli.specs.Effects.{World, IsCutOff, IsExtended, IsPrinted, IsTold, IsUnchanged, IsUntouched, outside_of}
+use Rattle.cgm_cli.specs.Effects.{World, IsCutOff, AreTrailsExtended, IsPrinted, IsTold, IsUnchanged, IsUntouched, outside_of}
 use Rattle.cgm_cli.specs.FaultLines.{memory_fault, usage_fault}
 use Rattle.cgm_cli.specs.Inputs.{HasInputOutcome, HasProblemOutcome}
 use Rattle.cgm_cli.specs.SolveOutcome.{HasSolveOutcome, wanted}
@@ -104,9 +104,9 @@ AreFilesOf (Some command) old new status = LeavesFiles command old new status
 
 -- a search leaves more trails only where its budget is spent or its report isn't printed
 abbrev pub IsWorkOfSearch : List TrailState → List TrailState → Status → Type 0
-IsWorkOfSearch old new Open = IsExtended old new
-IsWorkOfSearch old new Write = IsExtended old new
-IsWorkOfSearch old new Memory = IsExtended old new
+IsWorkOfSearch old new Open = AreTrailsExtended old new
+IsWorkOfSearch old new Write = AreTrailsExtended old new
+IsWorkOfSearch old new Memory = AreTrailsExtended old new
 IsWorkOfSearch old new status = IsUnchanged old new
 
 abbrev pub LeavesWork : Command → List TrailState → List TrailState → Status → Type 0

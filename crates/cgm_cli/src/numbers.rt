@@ -2,7 +2,7 @@
 ghost use Rattle.std.specs.Prelude.{◌≡◌, ◌≤◌, IfSome, option_map};
 ghost use Rattle.std.specs.Char.{is_ascii_digit};
 ghost use Rattle.std.specs.List.{list_all};
-ghost use Rattle.cgm_cli.specs.Numbers.{is_between, is_numeral, number_in, number_or};
+ghost use Rattle.cgm_cli.specs.Numbers.{is_between, is_numeral, numeral_in, number_or};
 
 /// The most digits of a number, leading zeros among them.
 const MAX_DIGITS: usize = 20;
@@ -28,8 +28,8 @@ fn is_between(least: u64, greatest: u64, number: u64) -> bool
 }
 
 /// The number that a text writes, where it is one to twenty digits and lies in the range.
-fn number_in(least: u64, greatest: u64, text: &str) -> Option<u64>
-    ensures number { result ≡ number_in least greatest text.now }
+fn numeral_in(least: u64, greatest: u64, text: &str) -> Option<u64>
+    ensures number { result ≡ numeral_in least greatest text.now }
     ensures within { IfSome result (λ number. number ≤ greatest) }
 {
     if !is_numeral(text) {
@@ -56,6 +56,6 @@ pub(crate) fn number_or(least: u64, greatest: u64, default: u64, text: Option<&s
 {
     match text {
         None => Some(default),
-        Some(text) => number_in(least, greatest, text),
+        Some(text) => numeral_in(least, greatest, text),
     }
 }

@@ -8,7 +8,7 @@ use Rattle.cgm_formula.specs.declared.formula.Formula.TheVariants.{And, Or, Impl
 use Rattle.cgm_formula.specs.declared.formula.Linear.{Linear}
 use Rattle.cgm_formula.specs.declared.formula.Number.{Number}
 use Rattle.cgm_formula.specs.declared.formula.Truth.{Truth}
-use Rattle.cgm_formula.specs.Nodes.{comparisons, names as names_of}
+use Rattle.cgm_formula.specs.Nodes.{comparisons, formula_names as names_of}
 use Rattle.cgm_formula.specs.Truth.{same_truth, total, truth, truth_step}
 use Rattle.cgm_formula.proofs.Comparisons.{of_at_least, of_at_most, of_conjunction, of_disjunction, of_equality, of_equivalence, of_implication, of_negation}
 use Rattle.cgm_formula.proofs.Folds.{fold-AtLeast, fold-AtMost, fold-Equal, fold-Iff, fold-Implies, fold-Name, fold-Not}

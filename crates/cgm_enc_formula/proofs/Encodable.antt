@@ -16,7 +16,7 @@ use Rattle.cgm_model.specs.declared.lists.Lists.{Lists}
 use Rattle.cgm_model.specs.declared.lists.Rule.{Rule}
 use Rattle.cgm_model.specs.Formulas.{formula_of, has_distinct_terms, has_small_terms, is_small}
 use Rattle.cgm_model.specs.Place.{Each, EachFrom}
-use Rattle.cgm_model.specs.WellFormed.{IsRule, IsWellFormed}
+use Rattle.cgm_model.specs.WellFormed.{IsRule, IsWellFormedModel}
 use Rattle.cgm_enc_formula.specs.Building.{HasRoomFor, rules_part}
 use Rattle.cgm_enc_formula.specs.Measures.{HasKnownNumbers, IsWithinMeasure, comparison_measure, has_small_measures}
 use Rattle.cgm_enc_formula.specs.Rules.{IsEncodableRule}
@@ -53,14 +53,14 @@ module _ (m : Lists) (b : Bounds) where
   rule_encodable : (r : Rule) → IsRule m r → has_small_measures m b (formula_of r) ≡ true → IsEncodableRule m r
   rule_encodable r rule h = record { condition = rule.proper.condition; formula = formula_encodable r rule h }
 
-  pub rules_encodable : ∥ IsWellFormed m ∥₁ → Each (IsWithinMeasure m b) m.rules → All (IsEncodableRule m) m.rules
+  pub rules_encodable : ∥ IsWellFormedModel m ∥₁ → Each (IsWithinMeasure m b) m.rules → All (IsEncodableRule m) m.rules
   rules_encodable well h k d l =
       rule_encodable (get_or m.rules k d) (each_rule m well k d l) (all_from_each (λ r. has_small_measures m b (formula_of r) ≡ true) 0 m.rules h k d l)
 
-pub known_numbers : (m : Lists) → ∥ IsWellFormed m ∥₁ → All (λ r. HasKnownNumbers m (formula_of r)) m.rules
+pub known_numbers : (m : Lists) → ∥ IsWellFormedModel m ∥₁ → All (λ r. HasKnownNumbers m (formula_of r)) m.rules
 known_numbers m well k d l = (each_rule m well k d l).proper.formula.numbers
 
-pub room_for_rules : (m : Lists) (p : Instance) → ∥ IsWellFormed m ∥₁ → var_count p ≤ 2 ^ 31 → length p.clauses ≤ 2 ^ 31 + 2 ^ 28 → length p.rows ≤ 2 ^ 31 → HasRoomFor p (rules_part m (var_count p) m.rules)
+pub room_for_rules : (m : Lists) (p : Instance) → ∥ IsWellFormedModel m ∥₁ → var_count p ≤ 2 ^ 31 → length p.clauses ≤ 2 ^ 31 + 2 ^ 28 → length p.rows ≤ 2 ^ 31 → HasRoomFor p (rules_part m (var_count p) m.rules)
 room_for_rules m p well few_variables few_clauses few_rows =
     let small = rules_part_small m (var_count p) well in
     let names = small.names in

@@ -8,15 +8,15 @@ use Rattle.cgm_atom.specs.Limits.{max_measure}
 use Rattle.cgm_formula.specs.declared.formula.Formula.{Formula}
 use Rattle.cgm_formula.specs.declared.formula.Formula.TheVariants.{And, Or}
 use Rattle.cgm_formula.specs.declared.formula.Linear.{Linear}
-use Rattle.cgm_formula.specs.Nodes.{comparisons, comparisons_step, joined}
+use Rattle.cgm_formula.specs.Nodes.{comparisons, comparisons_step, lists_joined}
 use Rattle.cgm_formula.proofs.Folds.{fold-And, fold-Or}
 use Rattle.cgm_model.specs.declared.lists.Lists.{Lists}
 use Rattle.cgm_enc_formula.specs.Measures.{comparison_measure, has_small_measures}
 
-list_all-joined : {X Y : Type 0} (test : X → Bool) (g : Y → List X) (ys : List Y) → list_all test (joined (map g ys)) ≡ list_all (λ y. list_all test (g y)) ys
+list_all-joined : {X Y : Type 0} (test : X → Bool) (g : Y → List X) (ys : List Y) → list_all test (lists_joined (map g ys)) ≡ list_all (λ y. list_all test (g y)) ys
 list_all-joined test g [] = refl
 list_all-joined test g (y ∷ ys) =
-    list_all-append test (g y) (joined (map g ys)) ∙ ap (λ (t : Bool). list_all test (g y) && t) (list_all-joined test g ys)
+    list_all-append test (g y) (lists_joined (map g ys)) ∙ ap (λ (t : Bool). list_all test (g y) && t) (list_all-joined test g ys)
 
 module _ (m : Lists) (b : Bounds) where
   abbrev test : Linear × ℤ → Bool

@@ -12,7 +12,7 @@ use Rattle.cgm_formula.specs.declared.formula.Formula.TheVariants.{Name, Not, An
 use Rattle.cgm_formula.specs.declared.formula.Linear.{Linear}
 use Rattle.cgm_formula.specs.declared.formula.Truth.{Truth}
 use Rattle.cgm_formula.specs.declared.formula.Truth.TheVariants as names
-use Rattle.cgm_formula.specs.Nodes.{comparisons, names as names_of}
+use Rattle.cgm_formula.specs.Nodes.{comparisons, formula_names as names_of}
 use Rattle.cgm_formula.proofs.Comparisons.{of_at_least, of_at_most, of_conjunction, of_disjunction, of_equality, of_equivalence, of_implication, of_negation}
 use Rattle.cgm_formula.proofs.Folds.{fold-AtLeast, fold-AtMost, fold-And, fold-Equal, fold-Iff, fold-Implies, fold-Name, fold-Not, fold-Or}
 use Rattle.cgm_formula.proofs.Induction.{by_cases}
@@ -20,7 +20,7 @@ use Rattle.cgm_model.specs.declared.lists.Lists.{Lists}
 use Rattle.cgm_model.specs.declared.lists.Rule.{Rule}
 use Rattle.cgm_model.specs.Formulas.{IsKnownTruth, formula_of, has_distinct_terms}
 use Rattle.cgm_model.specs.TruthVariables.{truth_variables, variable_of}
-use Rattle.cgm_model.specs.WellFormed.{IsRule, IsWellFormed}
+use Rattle.cgm_model.specs.WellFormed.{IsRule, IsWellFormedModel}
 use Rattle.cgm_enc_formula.specs.declared.literals.Literal.{Literal}
 use Rattle.cgm_enc_formula.specs.Definitions.{AreDefinitionsFrom, Definition, IsDefinitionOf, all_of, any_of, at_least, at_most, same_as}
 use Rattle.cgm_enc_formula.specs.Literals.{opposite, positive}
@@ -213,8 +213,8 @@ module _ (m : Lists) where
       known_both n named.definitions (rule_definitions m (n + length named.definitions) rs) one.definitions
       (definitions_known (n + length named.definitions) rs (omega arith) (All-tail HasKnownFormula r rs h))
 
-pub rule_formulas_known : (m : Lists) → ∥ IsWellFormed m ∥₁ → All (HasKnownFormula m) m.rules
+pub rule_formulas_known : (m : Lists) → ∥ IsWellFormedModel m ∥₁ → All (HasKnownFormula m) m.rules
 rule_formulas_known m well k d l = formula_known m (get_or m.rules k d) (each_rule m well k d l)
 
-pub rule_definitions_known : (m : Lists) (n : ℕ) → ∥ IsWellFormed m ∥₁ → model_variables m ≤ n → AreDefinitionsFrom n (rule_definitions m n m.rules)
+pub rule_definitions_known : (m : Lists) (n : ℕ) → ∥ IsWellFormedModel m ∥₁ → model_variables m ≤ n → AreDefinitionsFrom n (rule_definitions m n m.rules)
 rule_definitions_known m n well few = definitions_known m n m.rules few (rule_formulas_known m well)

@@ -11,7 +11,7 @@ use Rattle.cgm_formula.specs.declared.formula.Formula.{Formula}
 use Rattle.cgm_formula.specs.declared.formula.Formula.TheVariants.{Name, Not, And, Or, Implies, Iff}
 use Rattle.cgm_formula.specs.declared.formula.Linear.{Linear}
 use Rattle.cgm_formula.specs.declared.formula.Truth.{Truth}
-use Rattle.cgm_formula.specs.Nodes.{comparisons, names as names_of}
+use Rattle.cgm_formula.specs.Nodes.{comparisons, formula_names as names_of}
 use Rattle.cgm_formula.proofs.Comparisons.{of_conjunction, of_disjunction, of_equivalence, of_implication, of_negation}
 use Rattle.cgm_formula.proofs.Folds.{fold-And, fold-Iff, fold-Implies, fold-Not, fold-Or}
 use Rattle.cgm_model.specs.declared.lists.Lists.{Lists}
@@ -21,7 +21,7 @@ use Rattle.cgm_enc_formula.specs.Building.{HasRoomFor, Part, definition_part, de
 use Rattle.cgm_enc_formula.specs.Definitions.{Definition, all_of, any_of, same_as}
 use Rattle.cgm_enc_formula.specs.Naming.{Named, NamedParts, Naming, defined, naming, naming_step, parts_named}
 use Rattle.cgm_enc_formula.specs.Literals.{opposite}
-use Rattle.cgm_enc_formula.specs.Terms.{IsEncodable, IsEncodableFormula, model_variables, row_terms}
+use Rattle.cgm_enc_formula.specs.Terms.{AreRowTerms, IsEncodableFormula, model_variables, row_terms}
 use Rattle.cgm_enc_formula.proofs.NamingKnown.{HasTerms, IsKnownNamed, naming_known, parts_known, IsNameable}
 use Rattle.cgm_enc_formula.proofs.Splits.{name_of_name, names_of_conjunction, names_of_disjunction, names_of_equivalence, names_of_implication, names_of_negation}
 use Rattle.cgm_enc_formula.proofs.Steps.{IsLeft, definitions_both, first_fits, left_more, one_definition, rest_fits, with-count, with_both}
@@ -92,10 +92,10 @@ module _ (m : Lists) where
   pub encodable_negation : (part : Formula) → IsEncodableFormula m (Not part) → IsEncodableFormula m part
   encodable_negation part h = record {
     names = names_of_negation (IsKnownTruth m) part h.names;
-    comparisons = of_negation (IsEncodable m) part h.comparisons;
+    comparisons = of_negation (AreRowTerms m) part h.comparisons;
   }
 
-  parts_encodable : (parts : List Formula) → AllByRecursion (λ f. All (IsKnownTruth m) (names_of f)) parts → All (λ f. All (IsEncodable m) (comparisons f)) parts → All (IsEncodableFormula m) parts
+  parts_encodable : (parts : List Formula) → AllByRecursion (λ f. All (IsKnownTruth m) (names_of f)) parts → All (λ f. All (AreRowTerms m) (comparisons f)) parts → All (IsEncodableFormula m) parts
   parts_encodable parts h k i d l = record {
     names = All-from_recursion (λ f. All (IsKnownTruth m) (names_of f)) parts h i d l;
     comparisons = k i d l;
@@ -103,22 +103,22 @@ module _ (m : Lists) where
 
   pub encodable_conjunction : (parts : List Formula) → IsEncodableFormula m (And parts) → All (IsEncodableFormula m) parts
   encodable_conjunction parts h =
-      parts_encodable parts (names_of_conjunction (IsKnownTruth m) parts h.names) (of_conjunction (IsEncodable m) parts h.comparisons)
+      parts_encodable parts (names_of_conjunction (IsKnownTruth m) parts h.names) (of_conjunction (AreRowTerms m) parts h.comparisons)
 
   pub encodable_disjunction : (parts : List Formula) → IsEncodableFormula m (Or parts) → All (IsEncodableFormula m) parts
   encodable_disjunction parts h =
-      parts_encodable parts (names_of_disjunction (IsKnownTruth m) parts h.names) (of_disjunction (IsEncodable m) parts h.comparisons)
+      parts_encodable parts (names_of_disjunction (IsKnownTruth m) parts h.names) (of_disjunction (AreRowTerms m) parts h.comparisons)
 
   pub encodable_implication : (premise conclusion : Formula) → IsEncodableFormula m (Implies premise conclusion) → IsEncodableFormula m premise × IsEncodableFormula m conclusion
   encodable_implication premise conclusion h =
       let names = names_of_implication (IsKnownTruth m) premise conclusion h.names in
-      let cs = of_implication (IsEncodable m) premise conclusion h.comparisons in
+      let cs = of_implication (AreRowTerms m) premise conclusion h.comparisons in
       (record { names = names.0; comparisons = cs.0 }, record { names = names.1; comparisons = cs.1 })
 
   pub encodable_equivalence : (one other : Formula) → IsEncodableFormula m (Iff one other) → IsEncodableFormula m one × IsEncodableFormula m other
   encodable_equivalence one other h =
       let names = names_of_equivalence (IsKnownTruth m) one other h.names in
-      let cs = of_equivalence (IsEncodable m) one other h.comparisons in
+      let cs = of_equivalence (AreRowTerms m) one other h.comparisons in
       (record { names = names.0; comparisons = cs.0 }, record { names = names.1; comparisons = cs.1 })
 
   -- ---- the naming of each kind of formula
@@ -233,12 +233,12 @@ module _ (m : Lists) where
 
 -- ---- comparisons
 
-pub row_terms_fit : (m : Lists) (p : Instance) (l : Linear) (k : ℤ) (terms : List (ℤ × Var)) → terms ≡ row_terms m l → model_variables m ≤ var_count p → IsEncodable m (l, k) → AreTermsOf (var_count p) terms
+pub row_terms_fit : (m : Lists) (p : Instance) (l : Linear) (k : ℤ) (terms : List (ℤ × Var)) → terms ≡ row_terms m l → model_variables m ≤ var_count p → AreRowTerms m (l, k) → AreTermsOf (var_count p) terms
 row_terms_fit m p l k terms e few h =
     subst (λ (ts : List (ℤ × Var)). AreTermsOf (var_count p) ts) (sym e)
     (terms_wider (model_variables m) (var_count p) few (row_terms m l) (row_terms_known m l h.terms))
 
-pub row_terms_small : (m : Lists) (l : Linear) (k : ℤ) (terms : List (ℤ × Var)) → terms ≡ row_terms m l → IsEncodable m (l, k) → All (λ t. unsigned_abs t.0 < 2 ^ 63) terms
+pub row_terms_small : (m : Lists) (l : Linear) (k : ℤ) (terms : List (ℤ × Var)) → terms ≡ row_terms m l → AreRowTerms m (l, k) → All (λ t. unsigned_abs t.0 < 2 ^ 63) terms
 row_terms_small m l k terms e h =
     subst (λ (ts : List (ℤ × Var)). All (λ t. unsigned_abs t.0 < 2 ^ 63) ts) (sym e)
     (All-row_terms (λ c. unsigned_abs c < 2 ^ 63) m l (λ i d within. (let small = h.coefficients i d within in omega arith)))

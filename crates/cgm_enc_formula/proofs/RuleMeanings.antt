@@ -24,7 +24,7 @@ use Rattle.cgm_model.specs.Formulas.{IsKnownNumber, IsKnownTruth, IsProperRule, 
 use Rattle.cgm_model.specs.Place.{Each, EachFrom}
 use Rattle.cgm_model.specs.Realization.{KeepsRule}
 use Rattle.cgm_model.specs.TruthVariables.{StandFor, variable_of}
-use Rattle.cgm_model.specs.WellFormed.{IsWellFormed}
+use Rattle.cgm_model.specs.WellFormed.{IsWellFormedModel}
 use Rattle.cgm_enc_formula.specs.declared.literals.Literal.{Literal}
 use Rattle.cgm_enc_formula.specs.Building.{rules_part}
 use Rattle.cgm_enc_formula.specs.Definitions.{AreDefined}
@@ -154,10 +154,10 @@ module _ (m : Lists) (values : List ℤ) (a : Assignment) (sums : List ℤ) (sta
   each_held place (r ∷ rs) proper h =
       ((same_rule place r (All-head (IsProperRule m) r rs proper)).1 h.0, each_held (place + 1) rs (All-tail (IsProperRule m) r rs proper) h.1)
 
-proper_rules : (m : Lists) → ∥ IsWellFormed m ∥₁ → All (IsProperRule m) m.rules
+proper_rules : (m : Lists) → ∥ IsWellFormedModel m ∥₁ → All (IsProperRule m) m.rules
 proper_rules m well k d l = (each_rule m well k d l).proper
 
-pub rules_part_means : (m : Lists) (values : List ℤ) (a : Assignment) (sums : List ℤ) (n : ℕ) → ∥ IsWellFormed m ∥₁ → StandFor m (truth_at values) a → StandForNumbers m values a sums → MeetPart values (rules_part m n m.rules) ↔ (AreDefined values n (rule_definitions m n m.rules) × Each (KeepsRule a sums) m.rules)
+pub rules_part_means : (m : Lists) (values : List ℤ) (a : Assignment) (sums : List ℤ) (n : ℕ) → ∥ IsWellFormedModel m ∥₁ → StandFor m (truth_at values) a → StandForNumbers m values a sums → MeetPart values (rules_part m n m.rules) ↔ (AreDefined values n (rule_definitions m n m.rules) × Each (KeepsRule a sums) m.rules)
 unfolding rules_part
 rules_part_means m values a sums n well stand numbers =
     let proper = proper_rules m well in

@@ -16,7 +16,7 @@ use Rattle.cgm_formula.proofs.Induction.{by_cases}
 use Rattle.cgm_model.specs.declared.lists.Lists.{Lists}
 use Rattle.cgm_model.specs.declared.lists.Rule.{Rule}
 use Rattle.cgm_model.specs.Formulas.{formula_of, node_total}
-use Rattle.cgm_model.specs.WellFormed.{IsWellFormed}
+use Rattle.cgm_model.specs.WellFormed.{IsWellFormedModel}
 use Rattle.cgm_enc_formula.specs.declared.literals.Literal.{Literal}
 use Rattle.cgm_enc_formula.specs.Building.{rules_part}
 use Rattle.cgm_enc_formula.specs.Definitions.{Definition, all_of, any_of, definition_clauses, definition_rows, same_as}
@@ -231,7 +231,7 @@ module _ (m : Lists) where
       let long_rows = rows-length n named.definitions (rule_definitions m next rs) in
       record { names = omega arith; clauses = omega arith; rows = omega arith }
 
-pub rules_part_small : (m : Lists) (n : ℕ) → ∥ IsWellFormed m ∥₁ → IsSmallPart (rules_part m n m.rules)
+pub rules_part_small : (m : Lists) (n : ℕ) → ∥ IsWellFormedModel m ∥₁ → IsSmallPart (rules_part m n m.rules)
 unfolding rules_part
 rules_part_small m n well =
     let few = few_nodes m well in

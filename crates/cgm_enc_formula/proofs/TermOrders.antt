@@ -1,4 +1,4 @@
--- Terms stay those of a row where they are placed in order; those of a rule's comparisons are such.
+-- Terms stay those of a row where they are term_placed in order; those of a rule's comparisons are such.
 use Rattle.std.proofs.Common.{◌≡◌, ◌≢◌, ℕ, ◌<◌, ◌≤◌, Bool, true, false, cond, not, List, [], ◌∷◌, refl, sym, ◌∙◌, arith}
 use Rattle.std.specs.Prelude.{ℤ, pos, nat_lt}
 use Rattle.std.specs.List.{All, list_any}
@@ -12,7 +12,7 @@ use Rattle.cgm_formula.specs.declared.formula.Number.{Number}
 use Rattle.cgm_formula.specs.declared.formula.Number.TheVariants as number
 use Rattle.cgm_model.specs.declared.lists.Lists.{Lists}
 use Rattle.cgm_model.specs.Formulas.{IsKnownNumber, are_distinct_terms, is_same_number}
-use Rattle.cgm_enc_formula.specs.Terms.{AreApart, all_placed, is_zero, model_variables, nonzero, number_variable, placed, row_terms, variable_terms}
+use Rattle.cgm_enc_formula.specs.Terms.{AreApart, all_terms_placed, is_zero, model_variables, nonzero, number_variable, term_placed, row_terms, variable_terms}
 
 pub terms_wider : (count more : ℕ) → count ≤ more → (terms : List (ℤ × Var)) → AreTermsOf count terms → AreTermsOf more terms
 terms_wider count more few [] h = tt
@@ -26,33 +26,33 @@ absent_by : (x : ℕ) (t u : ℤ × Var) (terms rest : List (ℤ × Var)) (befor
 absent_by x t u terms rest true h k l r = (h, (k, l))
 absent_by x t u terms rest false h k l r = (k, r)
 
-absent_placed : (x : ℕ) (t : ℤ × Var) (terms : List (ℤ × Var)) → t.1.0 ≢ x → IsAbsent x terms → IsAbsent x (placed t terms)
+absent_placed : (x : ℕ) (t : ℤ × Var) (terms : List (ℤ × Var)) → t.1.0 ≢ x → IsAbsent x terms → IsAbsent x (term_placed t terms)
 absent_placed x t [] h k = (h, tt)
 absent_placed x t (u ∷ terms) h k =
-    absent_by x t u terms (placed t terms) (nat_lt t.1.0 u.1.0) h k.0 k.1 (absent_placed x t terms h k.1)
+    absent_by x t u terms (term_placed t terms) (nat_lt t.1.0 u.1.0) h k.0 k.1 (absent_placed x t terms h k.1)
 
 terms_by : (count : ℕ) (t u : ℤ × Var) (terms rest : List (ℤ × Var)) (before : Bool) → AreTermsOf count (t ∷ u ∷ terms) → IsAbsent u.1.0 rest → AreTermsOf count rest → AreTermsOf count (cond before (t ∷ u ∷ terms) (u ∷ rest))
 terms_by count t u terms rest true h k r = h
 terms_by count t u terms rest false h k r = (h.3.0, h.3.1, k, r)
 
-terms_placed : (count : ℕ) (t : ℤ × Var) (terms : List (ℤ × Var)) → AreTermsOf count (t ∷ terms) → AreTermsOf count (placed t terms)
+terms_placed : (count : ℕ) (t : ℤ × Var) (terms : List (ℤ × Var)) → AreTermsOf count (t ∷ terms) → AreTermsOf count (term_placed t terms)
 terms_placed count t [] h = h
 terms_placed count t (u ∷ terms) h =
     let apart : t.1.0 ≢ u.1.0 = λ same. h.2.0 (sym same) in
-    terms_by count t u terms (placed t terms) (nat_lt t.1.0 u.1.0) h
+    terms_by count t u terms (term_placed t terms) (nat_lt t.1.0 u.1.0) h
     (absent_placed u.1.0 t terms apart h.3.2)
     (terms_placed count t terms (h.0, h.1, h.2.1, h.3.3))
 
-pub apart_placed : (t : ℤ × Var) (so_far rest : List (ℤ × Var)) → AreApart so_far rest → IsAbsent t.1.0 rest → AreApart (placed t so_far) rest
+pub apart_placed : (t : ℤ × Var) (so_far rest : List (ℤ × Var)) → AreApart so_far rest → IsAbsent t.1.0 rest → AreApart (term_placed t so_far) rest
 apart_placed t so_far [] h k = tt
 apart_placed t so_far (u ∷ rest) h k =
     let apart : t.1.0 ≢ u.1.0 = λ same. k.0 (sym same) in
     (absent_placed u.1.0 t so_far apart h.0, h.1, apart_placed t so_far rest h.2 k.1)
 
-pub terms_all_placed : (count : ℕ) (so_far terms : List (ℤ × Var)) → AreTermsOf count so_far → AreTermsOf count terms → AreApart so_far terms → AreTermsOf count (all_placed so_far terms)
+pub terms_all_placed : (count : ℕ) (so_far terms : List (ℤ × Var)) → AreTermsOf count so_far → AreTermsOf count terms → AreApart so_far terms → AreTermsOf count (all_terms_placed so_far terms)
 terms_all_placed count so_far [] h k apart = h
 terms_all_placed count so_far (t ∷ terms) h k apart =
-    terms_all_placed count (placed t so_far) terms (terms_placed count t so_far (k.0, k.1, apart.0, h)) k.3 (apart_placed t so_far terms apart.2 apart.1)
+    terms_all_placed count (term_placed t so_far) terms (terms_placed count t so_far (k.0, k.1, apart.0, h)) k.3 (apart_placed t so_far terms apart.2 apart.1)
 
 pub apart_at_first : (count : ℕ) (terms : List (ℤ × Var)) → AreTermsOf count terms → AreApart [] terms
 apart_at_first count [] h = tt
@@ -114,15 +114,15 @@ module _ (P : ℤ → Type 0) where
   placed_by_all t u terms rest true h k l = All-cons Has t (u ∷ terms) h k
   placed_by_all t u terms rest false h k l = All-cons Has u rest (All-head Has u terms k) l
 
-  placed_all : (t : ℤ × Var) (terms : List (ℤ × Var)) → Has t → All Has terms → All Has (placed t terms)
+  placed_all : (t : ℤ × Var) (terms : List (ℤ × Var)) → Has t → All Has terms → All Has (term_placed t terms)
   placed_all t [] h k = All-cons Has t [] h k
   placed_all t (u ∷ terms) h k =
-      placed_by_all t u terms (placed t terms) (nat_lt t.1.0 u.1.0) h k (placed_all t terms h (All-tail Has u terms k))
+      placed_by_all t u terms (term_placed t terms) (nat_lt t.1.0 u.1.0) h k (placed_all t terms h (All-tail Has u terms k))
 
-  all_placed_all : (so_far terms : List (ℤ × Var)) → All Has so_far → All Has terms → All Has (all_placed so_far terms)
+  all_placed_all : (so_far terms : List (ℤ × Var)) → All Has so_far → All Has terms → All Has (all_terms_placed so_far terms)
   all_placed_all so_far [] h k = h
   all_placed_all so_far (t ∷ terms) h k =
-      all_placed_all (placed t so_far) terms (placed_all t so_far (All-head Has t terms k) h) (All-tail Has t terms k)
+      all_placed_all (term_placed t so_far) terms (placed_all t so_far (All-head Has t terms k) h) (All-tail Has t terms k)
 
   pub All-row_terms : (m : Lists) (l : Linear) → All (λ t. P t.0) l.terms → All Has (row_terms m l)
   All-row_terms m l h =

@@ -10,21 +10,21 @@ use Rattle.cgm_formula.specs.declared.formula.Linear.{Linear}
 use Rattle.cgm_formula.specs.declared.formula.Number.{Number}
 use Rattle.cgm_formula.specs.Truth.{linear_value, total}
 use Rattle.cgm_model.specs.declared.lists.Lists.{Lists}
-use Rattle.cgm_enc_formula.specs.Terms.{all_placed, is_zero, nonzero, number_variable, placed, row_terms, variable_terms}
+use Rattle.cgm_enc_formula.specs.Terms.{all_terms_placed, is_zero, nonzero, number_variable, term_placed, row_terms, variable_terms}
 
 module _ (values : List ℤ) where
-  placed_by : (t u : ℤ × Var) (terms : List (ℤ × Var)) (before : Bool) → activity values (placed t terms) ≡ (t.0 *ℤ value_of values t.1.0) +ℤ activity values terms → activity values (cond before (t ∷ u ∷ terms) (u ∷ placed t terms)) ≡ (t.0 *ℤ value_of values t.1.0) +ℤ activity values (u ∷ terms)
+  placed_by : (t u : ℤ × Var) (terms : List (ℤ × Var)) (before : Bool) → activity values (term_placed t terms) ≡ (t.0 *ℤ value_of values t.1.0) +ℤ activity values terms → activity values (cond before (t ∷ u ∷ terms) (u ∷ term_placed t terms)) ≡ (t.0 *ℤ value_of values t.1.0) +ℤ activity values (u ∷ terms)
   placed_by t u terms true h = refl
   placed_by t u terms false h = omega (arith, ints)
 
-  placed-sum : (t : ℤ × Var) (terms : List (ℤ × Var)) → activity values (placed t terms) ≡ (t.0 *ℤ value_of values t.1.0) +ℤ activity values terms
+  placed-sum : (t : ℤ × Var) (terms : List (ℤ × Var)) → activity values (term_placed t terms) ≡ (t.0 *ℤ value_of values t.1.0) +ℤ activity values terms
   placed-sum t [] = refl
   placed-sum t (u ∷ terms) = placed_by t u terms (nat_lt t.1.0 u.1.0) (placed-sum t terms)
 
-  all_placed-sum : (so_far terms : List (ℤ × Var)) → activity values (all_placed so_far terms) ≡ activity values so_far +ℤ activity values terms
+  all_placed-sum : (so_far terms : List (ℤ × Var)) → activity values (all_terms_placed so_far terms) ≡ activity values so_far +ℤ activity values terms
   all_placed-sum so_far [] = omega (arith, ints)
   all_placed-sum so_far (t ∷ terms) =
-      let rest = all_placed-sum (placed t so_far) terms in
+      let rest = all_placed-sum (term_placed t so_far) terms in
       let first = placed-sum t so_far in
       omega (arith, ints)
 

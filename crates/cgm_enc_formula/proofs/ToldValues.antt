@@ -15,7 +15,7 @@ use Rattle.cgm_formula.specs.declared.formula.Number.{Number}
 use Rattle.cgm_formula.specs.declared.formula.Number.TheVariants as number
 use Rattle.cgm_formula.specs.declared.formula.Truth.{Truth}
 use Rattle.cgm_formula.specs.declared.formula.Truth.TheVariants as truths
-use Rattle.cgm_formula.specs.Nodes.{comparisons, comparisons_step, names as names_of, names_step}
+use Rattle.cgm_formula.specs.Nodes.{comparisons, comparisons_step, formula_names as names_of, names_step}
 use Rattle.cgm_formula.specs.Truth.{linear_value, same_truth, truth, truth_step}
 use Rattle.cgm_formula.proofs.Comparisons.{of_conjunction, of_disjunction, of_equality, of_equivalence, of_implication, of_negation}
 use Rattle.cgm_formula.proofs.Folds.{fold-And, fold-AtLeast, fold-AtMost, fold-Equal, fold-Iff, fold-Implies, fold-Name, fold-Not, fold-Or}

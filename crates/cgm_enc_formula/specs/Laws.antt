@@ -12,7 +12,7 @@ use Rattle.cgm_model.specs.declared.lists.Lists.{Lists}
 use Rattle.cgm_model.specs.Place.{Each}
 use Rattle.cgm_model.specs.Realization.{KeepsRule}
 use Rattle.cgm_model.specs.TruthVariables.{StandFor}
-use Rattle.cgm_model.specs.WellFormed.{IsWellFormed}
+use Rattle.cgm_model.specs.WellFormed.{IsWellFormedModel}
 use Rattle.cgm_enc_formula.specs.Building.{Part, rules_part}
 use Rattle.cgm_enc_formula.specs.Definitions.{AreDefined, AreDefinitionsFrom, Definition, definition_true}
 use Rattle.cgm_enc_formula.specs.Rules.{rule_definitions}
@@ -32,7 +32,7 @@ pub record MeetPart (values : List ℤ) (part : Part) : Type 0 where
 abbrev pub RulesPartMeansRules : Type 0
 RulesPartMeansRules =
     (m : Lists) (values : List ℤ) (a : Assignment) (sums : List ℤ) (n : ℕ)
-    → ∥ IsWellFormed m ∥₁
+    → ∥ IsWellFormedModel m ∥₁
     → StandFor m (truth_at values) a
     → StandForNumbers m values a sums
     → MeetPart values (rules_part m n m.rules) ↔ (AreDefined values n (rule_definitions m n m.rules) × Each (KeepsRule a sums) m.rules)
@@ -53,7 +53,7 @@ ExtendedAreDefined =
 abbrev pub RuleDefinitionsAreKnown : Type 0
 RuleDefinitionsAreKnown =
     (m : Lists) (n : ℕ)
-    → ∥ IsWellFormed m ∥₁
+    → ∥ IsWellFormedModel m ∥₁
     → model_variables m ≤ n
     → AreDefinitionsFrom n (rule_definitions m n m.rules)
 
@@ -64,4 +64,4 @@ pub record IsSmallPart (part : Part) : Type 0 where
   pub rows : length part.rows ≤ 4 * limit_number limits.FormulaNodes
 
 abbrev pub RulesPartIsSmall : Type 0
-RulesPartIsSmall = (m : Lists) (n : ℕ) → ∥ IsWellFormed m ∥₁ → IsSmallPart (rules_part m n m.rules)
+RulesPartIsSmall = (m : Lists) (n : ℕ) → ∥ IsWellFormedModel m ∥₁ → IsSmallPart (rules_part m n m.rules)

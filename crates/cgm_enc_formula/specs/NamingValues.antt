@@ -6,7 +6,7 @@ use Rattle.cgm_formula.specs.declared.formula.Formula.TheOpen.{Formula-F}
 use Rattle.cgm_formula.specs.declared.formula.Formula.TheFolds.{fold-Formula}
 use Rattle.cgm_formula.specs.declared.formula.Number.{Number}
 use Rattle.cgm_formula.specs.declared.formula.Truth.{Truth}
-use Rattle.cgm_formula.specs.Nodes.{joined}
+use Rattle.cgm_formula.specs.Nodes.{lists_joined}
 use Rattle.cgm_formula.specs.Truth.{linear_value, same_truth}
 use Rattle.cgm_model.specs.declared.lists.Rule.{Rule}
 use Rattle.cgm_model.specs.Formulas.{formula_of}
@@ -21,7 +21,7 @@ abbrev pub telling : List Bool → Bool → Told
 telling parts truth = record { truths = parts ++ truth ∷ []; says = truth }
 
 abbrev pub all_truths : List Told → List Bool
-all_truths parts = joined (map (λ part. part.truths) parts)
+all_truths parts = lists_joined (map (λ part. part.truths) parts)
 
 -- one level, with what each part tells; `=` has nodes for `<=`, for `>=` and for both
 abbrev pub told_step : (Truth → Bool) → (Number → ℤ) → Formula-F Told → Told

@@ -25,17 +25,17 @@ abbrev pub model_variables : Lists → ℕ
 model_variables m = truth_variables m + length m.vars + length m.sums
 
 -- a term before the first that has a greater variable
-abbrev pub placed : ℤ × Var → List (ℤ × Var) → List (ℤ × Var)
-placed t [] = t ∷ []
-placed t (u ∷ terms) = if nat_lt t.1.0 u.1.0 then t ∷ u ∷ terms else u ∷ placed t terms
+abbrev pub term_placed : ℤ × Var → List (ℤ × Var) → List (ℤ × Var)
+term_placed t [] = t ∷ []
+term_placed t (u ∷ terms) = if nat_lt t.1.0 u.1.0 then t ∷ u ∷ terms else u ∷ term_placed t terms
 
--- the terms placed among others, one after another
-abbrev pub all_placed : List (ℤ × Var) → List (ℤ × Var) → List (ℤ × Var)
-all_placed so_far [] = so_far
-all_placed so_far (t ∷ terms) = all_placed (placed t so_far) terms
+-- the terms term_placed among others, one after another
+abbrev pub all_terms_placed : List (ℤ × Var) → List (ℤ × Var) → List (ℤ × Var)
+all_terms_placed so_far [] = so_far
+all_terms_placed so_far (t ∷ terms) = all_terms_placed (term_placed t so_far) terms
 
 abbrev pub ascending : List (ℤ × Var) → List (ℤ × Var)
-ascending terms = all_placed [] terms
+ascending terms = all_terms_placed [] terms
 
 -- a table of coefficients by variable, as terms
 abbrev pub as_terms : List (ℕ × ℤ) → List (ℤ × Var)
@@ -61,12 +61,12 @@ abbrev pub row_terms : Lists → Linear → List (ℤ × Var)
 row_terms m l = ascending (nonzero (variable_terms m l.terms))
 
 -- the terms can be those of a row: known, distinct variables, and small numbers
-pub record IsEncodable (m : Lists) (c : Linear × ℤ) : Type 0 where
+pub record AreRowTerms (m : Lists) (c : Linear × ℤ) : Type 0 where
   pub terms : AreTermsOf (model_variables m) (nonzero (variable_terms m c.0.terms))
   pub coefficients : All (λ t. unsigned_abs t.0 ≤ limit_number limits.Coefficient) c.0.terms
   pub number : unsigned_abs c.1 ≤ max_measure
 
 -- the names of the formula are there, and each of its comparisons can become rows
 pub record IsEncodableFormula (m : Lists) (f : Formula) : Type 0 where
-  pub names : All (IsKnownTruth m) (nodes.names f)
-  pub comparisons : All (IsEncodable m) (nodes.comparisons f)
+  pub names : All (IsKnownTruth m) (nodes.formula_names f)
+  pub comparisons : All (AreRowTerms m) (nodes.comparisons f)

@@ -8,7 +8,7 @@ ghost use Rattle.cgm_enc_formula.specs.Building.{HasRoomFor, definition_part, de
 ghost use Rattle.cgm_enc_formula.specs.Definitions.{at_least, at_most};
 ghost use Rattle.cgm_enc_formula.specs.Literals.{positive as positive_of};
 ghost use Rattle.cgm_enc_formula.specs.Naming.{equal_definitions, naming, parts_named};
-ghost use Rattle.cgm_enc_formula.specs.Terms.{IsEncodable, IsEncodableFormula, model_variables, row_terms as row_terms_of};
+ghost use Rattle.cgm_enc_formula.specs.Terms.{AreRowTerms, IsEncodableFormula, model_variables, row_terms as row_terms_of};
 
 use crate::definitions::{define_all, define_any, define_at_least, define_at_most, define_same};
 use crate::literals::{Literal, opposite, positive};
@@ -92,7 +92,7 @@ fn name_at_most(
     linear: &Linear,
     k: i64,
 ) -> Result<Literal, OutOfMemory>
-    requires comparison { IsEncodable (lists_of model.now) (linear.now, k) }
+    requires comparison { AreRowTerms (lists_of model.now) (linear.now, k) }
     requires variables { model_variables (lists_of model.now) ≤ var_count builder.old }
     requires room { HasRoomFor builder.old (definition_part (var_count builder.old) (at_most (row_terms_of (lists_of model.now) linear.now) k)) }
     ensures literal { IfOk result (λ linear. linear ≡ positive_of (var_count builder.old)) }
@@ -110,7 +110,7 @@ fn name_at_least(
     linear: &Linear,
     k: i64,
 ) -> Result<Literal, OutOfMemory>
-    requires comparison { IsEncodable (lists_of model.now) (linear.now, k) }
+    requires comparison { AreRowTerms (lists_of model.now) (linear.now, k) }
     requires variables { model_variables (lists_of model.now) ≤ var_count builder.old }
     requires room { HasRoomFor builder.old (definition_part (var_count builder.old) (at_least (row_terms_of (lists_of model.now) linear.now) k)) }
     ensures literal { IfOk result (λ linear. linear ≡ positive_of (var_count builder.old)) }
@@ -128,7 +128,7 @@ fn name_equal(
     linear: &Linear,
     k: i64,
 ) -> Result<Literal, OutOfMemory>
-    requires comparison { IsEncodable (lists_of model.now) (linear.now, k) }
+    requires comparison { AreRowTerms (lists_of model.now) (linear.now, k) }
     requires variables { model_variables (lists_of model.now) ≤ var_count builder.old }
     requires room { HasRoomFor builder.old (definitions_part (var_count builder.old) (equal_definitions (lists_of model.now) linear.now k (var_count builder.old))) }
     ensures literal { IfOk result (λ linear. linear ≡ positive_of (var_count builder.old + 2)) }

@@ -3,7 +3,7 @@ ghost use Rattle.std.specs.Prelude.{◌≡◌, ◌<◌, ◌^◌, [], ◌∷◌, 
 ghost use Rattle.cgm_atom.specs.Limits.{AreTermsOf};
 ghost use Rattle.cgm_model.specs.Model.{lists_of};
 ghost use Rattle.cgm_enc_formula.specs.Definitions.{negative as negative_of};
-ghost use Rattle.cgm_enc_formula.specs.Terms.{AreApart, all_placed, as_terms, model_variables, nonzero, number_variable as variable_in, row_terms as row_terms_of, variable_terms};
+ghost use Rattle.cgm_enc_formula.specs.Terms.{AreApart, all_terms_placed, as_terms, model_variables, nonzero, number_variable as variable_in, row_terms as row_terms_of, variable_terms};
 
 use cgm_atom::{OutOfMemory, Var};
 use cgm_formula::{Linear, Number};
@@ -45,7 +45,7 @@ fn by_variable(
     terms: &[(i64, Number)],
 ) -> Result<BTreeMap<u32, i64>, OutOfMemory>
     requires { AreTermsOf (model_variables (lists_of model.now)) (nonzero (variable_terms (lists_of model.now) terms.now)) }
-    ensures { IfOk result (λ coefficients. as_terms coefficients.entries ≡ all_placed [] (nonzero (variable_terms (lists_of model.now) terms.now))) }
+    ensures { IfOk result (λ coefficients. as_terms coefficients.entries ≡ all_terms_placed [] (nonzero (variable_terms (lists_of model.now) terms.now))) }
 {
     let mut coefficients = BTreeMap::new(alloc);
     for term in terms {
@@ -61,7 +61,7 @@ fn insert_term(
 ) -> Result<(), OutOfMemory>
     requires known { AreTermsOf (model_variables (lists_of model.now)) (nonzero (variable_terms (lists_of model.now) (term.now ∷ []))) }
     requires new { AreApart (as_terms coefficients.old.entries) (nonzero (variable_terms (lists_of model.now) (term.now ∷ []))) }
-    ensures { OnOk result (as_terms coefficients.new.entries ≡ all_placed (as_terms coefficients.old.entries) (nonzero (variable_terms (lists_of model.now) (term.now ∷ [])))) }
+    ensures { OnOk result (as_terms coefficients.new.entries ≡ all_terms_placed (as_terms coefficients.old.entries) (nonzero (variable_terms (lists_of model.now) (term.now ∷ [])))) }
 {
     if term.0 == 0 {
         return Ok(());

@@ -19,10 +19,10 @@ use Rattle.cgm_model.specs.declared.lists.Edge.{Edge}
 use Rattle.cgm_model.specs.declared.lists.Element.{Element}
 use Rattle.cgm_model.specs.declared.lists.Lists.{Lists}
 use Rattle.cgm_model.specs.declared.lists.Refinement.{Refinement}
-use Rattle.cgm_model.specs.Graph.{IsKnown}
+use Rattle.cgm_model.specs.Graph.{HasKnownElements}
 use Rattle.cgm_model.specs.Statement.{IsEdgeOf}
 use Rattle.cgm_model.specs.TruthVariables.{truth_variables}
-use Rattle.cgm_model.specs.WellFormed.{IsAssertion, IsWellFormed}
+use Rattle.cgm_model.specs.WellFormed.{IsAssertion, IsWellFormedModel}
 use Rattle.cgm_enc_graph.specs.GraphClauses.{assertion_clause, bind_clauses, conflict_clause, contrib_clause, edge_group, element_clauses, fact_group, graph_clauses, must_clauses, numbered_elements, numbered_refinements, refinement_clauses, refinement_group, target_of, variables_for, written_clauses}
 use Rattle.cgm_enc_graph.specs.Laws.{max_graph_clauses}
 use Rattle.cgm_enc_graph.proofs.Groups.{each_from, whole_all, whole_few}
@@ -58,7 +58,7 @@ module _ (count : ℕ) where
   implication_known : (x y : ℕ) → x < count → y < count → IsClauseOf count (implication x y)
   implication_known x y h k = of_two (negated x) (literal y) (negated_known x h) (literal_known y k)
 
-  refinement_known : (elements x : ℕ) (r : Refinement) → elements ≤ count → x < count → IsKnown elements r → All (IsClauseOf count) (refinement_clauses (x, r))
+  refinement_known : (elements x : ℕ) (r : Refinement) → elements ≤ count → x < count → HasKnownElements elements r → All (IsClauseOf count) (refinement_clauses (x, r))
   refinement_known elements x r few within known =
       let sources : All (λ source. source < count) r.sources = λ k d l. (let here = known.sources k d l in omega arith) in
       let target = known.target in
@@ -138,7 +138,7 @@ module _ (m : Lists) (known : HasKnownNames m) where
       let count = truth_variables m in
       let of_element = λ (e : ℕ × Element). element_clauses e.0 (variables_for (numbered_refinements m) e.0) in
       All-append (IsClauseOf count) (flat_map refinement_clauses (numbered_refinements m)) (flat_map of_element (numbered_elements m))
-      (numbered_all (IsClauseOf count) refinement_clauses (length m.elements) (IsKnown (length m.elements)) m.refinements known.refinements
+      (numbered_all (IsClauseOf count) refinement_clauses (length m.elements) (HasKnownElements (length m.elements)) m.refinements known.refinements
       (λ k r within is. refinement_known count (length m.elements) (length m.elements + k) r (omega arith) (omega arith) is))
       (numbered_all (IsClauseOf count) of_element 0 (λ _. Unit {0}) m.elements (anything m.elements)
       (λ k e within _. element_known count (0 + k) (variables_for (numbered_refinements m) (0 + k)) (omega arith) (variables_below (length m.elements) count m.refinements (0 + k) (omega arith))))
@@ -231,14 +231,14 @@ module _ (m : Lists) (known : HasKnownNames m) where
       let statements = known.statements in
       omega arith
 
-pub graph_clauses_known : (m : Lists) → ∥ IsWellFormed m ∥₁ → All (IsClauseOf (truth_variables m)) (graph_clauses m)
+pub graph_clauses_known : (m : Lists) → ∥ IsWellFormedModel m ∥₁ → All (IsClauseOf (truth_variables m)) (graph_clauses m)
 unfolding graph_clauses
 graph_clauses_known m well =
     let count = truth_variables m in
     All-map (IsClauseOf count) without_repeats (written_clauses m)
     (λ k d l. All-first_atoms (IsAtomOf count) [] (get_or (written_clauses m) k d).atoms (written_are_known m (known_names m well) k d l))
 
-pub graph_clauses_few : (m : Lists) → ∥ IsWellFormed m ∥₁ → length (graph_clauses m) ≤ max_graph_clauses
+pub graph_clauses_few : (m : Lists) → ∥ IsWellFormedModel m ∥₁ → length (graph_clauses m) ≤ max_graph_clauses
 unfolding graph_clauses
 graph_clauses_few m well =
     let same = length-map (written_clauses m) without_repeats in
@@ -249,7 +249,7 @@ wider : (few more : ℕ) → few ≤ more → (c : Clause) → IsClauseOf few c 
 wider few more h c known = All-weaker (IsAtomOf few) (IsAtomOf more) (λ a is. (let within = is.0 in omega arith, is.1)) c.atoms known
 
 -- a builder with a variable for each takes them all
-pub graph_can_be_added : (m : Lists) (p : Instance) → ∥ IsWellFormed m ∥₁ → truth_variables m ≤ var_count p → length p.clauses ≤ 2 ^ 31 → CanTake p (written_clauses m)
+pub graph_can_be_added : (m : Lists) (p : Instance) → ∥ IsWellFormedModel m ∥₁ → truth_variables m ≤ var_count p → length p.clauses ≤ 2 ^ 31 → CanTake p (written_clauses m)
 graph_can_be_added m p well variables clauses =
     let few = written_are_few m (known_names m well) in
     record {

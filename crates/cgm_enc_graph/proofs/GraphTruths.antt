@@ -12,12 +12,12 @@ use Rattle.cgm_atom.proofs.ClauseTruths.{all_repeats-true}
 use Rattle.cgm_formula.specs.declared.assignment.Assignment.{Assignment}
 use Rattle.cgm_model.specs.declared.lists.Element.{Element}
 use Rattle.cgm_model.specs.declared.lists.Lists.{Lists}
-use Rattle.cgm_model.specs.Graph.{IsKnown}
+use Rattle.cgm_model.specs.Graph.{HasKnownElements}
 use Rattle.cgm_model.specs.Place.{Each}
 use Rattle.cgm_model.specs.Realization.{IsRealization, KeepsAssertion, KeepsBind, KeepsConflict, KeepsContrib, KeepsElement, KeepsMust, KeepsRefinement, KeepsRule}
 use Rattle.cgm_model.specs.Statement.{IsEdgeOf}
 use Rattle.cgm_model.specs.TruthVariables.{StandFor}
-use Rattle.cgm_model.specs.WellFormed.{IsAssertion, IsWellFormed}
+use Rattle.cgm_model.specs.WellFormed.{IsAssertion, IsWellFormedModel}
 use Rattle.cgm_enc_graph.specs.GraphClauses.{assertion_clause, bind_clauses, conflict_clause, contrib_clause, element_clauses, graph_clauses, must_clauses, numbered_elements, numbered_refinements, refinement_clauses, variables_for, written_clauses}
 use Rattle.cgm_enc_graph.specs.GraphRules.{KeepsGraph}
 use Rattle.cgm_enc_graph.proofs.Groups.{Mean, Mean-append, each_from, whole_means}
@@ -68,7 +68,7 @@ module _ (m : Lists) (values : List ℤ) (a : Assignment) (known : HasKnownNames
       let bs = flat_map (bind_clauses m) m.binds in
       let ms = flat_map must_clauses (numbered_elements m) in
       let xs = map assertion_clause m.asserts in
-      let refinements : Mean values rs R = numbered_means refinement_clauses (length m.elements) (IsKnown (length m.elements)) (KeepsRefinement a) m.refinements known.refinements (refinement_means m values a stand) in
+      let refinements : Mean values rs R = numbered_means refinement_clauses (length m.elements) (HasKnownElements (length m.elements)) (KeepsRefinement a) m.refinements known.refinements (refinement_means m values a stand) in
       let elements : Mean values es E = elements_means (λ e. element_clauses e.0 (variables_for (numbered_refinements m) e.0)) (KeepsElement m a) (element_means m values a stand) in
       let contribs : Mean values cs C = mapped_means contrib_clause (IsEdgeOf (length m.elements)) (KeepsContrib a) m.contribs known.contribs (contrib_means m values a stand) in
       let conflicts : Mean values fs F = mapped_means conflict_clause (IsEdgeOf (length m.elements)) (KeepsConflict a) m.conflicts known.conflicts (conflict_means m values a stand) in
@@ -94,7 +94,7 @@ module _ (m : Lists) (values : List ℤ) (a : Assignment) (known : HasKnownNames
       (Mean-append values (rs ++ es) ((cs ++ (fs ++ bs)) ++ (ms ++ xs)) (R × E) ((C × (F × B)) × (M × A)) first from_second)
 
 -- each clause is true exactly where the graph is kept
-pub graph_means : (m : Lists) (values : List ℤ) (a : Assignment) → ∥ IsWellFormed m ∥₁ → StandFor m (truth_at values) a → All (λ c. IsTrue (clause_true values c)) (graph_clauses m) ↔ KeepsGraph m a
+pub graph_means : (m : Lists) (values : List ℤ) (a : Assignment) → ∥ IsWellFormedModel m ∥₁ → StandFor m (truth_at values) a → All (λ c. IsTrue (clause_true values c)) (graph_clauses m) ↔ KeepsGraph m a
 unfolding graph_clauses
 graph_means m values a well stand =
     let means = written_mean m values a (known_names m well) stand in

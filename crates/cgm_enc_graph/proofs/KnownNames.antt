@@ -10,14 +10,14 @@ use Rattle.cgm_model.specs.declared.lists.Element.{Element}
 use Rattle.cgm_model.specs.declared.lists.ElementKind.TheVariants as kinds
 use Rattle.cgm_model.specs.declared.lists.Lists.{Lists}
 use Rattle.cgm_model.specs.declared.lists.Refinement.{Refinement}
-use Rattle.cgm_model.specs.Graph.{IsKnown}
+use Rattle.cgm_model.specs.Graph.{HasKnownElements}
 use Rattle.cgm_model.specs.Lists.{statement_count}
 use Rattle.cgm_model.specs.Statement.{IsEdgeOf}
-use Rattle.cgm_model.specs.WellFormed.{IsAssertion, IsRefinement, IsWellFormed}
+use Rattle.cgm_model.specs.WellFormed.{IsAssertion, IsRefinement, IsWellFormedModel}
 
 -- each name in the graph is there, and the limits hold
 pub record HasKnownNames (m : Lists) : Type 0 where
-  pub refinements : All (IsKnown (length m.elements)) m.refinements
+  pub refinements : All (HasKnownElements (length m.elements)) m.refinements
   pub few_sources : All (λ r. length r.sources ≤ limit_number limits.Sources) m.refinements
   pub contribs : All (IsEdgeOf (length m.elements)) m.contribs
   pub conflicts : All (IsEdgeOf (length m.elements)) m.conflicts
@@ -27,13 +27,13 @@ pub record HasKnownNames (m : Lists) : Type 0 where
   pub few_elements : length m.elements ≤ limit_number limits.Elements
   pub few_refinements : length m.refinements ≤ limit_number limits.Refinements
 
-refinement_known : (m : Lists) (r : Refinement) → IsRefinement m r → IsKnown (length m.elements) r
+refinement_known : (m : Lists) (r : Refinement) → IsRefinement m r → HasKnownElements (length m.elements) r
 refinement_known m r h =
     let within = slice_get_within (map (λ (e : Element). e.kind) m.elements) r.target kinds.Goal h.target in
     let same = length-map m.elements (λ (e : Element). e.kind) in
     record { target = omega arith; sources = h.known }
 
-names_known : (m : Lists) → IsWellFormed m → HasKnownNames m
+names_known : (m : Lists) → IsWellFormedModel m → HasKnownNames m
 names_known m w = record {
   refinements = λ k d l. refinement_known m (get_or m.refinements k d) (w.refinements k d l);
   few_sources = λ k d l. (w.refinements k d l).few;
@@ -46,5 +46,5 @@ names_known m w = record {
   few_refinements = w.limits.refinements;
 }
 
-pub known_names : (m : Lists) → ∥ IsWellFormed m ∥₁ → HasKnownNames m
+pub known_names : (m : Lists) → ∥ IsWellFormedModel m ∥₁ → HasKnownNames m
 known_names m w = ∥∥₁_elim w (hlevel props) (names_known m)

@@ -18,7 +18,7 @@ use Rattle.cgm_model.specs.declared.lists.Element.{Element}
 use Rattle.cgm_model.specs.declared.lists.Lists.{Lists}
 use Rattle.cgm_model.specs.declared.lists.Refinement.{Refinement}
 use Rattle.cgm_model.specs.Assignment.{ElementIsTrue, RefinementIsTrue}
-use Rattle.cgm_model.specs.Graph.{IsKnown}
+use Rattle.cgm_model.specs.Graph.{HasKnownElements}
 use Rattle.cgm_model.specs.Realization.{KeepsAssertion, KeepsBind, KeepsConflict, KeepsContrib, KeepsElement, KeepsMust, KeepsRefinement, Refines, TargetIsTrue}
 use Rattle.cgm_model.specs.Statement.{IsEdgeOf}
 use Rattle.cgm_model.specs.TruthVariables.{StandFor}
@@ -128,7 +128,7 @@ module _ (m : Lists) (values : List ℤ) (a : Assignment) (stand : StandFor m (t
       (implication_means x s P (ElementIsTrue a s) p (element_truth s (All-head (λ source. source < length m.elements) s sources known)))
       (sources_means x P sources (All-tail (λ source. source < length m.elements) s sources known) p))
 
-  pub refinement_means : (k : ℕ) (r : Refinement) → k < length m.refinements → IsKnown (length m.elements) r → Mean values (refinement_clauses (length m.elements + k, r)) (KeepsRefinement a k r)
+  pub refinement_means : (k : ℕ) (r : Refinement) → k < length m.refinements → HasKnownElements (length m.elements) r → Mean values (refinement_clauses (length m.elements + k, r)) (KeepsRefinement a k r)
   refinement_means k r within known =
       let x = length m.elements + k in
       let P = RefinementIsTrue a k in
@@ -205,13 +205,13 @@ module _ (m : Lists) (values : List ℤ) (a : Assignment) (stand : StandFor m (t
 
   -- ---- bindings
 
-  target_truth : (k : ℕ) → All (IsKnown (length m.elements)) m.refinements → k < length m.refinements → Decides (truth_at values (target_of m k)) (TargetIsTrue m a k)
+  target_truth : (k : ℕ) → All (HasKnownElements (length m.elements)) m.refinements → k < length m.refinements → Decides (truth_at values (target_of m k)) (TargetIsTrue m a k)
   target_truth k known within = by_place (slice_get_cases m.refinements k).1
     where
       by_place : ((r : Refinement) × (k < length m.refinements) × (slice_get m.refinements k ≡ Some r) × (get_or m.refinements k r ≡ r)) ⊎ ((length m.refinements ≤ k) × (slice_get m.refinements k ≡ None)) → Decides (truth_at values (target_of m k)) (TargetIsTrue m a k)
       by_place (inl there) =
           let r = there.0 in
-          let is : IsKnown (length m.elements) r = subst (λ (q : Refinement). IsKnown (length m.elements) q) there.3 (known k r within) in
+          let is : HasKnownElements (length m.elements) r = subst (λ (q : Refinement). HasKnownElements (length m.elements) q) there.3 (known k r within) in
           let target : target_of m k ≡ r.target = get_or-map (λ (q : Refinement). q.target) m.refinements k r 0 within ∙ ap (λ (q : Refinement). q.target) there.3 in
           Decides-at (truth_at values (target_of m k)) (truth_at values r.target) (ap (λ (x : ℕ). truth_at values x) target)
           (Decides-like (truth_at values r.target)
@@ -242,7 +242,7 @@ module _ (m : Lists) (values : List ℤ) (a : Assignment) (stand : StandFor m (t
       (E1 → E2 → R1 → R2) (four e1 e2 r1 r2)
       (Decides-implies (truth_at values e1) (not (truth_at values e2) || (not (truth_at values r1) || truth_at values r2)) E1 (E2 → R1 → R2) p middle)
 
-  pub bind_means : (place : ℕ) (e : Edge) → All (IsKnown (length m.elements)) m.refinements → IsEdgeOf (length m.refinements) e → Mean values (bind_clauses m e) (KeepsBind m a place e)
+  pub bind_means : (place : ℕ) (e : Edge) → All (HasKnownElements (length m.elements)) m.refinements → IsEdgeOf (length m.refinements) e → Mean values (bind_clauses m e) (KeepsBind m a place e)
   bind_means place e refinements known =
       let e1 = target_of m e.from in
       let e2 = target_of m e.to in

@@ -11,7 +11,7 @@ use Rattle.cgm_model.specs.declared.lists.Lists.{Lists}
 use Rattle.cgm_model.specs.Realization.{IsRealization, KeepsRule}
 use Rattle.cgm_model.specs.Place.{Each}
 use Rattle.cgm_model.specs.TruthVariables.{StandFor, truth_variables}
-use Rattle.cgm_model.specs.WellFormed.{IsWellFormed}
+use Rattle.cgm_model.specs.WellFormed.{IsWellFormedModel}
 use Rattle.cgm_enc_graph.specs.GraphClauses.{graph_clauses}
 use Rattle.cgm_enc_graph.specs.GraphRules.{KeepsGraph}
 
@@ -19,7 +19,7 @@ use Rattle.cgm_enc_graph.specs.GraphRules.{KeepsGraph}
 abbrev pub GraphClausesMeanRules : Type 0
 GraphClausesMeanRules =
     (m : Lists) (values : List ℤ) (a : Assignment)
-    → ∥ IsWellFormed m ∥₁
+    → ∥ IsWellFormedModel m ∥₁
     → StandFor m (truth_at values) a
     → All (λ c. IsTrue (clause_true values c)) (graph_clauses m) ↔ KeepsGraph m a
 
@@ -32,11 +32,11 @@ RealizationsKeepGraphs =
 -- the clauses have variables of elements and refinements alone
 abbrev pub GraphClausesAreKnown : Type 0
 GraphClausesAreKnown =
-    (m : Lists) → ∥ IsWellFormed m ∥₁ → All (IsClauseOf (truth_variables m)) (graph_clauses m)
+    (m : Lists) → ∥ IsWellFormedModel m ∥₁ → All (IsClauseOf (truth_variables m)) (graph_clauses m)
 
 -- a statement gives at most as many clauses as a refinement with the most sources
 abbrev pub max_graph_clauses : ℕ
 max_graph_clauses = (limit_number limits.Sources + 2) * limit_number limits.Statements
 
 abbrev pub GraphClausesAreFew : Type 0
-GraphClausesAreFew = (m : Lists) → ∥ IsWellFormed m ∥₁ → length (graph_clauses m) ≤ max_graph_clauses
+GraphClausesAreFew = (m : Lists) → ∥ IsWellFormedModel m ∥₁ → length (graph_clauses m) ≤ max_graph_clauses

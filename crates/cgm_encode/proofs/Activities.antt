@@ -14,7 +14,7 @@ use Rattle.cgm_atom.proofs.Keeping.{greatest_term-pos}
 use Rattle.cgm_atom.proofs.SignedSteps.{lt_is_false, scaled_down, scaled_up, sum_at_most}
 use Rattle.cgm_enc_formula.specs.Terms.{is_zero, nonzero}
 use Rattle.cgm_model.specs.Place.{EachFrom}
-use Rattle.cgm_encode.specs.Problem.{box_of}
+use Rattle.cgm_encode.specs.Problem.{box_of_problem}
 use Rattle.cgm_encode.specs.Totals.{Range, Share, Total, combined, combined_terms, least_activity, least_term, total_range, total_value}
 use Rattle.cgm_encode.proofs.Boxes.{Lies, lies_at}
 use Rattle.cgm_encode.proofs.TotalSums.{shared, terms-sum}
@@ -96,9 +96,9 @@ shifted : (low high l s d : ℤ) → l ≡ s → low ≤ℤ l → l ≤ℤ high 
 shifted low high l s d e below above = (omega (arith, ints), omega (arith, ints))
 
 -- a total of variables in the box lies in its range
-pub total_between : (values : List ℤ) (rs : List Range) (n : ℕ) (t : Total) → n ≤ length rs → EachFrom 0 (Lies values) rs → All (λ s. s.1 < n) t.shares → ((total_range (box_of rs) n t).0 ≤ℤ total_value values t) × (total_value values t ≤ℤ (total_range (box_of rs) n t).1)
+pub total_between : (values : List ℤ) (rs : List Range) (n : ℕ) (t : Total) → n ≤ length rs → EachFrom 0 (Lies values) rs → All (λ s. s.1 < n) t.shares → ((total_range (box_of_problem rs) n t).0 ≤ℤ total_value values t) × (total_value values t ≤ℤ (total_range (box_of_problem rs) n t).1)
 total_between values rs n t few each known =
-    let b = box_of rs in
+    let b = box_of_problem rs in
     let terms = combined_terms n t.shares in
     let within : (x : ℕ) → x < n → IsIn b values x = λ x l. lies_at values rs each x (omega arith) in
     let between = activity_between b values n within terms (combined_are_terms n n t.shares (omega arith)) in

@@ -20,12 +20,12 @@ use Rattle.cgm_formula.specs.Reading.{name_in}
 use Rattle.cgm_model.specs.declared.lists.Lists.{Lists}
 use Rattle.cgm_model.specs.declared.lists.Objective.{Objective}
 use Rattle.cgm_model.specs.declared.lists.Variable.{Variable}
-use Rattle.cgm_model.specs.Assignment.{Fits, IsWithin as IsWithinVariable}
+use Rattle.cgm_model.specs.Assignment.{Fits, IsWithinBounds as IsWithinVariable}
 use Rattle.cgm_model.specs.Formulas.{IsKnownTruth}
 use Rattle.cgm_model.specs.Place.{EachFrom}
 use Rattle.cgm_model.specs.Sums.{sums_of}
 use Rattle.cgm_model.specs.TruthVariables.{truth_variables, variable_of}
-use Rattle.cgm_model.specs.WellFormed.{IsWellFormed}
+use Rattle.cgm_model.specs.WellFormed.{IsWellFormedModel}
 use Rattle.cgm_evolve.specs.Pairs.{Pair}
 use Rattle.cgm_obj.specs.Vector.{objective_number, vector_of}
 use Rattle.cgm_enc_formula.specs.Laws.{MeetPart, RulesPartMeansRules, StandForNumbers}
@@ -163,7 +163,7 @@ solution_groups m pairs values s =
       objectives = All-back Q before (objective_rows m pairs) s.rows;
     }
 
-module _ (law : RulesPartMeansRules) (m : Lists) (pairs : List Pair) (values : List ℤ) (well : ∥ IsWellFormed m ∥₁) (s : IsGroupSolution m pairs values) where
+module _ (law : RulesPartMeansRules) (m : Lists) (pairs : List Pair) (values : List ℤ) (well : ∥ IsWellFormedModel m ∥₁) (s : IsGroupSolution m pairs values) where
   decodes : DecodesTo m pairs values (decoded m values)
   decodes =
       let a = decoded m values in
@@ -187,5 +187,5 @@ module _ (law : RulesPartMeansRules) (m : Lists) (pairs : List Pair) (values : L
         vector = vector_is m pairs values a objectives;
       }
 
-pub solution_decodes : RulesPartMeansRules → (m : Lists) (pairs : List Pair) (values : List ℤ) → ∥ IsWellFormed m ∥₁ → IsSolution (problem_of m pairs) values → DecodesTo m pairs values (decoded m values)
+pub solution_decodes : RulesPartMeansRules → (m : Lists) (pairs : List Pair) (values : List ℤ) → ∥ IsWellFormedModel m ∥₁ → IsSolution (problem_of m pairs) values → DecodesTo m pairs values (decoded m values)
 solution_decodes law m pairs values well s = decodes law m pairs values well (solution_groups m pairs values s)

@@ -12,7 +12,7 @@ use Rattle.cgm_atom.specs.Limits.{IsBound, greatest_size, max_bound, measure}
 use Rattle.cgm_atom.specs.Narrowing.{greatest_activity}
 use Rattle.cgm_atom.proofs.Growing.{measure-longer}
 use Rattle.cgm_model.specs.declared.lists.Lists.{Lists}
-use Rattle.cgm_model.specs.WellFormed.{IsWellFormed}
+use Rattle.cgm_model.specs.WellFormed.{IsWellFormedModel}
 use Rattle.cgm_enc_formula.specs.Definitions.{negative}
 use Rattle.cgm_encode.specs.declared.expressions.Expression.{Expression}
 use Rattle.cgm_encode.specs.Building.{AreBounds, HasBoundSize, IsMeasured, expression_range, with_ranges}
@@ -35,7 +35,7 @@ pub ranges_bound : (p : Instance) (es : List Expression) → All (IsMeasured p) 
 ranges_bound p es measured =
     All-map AreBounds (expression_range p.bounds) es (λ k d l. range_bound p.bounds (get_or es k d) (measured k d l).size)
 
-pub own_bounds : (m : Lists) → ∥ IsWellFormed m ∥₁ → All (λ v. AreBounds (own_range v)) m.vars
+pub own_bounds : (m : Lists) → ∥ IsWellFormedModel m ∥₁ → All (λ v. AreBounds (own_range v)) m.vars
 own_bounds m well =
     let sizes = known_sizes m well in
     λ k d l. (let low = sizes.low k d l in omega arith, let high = sizes.high k d l in omega arith)

@@ -22,12 +22,12 @@ use Rattle.cgm_formula.specs.Reading.{name_in}
 use Rattle.cgm_model.specs.declared.lists.Lists.{Lists}
 use Rattle.cgm_model.specs.declared.lists.Objective.{Objective}
 use Rattle.cgm_model.specs.declared.lists.Preference.{Preference}
-use Rattle.cgm_model.specs.Assignment.{Fits, IsWithin as IsWithinVariable}
+use Rattle.cgm_model.specs.Assignment.{Fits, IsWithinBounds as IsWithinVariable}
 use Rattle.cgm_model.specs.Formulas.{IsKnownTruth}
 use Rattle.cgm_model.specs.Place.{EachFrom}
 use Rattle.cgm_model.specs.Sums.{sum_value, sums_of}
 use Rattle.cgm_model.specs.TruthVariables.{truth_variables, variable_of}
-use Rattle.cgm_model.specs.WellFormed.{IsWellFormed}
+use Rattle.cgm_model.specs.WellFormed.{IsWellFormedModel}
 use Rattle.cgm_model.proofs.Sizes.{sum_at}
 use Rattle.cgm_evolve.specs.Pairs.{Pair}
 use Rattle.cgm_obj.specs.Counts.{is_met}
@@ -403,7 +403,7 @@ pub record RuleLaws : Type 0 where
   pub defined : ExtendedAreDefined
   pub known : RuleDefinitionsAreKnown
 
-module _ (laws : RuleLaws) (m : Lists) (pairs : List Pair) (a : Assignment) (well : ∥ IsWellFormed m ∥₁) (r : Realizes m a) where
+module _ (laws : RuleLaws) (m : Lists) (pairs : List Pair) (a : Assignment) (well : ∥ IsWellFormedModel m ∥₁) (r : Realizes m a) where
   definitions_hold : AreDefined (extension m pairs a) (model_variables m) (rule_definitions m (model_variables m) m.rules)
   definitions_hold =
       let n = model_variables m in

@@ -22,7 +22,7 @@ use Rattle.cgm_enc_formula.specs.Terms.{model_variables, number_variable}
 use Rattle.cgm_enc_graph.specs.GraphClauses.{graph_clauses}
 use Rattle.cgm_encode.specs.declared.expressions.Expression.{Expression}
 use Rattle.cgm_encode.specs.Building.{defining_rows, expression_of, expression_range, with_ranges}
-use Rattle.cgm_encode.specs.Problem.{all_ranges, bits, box_of, choice_ranges, model_rules_part, number_ranges, objective_range, objective_rows, own_range, own_ranges, preference_clauses, preferences_written, problem_of, rule_ranges, sum_range, sum_rows}
+use Rattle.cgm_encode.specs.Problem.{all_ranges, bits, box_of_problem, choice_ranges, model_rules_part, number_ranges, objective_range, objective_rows, own_range, own_ranges, preference_clauses, preferences_written, problem_of, rule_ranges, sum_range, sum_rows}
 use Rattle.cgm_encode.specs.Quantities.{objective_total, sum_total}
 use Rattle.cgm_encode.specs.Stages.{choices_instance, graph_instance, numbers_instance, own_instance, rules_instance, with_defined, with_objectives}
 use Rattle.cgm_encode.specs.Totals.{Range, total_rows}
@@ -34,7 +34,7 @@ use Rattle.cgm_encode.proofs.RangeCounts.{choices_long, numbers_long, own_long, 
 -- ---- a problem over ranges
 
 abbrev pub stage : List Range → List Clause → List Row → List Var → Instance
-stage ranges clauses rows objectives = record { bounds = box_of ranges; clauses = clauses; rows = rows; objectives = objectives }
+stage ranges clauses rows objectives = record { bounds = box_of_problem ranges; clauses = clauses; rows = rows; objectives = objectives }
 
 pub stage_count : (ranges : List Range) (clauses : List Clause) (rows : List Row) (objectives : List Var) → var_count (stage ranges clauses rows objectives) ≡ length ranges
 stage_count ranges clauses rows objectives = length-map ranges (λ (r : Range). r.0)
@@ -77,13 +77,13 @@ ranged_rows m a (suc k) n e =
 
 pub numbers_grown : (m : Lists) → with_defined (graph_instance m) (sum_expressions m) ≡ numbers_instance m
 numbers_grown m =
-    let b = box_of (own_ranges m) in
+    let b = box_of_problem (own_ranges m) in
     let n = var_count (graph_instance m) in
     let count : n ≡ truth_variables m + length m.vars + 0 = own_count m ∙ (let e : truth_variables m + length m.vars ≡ truth_variables m + length m.vars + 0 = omega arith in e) in
     ap (λ (bounds : Bounds). record { bounds = bounds; clauses = graph_clauses m; rows = flat_map defining_rows (enumerate_from n (sum_expressions m)); objectives = [] })
     (sym (box_joined (own_ranges m) (map (expression_range b) (sum_expressions m)))
-    ∙ ap (λ (rs : List Range). box_of (own_ranges m ++ rs)) (twice (expression_range b) (λ sum. expression_of (truth_variables m) (sum_total m sum)) (range_with_len 0 (length m.sums))))
-    ∙ ap (λ (rows : List Row). record { bounds = box_of (number_ranges m); clauses = graph_clauses m; rows = rows; objectives = [] }) (ranged_rows m 0 (length m.sums) n count)
+    ∙ ap (λ (rs : List Range). box_of_problem (own_ranges m ++ rs)) (twice (expression_range b) (λ sum. expression_of (truth_variables m) (sum_total m sum)) (range_with_len 0 (length m.sums))))
+    ∙ ap (λ (rows : List Row). record { bounds = box_of_problem (number_ranges m); clauses = graph_clauses m; rows = rows; objectives = [] }) (ranged_rows m 0 (length m.sums) n count)
 
 pub numbers_count : (m : Lists) → var_count (numbers_instance m) ≡ model_variables m
 numbers_count m = length-map (number_ranges m) (λ (r : Range). r.0) ∙ numbers_long m
@@ -119,7 +119,7 @@ choices_grown m variables are =
       objectives = [];
     }) (sym (box_joined (rule_ranges m) (bits (length m.prefers))))
     ∙ ap (λ (clauses : List Clause). record {
-      bounds = box_of (choice_ranges m);
+      bounds = box_of_problem (choice_ranges m);
       clauses = (graph_clauses m ++ map without_repeats (model_rules_part m).clauses) ++ map without_repeats clauses;
       rows = sum_rows m ++ (model_rules_part m).rows;
       objectives = [];
@@ -136,7 +136,7 @@ objective_expressions m pairs = map (λ o. expression_of (first_objective m) (ob
 pub objectives_grown : (m : Lists) (pairs : List Pair) (variables : List ℕ) → variables ≡ range_with_len (var_count (choices_instance m)) (length (objective_expressions m pairs)) → with_objectives (with_defined (choices_instance m) (objective_expressions m pairs)) variables ≡ problem_of m pairs
 unfolding problem_of
 objectives_grown m pairs variables are =
-    let b = box_of (choice_ranges m) in
+    let b = box_of_problem (choice_ranges m) in
     let f : Objective → Expression = λ o. expression_of (first_objective m) (objective_total m pairs o) in
     let clauses = (graph_clauses m ++ map without_repeats (model_rules_part m).clauses) ++ map without_repeats (preferences_written m) in
     let before = sum_rows m ++ (model_rules_part m).rows in
@@ -153,6 +153,6 @@ objectives_grown m pairs variables are =
       rows = before ++ flat_map defining_rows (enumerate_from (var_count (choices_instance m)) (objective_expressions m pairs));
       objectives = objectives_of variables;
     }) (sym (box_joined (choice_ranges m) (map (expression_range b) (objective_expressions m pairs)))
-    ∙ ap (λ (rs : List Range). box_of (choice_ranges m ++ rs)) (twice (expression_range b) f m.objectives))
-    ∙ ap (λ (rows : List Row). record { bounds = box_of (all_ranges m pairs); clauses = clauses; rows = before ++ rows; objectives = objectives_of variables }) rows_are
-    ∙ ap (λ (vs : List ℕ). record { bounds = box_of (all_ranges m pairs); clauses = clauses; rows = before ++ objective_rows m pairs; objectives = objectives_of vs }) own
+    ∙ ap (λ (rs : List Range). box_of_problem (choice_ranges m ++ rs)) (twice (expression_range b) f m.objectives))
+    ∙ ap (λ (rows : List Row). record { bounds = box_of_problem (all_ranges m pairs); clauses = clauses; rows = before ++ rows; objectives = objectives_of variables }) rows_are
+    ∙ ap (λ (vs : List ℕ). record { bounds = box_of_problem (all_ranges m pairs); clauses = clauses; rows = before ++ objective_rows m pairs; objectives = objectives_of vs }) own

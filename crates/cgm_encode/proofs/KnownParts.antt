@@ -9,7 +9,7 @@ use Rattle.cgm_model.specs.declared.lists.Quantity.{Quantity}
 use Rattle.cgm_model.specs.declared.lists.Quantity.TheVariants as quantities
 use Rattle.cgm_model.specs.Formulas.{IsKnownTruth}
 use Rattle.cgm_model.specs.Statement.{IsKnownQuantity}
-use Rattle.cgm_model.specs.WellFormed.{IsWellFormed}
+use Rattle.cgm_model.specs.WellFormed.{IsWellFormedModel}
 
 truth_prop : (m : Lists) (t : Truth) → IsProp (IsKnownTruth m t)
 truth_prop m (Element k) = hlevel props
@@ -34,7 +34,7 @@ pub record HasKnownParts (m : Lists) : Type 0 where
   pub interests : All (λ k. k < length m.elements) m.interests
   pub objectives : All (λ o. IsKnownQuantity m o.of) m.objectives
 
-pub known_parts : (m : Lists) → ∥ IsWellFormed m ∥₁ → HasKnownParts m
+pub known_parts : (m : Lists) → ∥ IsWellFormedModel m ∥₁ → HasKnownParts m
 known_parts m h = record {
   values = λ k d l. ∥∥₁_elim h (truth_prop m (get_or m.values k d).of) (λ w. (w.values k d l).of);
   penalties = λ k d l. ∥∥₁_elim h (hlevel props) (λ w. (w.penalties k d l).element);

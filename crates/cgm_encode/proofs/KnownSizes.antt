@@ -5,7 +5,7 @@ use Rattle.std.proofs.Props.{props}
 use Rattle.std.specs.Prelude.{unsigned_abs, ◌≤ℤ◌}
 use Rattle.cgm_model.specs.declared.lists.Lists.{Lists}
 use Rattle.cgm_model.specs.Lists.{statement_count}
-use Rattle.cgm_model.specs.WellFormed.{IsWellFormed}
+use Rattle.cgm_model.specs.WellFormed.{IsWellFormedModel}
 
 pub record HasKnownSizes (m : Lists) : Type 0 where
   pub values : All (λ v. unsigned_abs v.k ≤ 1000000) m.values
@@ -17,7 +17,7 @@ pub record HasKnownSizes (m : Lists) : Type 0 where
   pub statements : statement_count m ≤ 1000000
   pub objectives : length m.objectives ≤ 8
 
-sizes_known : (m : Lists) → IsWellFormed m → HasKnownSizes m
+sizes_known : (m : Lists) → IsWellFormedModel m → HasKnownSizes m
 sizes_known m w = record {
   values = λ k d l. (w.values k d l).small;
   penalties = λ k d l. (w.penalties k d l).small;
@@ -29,5 +29,5 @@ sizes_known m w = record {
   objectives = w.limits.objectives;
 }
 
-pub known_sizes : (m : Lists) → ∥ IsWellFormed m ∥₁ → HasKnownSizes m
+pub known_sizes : (m : Lists) → ∥ IsWellFormedModel m ∥₁ → HasKnownSizes m
 known_sizes m h = ∥∥₁_elim h (hlevel props) (sizes_known m)

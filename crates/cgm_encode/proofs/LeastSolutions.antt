@@ -5,7 +5,7 @@ use Rattle.cgm_atom.specs.Instance.{HasNoSolution, IsLeast, IsSolution, vector}
 use Rattle.cgm_base.specs.Order.{IsLess}
 use Rattle.cgm_formula.specs.declared.assignment.Assignment.{Assignment}
 use Rattle.cgm_model.specs.declared.lists.Lists.{Lists}
-use Rattle.cgm_model.specs.WellFormed.{IsWellFormed}
+use Rattle.cgm_model.specs.WellFormed.{IsWellFormedModel}
 use Rattle.cgm_evolve.specs.Pairs.{Pair}
 use Rattle.cgm_obj.specs.Least.{IsLeastRealization, Realizes}
 use Rattle.cgm_obj.specs.Vector.{vector_of}
@@ -13,7 +13,7 @@ use Rattle.cgm_encode.specs.Assignments.{decoded, extension}
 use Rattle.cgm_encode.specs.Laws.{RealizationsExtend, SolutionsDecode}
 use Rattle.cgm_encode.specs.Problem.{problem_of}
 
-pub least_decodes : SolutionsDecode → RealizationsExtend → (m : Lists) (pairs : List Pair) (values : List ℤ) → ∥ IsWellFormed m ∥₁ → IsSolution (problem_of m pairs) values → IsLeast (problem_of m pairs) values → IsLeastRealization m pairs (decoded m values)
+pub least_decodes : SolutionsDecode → RealizationsExtend → (m : Lists) (pairs : List Pair) (values : List ℤ) → ∥ IsWellFormedModel m ∥₁ → IsSolution (problem_of m pairs) values → IsLeast (problem_of m pairs) values → IsLeastRealization m pairs (decoded m values)
 least_decodes decodes extends m pairs values well solution least =
     let here = decodes m pairs values well solution in
     record {
@@ -26,5 +26,5 @@ least_decodes decodes extends m pairs values well solution least =
           (subst (λ (vs : List ℤ). IsLess (vector_of m pairs b) vs) (sym here.vector) less));
     }
 
-pub none_realizes : RealizationsExtend → (m : Lists) (pairs : List Pair) (a : Assignment) → ∥ IsWellFormed m ∥₁ → HasNoSolution (problem_of m pairs) → ¬ Realizes m a
+pub none_realizes : RealizationsExtend → (m : Lists) (pairs : List Pair) (a : Assignment) → ∥ IsWellFormedModel m ∥₁ → HasNoSolution (problem_of m pairs) → ¬ Realizes m a
 none_realizes extends m pairs a well none r = none (extension m pairs a) (extends m pairs a well r).solution

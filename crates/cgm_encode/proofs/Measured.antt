@@ -15,14 +15,14 @@ use Rattle.cgm_model.specs.declared.lists.Lists.{Lists}
 use Rattle.cgm_model.specs.declared.lists.Objective.{Objective}
 use Rattle.cgm_model.specs.declared.lists.Preference.{Preference}
 use Rattle.cgm_model.specs.TruthVariables.{truth_variables}
-use Rattle.cgm_model.specs.WellFormed.{IsWellFormed}
+use Rattle.cgm_model.specs.WellFormed.{IsWellFormedModel}
 use Rattle.cgm_evolve.specs.Pairs.{Pair}
 use Rattle.cgm_enc_formula.proofs.RuleSizes.{rules_part_small}
 use Rattle.cgm_enc_formula.proofs.TermOrders.{terms_wider}
 use Rattle.cgm_enc_graph.specs.GraphClauses.{graph_clauses}
 use Rattle.cgm_encode.specs.declared.expressions.Expression.{Expression}
 use Rattle.cgm_encode.specs.Building.{IsDefining, IsMeasured, defining_rows, expression_of, expression_range, with_ranges}
-use Rattle.cgm_encode.specs.Problem.{all_ranges, bits, box_of, choice_ranges, model_rules_part, number_ranges, objective_range, objective_rows, own_ranges, preference_clauses, preferences_written, problem_of, rule_ranges, sum_range, sum_rows}
+use Rattle.cgm_encode.specs.Problem.{all_ranges, bits, box_of_problem, choice_ranges, model_rules_part, number_ranges, objective_range, objective_rows, own_ranges, preference_clauses, preferences_written, problem_of, rule_ranges, sum_range, sum_rows}
 use Rattle.cgm_encode.specs.Quantities.{objective_total, sum_total}
 use Rattle.cgm_encode.specs.Stages.{choices_instance, graph_instance, rules_instance, with_defined}
 use Rattle.cgm_encode.specs.Totals.{Range, Total, combined_terms}
@@ -45,7 +45,7 @@ pub record HasFewParts (m : Lists) : Type 0 where
   pub clauses : length (graph_clauses m) + length (model_rules_part m).clauses + length (preferences_written m) < 2 ^ 31
   pub rows : length (sum_rows m) + length (model_rules_part m).rows < 2 ^ 31
 
-pub few_parts : (m : Lists) → ∥ IsWellFormed m ∥₁ → HasFewParts m
+pub few_parts : (m : Lists) → ∥ IsWellFormedModel m ∥₁ → HasFewParts m
 unfolding problem_of
 few_parts m well =
     let small = problem_small rules_part_small m [] well in
@@ -72,17 +72,17 @@ unmapped g xs h k d l =
     let long = length-map xs g in
     subst IsOrdered (get_or-map g xs k d (g d) l) (h k (g d) (omega arith))
 
-choices_ordered : (m : Lists) (pairs : List Pair) → ∥ IsWellFormed m ∥₁ → All IsOrdered (choice_ranges m)
+choices_ordered : (m : Lists) (pairs : List Pair) → ∥ IsWellFormedModel m ∥₁ → All IsOrdered (choice_ranges m)
 choices_ordered m pairs well =
     All-front IsOrdered (choice_ranges m) (map (objective_range m pairs) m.objectives) (all_ordered m pairs (known_sizes m well))
 
-sums_ordered : (m : Lists) → ∥ IsWellFormed m ∥₁ → All IsOrdered (map (sum_range m) (range_with_len 0 (length m.sums)))
+sums_ordered : (m : Lists) → ∥ IsWellFormedModel m ∥₁ → All IsOrdered (map (sum_range m) (range_with_len 0 (length m.sums)))
 sums_ordered m well =
     All-back IsOrdered (own_ranges m) (map (sum_range m) (range_with_len 0 (length m.sums)))
     (All-front IsOrdered (number_ranges m) (bits (naming_count m))
     (All-front IsOrdered (rule_ranges m) (bits (length m.prefers)) (choices_ordered m [] well)))
 
-objectives_ordered : (m : Lists) (pairs : List Pair) → ∥ IsWellFormed m ∥₁ → All IsOrdered (map (objective_range m pairs) m.objectives)
+objectives_ordered : (m : Lists) (pairs : List Pair) → ∥ IsWellFormedModel m ∥₁ → All IsOrdered (map (objective_range m pairs) m.objectives)
 objectives_ordered m pairs well =
     All-back IsOrdered (choice_ranges m) (map (objective_range m pairs) m.objectives) (all_ordered m pairs (known_sizes m well))
 
@@ -104,7 +104,7 @@ small_measured p n t few small ordered =
       ordered = ordered;
     }
 
-pub sums_measured : (m : Lists) → ∥ IsWellFormed m ∥₁ → All (IsMeasured (graph_instance m)) (sum_expressions m)
+pub sums_measured : (m : Lists) → ∥ IsWellFormedModel m ∥₁ → All (IsMeasured (graph_instance m)) (sum_expressions m)
 sums_measured m well =
     let xs = range_with_len 0 (length m.sums) in
     let count = own_count m in
@@ -114,7 +114,7 @@ sums_measured m well =
     small_measured (graph_instance m) (truth_variables m) (sum_total m sum) (omega arith) (sum_small m well sum)
     (unmapped (sum_range m) xs (sums_ordered m well) k d l))
 
-pub objectives_measured : (m : Lists) (pairs : List Pair) → ∥ IsWellFormed m ∥₁ → All (IsMeasured (choices_instance m)) (objective_expressions m pairs)
+pub objectives_measured : (m : Lists) (pairs : List Pair) → ∥ IsWellFormedModel m ∥₁ → All (IsMeasured (choices_instance m)) (objective_expressions m pairs)
 objectives_measured m pairs well =
     let count = choices_count m in
     All-map (IsMeasured (choices_instance m)) (λ o. expression_of (first_objective m) (objective_total m pairs o)) m.objectives
@@ -153,7 +153,7 @@ pub defined_count : (p : Instance) (es : List Expression) → var_count (with_de
 defined_count p es =
     ranges_count p (map (expression_range p.bounds) es) ∙ ap (λ (k : ℕ). var_count p + k) (length-map es (expression_range p.bounds))
 
-pub rows_few : (m : Lists) → ∥ IsWellFormed m ∥₁ → length (choices_instance m).rows < 2 ^ 31
+pub rows_few : (m : Lists) → ∥ IsWellFormedModel m ∥₁ → length (choices_instance m).rows < 2 ^ 31
 rows_few m well =
     let few = (few_parts m well).rows in
     let both = length-append (sum_rows m) (model_rules_part m).rows in
@@ -161,7 +161,7 @@ rows_few m well =
 
 -- ---- preferences
 
-pub preferences_fit : (m : Lists) → ∥ IsWellFormed m ∥₁ → CanTake (with_ranges (rules_instance m) (bits (length m.prefers))) (preferences_written m)
+pub preferences_fit : (m : Lists) → ∥ IsWellFormedModel m ∥₁ → CanTake (with_ranges (rules_instance m) (bits (length m.prefers))) (preferences_written m)
 preferences_fit m well =
     let few = (few_parts m well).clauses in
     let p = with_ranges (rules_instance m) (bits (length m.prefers)) in

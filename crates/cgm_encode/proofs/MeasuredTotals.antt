@@ -12,9 +12,9 @@ use Rattle.cgm_atom.specs.Limits.{AreTermsOf, greatest_size, measure}
 use Rattle.cgm_model.specs.declared.lists.Lists.{Lists}
 use Rattle.cgm_model.specs.declared.lists.Objective.{Objective}
 use Rattle.cgm_model.specs.TruthVariables.{truth_variables}
-use Rattle.cgm_model.specs.WellFormed.{IsWellFormed}
+use Rattle.cgm_model.specs.WellFormed.{IsWellFormedModel}
 use Rattle.cgm_evolve.specs.Pairs.{Pair}
-use Rattle.cgm_encode.specs.Problem.{bits, box_of, choice_ranges, own_ranges}
+use Rattle.cgm_encode.specs.Problem.{bits, box_of_problem, choice_ranges, own_ranges}
 use Rattle.cgm_encode.specs.Quantities.{objective_total, sum_total}
 use Rattle.cgm_encode.specs.Totals.{Share, Total, combined_terms}
 use Rattle.cgm_encode.specs.Variables.{first_objective, first_preference}
@@ -62,17 +62,17 @@ module _ (b : Bounds) (n : ℕ) (sized : (x : ℕ) → x < n → 1 ≤ greatest_
       omega arith
 
 -- a box of 0 to 1 for each of the first n variables
-bit_size : (n x : ℕ) → x < n → greatest_size (box_of (bits n)) x ≡ 1
+bit_size : (n x : ℕ) → x < n → greatest_size (box_of_problem (bits n)) x ≡ 1
 bit_size n x l =
     let long = bits_long n in
     size_at (bits n) x (pos 0, pos 1) (omega arith) (get_or-replicate n x (pos 0, pos 1) (pos 0, pos 0) l)
 
-bits_within : (n x : ℕ) → greatest_size (box_of (bits n)) x ≤ 1
+bits_within : (n x : ℕ) → greatest_size (box_of_problem (bits n)) x ≤ 1
 bits_within n x = size_within 1 (bits n) (All-replicate (IsSmallRange 1) n (pos 0, pos 1) (omega arith, omega arith)) x
 
-small_total : (b : Bounds) (n : ℕ) (t : Total) → All (λ s. s.1 < n) t.shares → IsModest b 1000000000000 1000000 t → IsModest (box_of (bits n)) 1000000000000 1000000 t → IsSmallTotal b n t
+small_total : (b : Bounds) (n : ℕ) (t : Total) → All (λ s. s.1 < n) t.shares → IsModest b 1000000000000 1000000 t → IsModest (box_of_problem (bits n)) 1000000000000 1000000 t → IsSmallTotal b n t
 small_total b n t known modest counted =
-    let of_bits = box_of (bits n) in
+    let of_bits = box_of_problem (bits n) in
     let terms = combined_terms n t.shares in
     let are = combined_are_terms n n t.shares (omega arith) in
     let sized : (x : ℕ) → x < n → 1 ≤ greatest_size of_bits x = λ x l. let one = bit_size n x l in omega arith in
@@ -93,29 +93,29 @@ looser : (b : Bounds) (t : Total) → IsModest b 1000000000000 0 t → IsModest 
 looser b t h = let constant = h.constant in record { shares = h.shares; constant = omega arith }
 
 -- a sum in the box of elements, refinements and variables
-pub sum_small : (m : Lists) → ∥ IsWellFormed m ∥₁ → (sum : ℕ) → IsSmallTotal (box_of (own_ranges m)) (truth_variables m) (sum_total m sum)
+pub sum_small : (m : Lists) → ∥ IsWellFormedModel m ∥₁ → (sum : ℕ) → IsSmallTotal (box_of_problem (own_ranges m)) (truth_variables m) (sum_total m sum)
 sum_small m well sum =
     let parts = known_parts m well in
     let sizes = known_sizes m well in
     let n = truth_variables m in
     let t = sum_total m sum in
-    small_total (box_of (own_ranges m)) n t (sum_shares m parts sum)
-    (looser (box_of (own_ranges m)) t (sum_modest m parts sizes (box_of (own_ranges m)) (own_truths m parts sizes) sum))
-    (looser (box_of (bits n)) t (sum_modest m parts sizes (box_of (bits n)) (λ x _. bits_within n x) sum))
+    small_total (box_of_problem (own_ranges m)) n t (sum_shares m parts sum)
+    (looser (box_of_problem (own_ranges m)) t (sum_modest m parts sizes (box_of_problem (own_ranges m)) (own_truths m parts sizes) sum))
+    (looser (box_of_problem (bits n)) t (sum_modest m parts sizes (box_of_problem (bits n)) (λ x _. bits_within n x) sum))
 
 -- an objective in the box of all variables before the objectives
-pub objective_small : (m : Lists) (pairs : List Pair) → ∥ IsWellFormed m ∥₁ → (k : ℕ) (d : Objective) → k < length m.objectives → IsSmallTotal (box_of (choice_ranges m)) (first_objective m) (objective_total m pairs (get_or m.objectives k d))
+pub objective_small : (m : Lists) (pairs : List Pair) → ∥ IsWellFormedModel m ∥₁ → (k : ℕ) (d : Objective) → k < length m.objectives → IsSmallTotal (box_of_problem (choice_ranges m)) (first_objective m) (objective_total m pairs (get_or m.objectives k d))
 objective_small m pairs well k d l =
     let parts = known_parts m well in
     let sizes = known_sizes m well in
     let n = first_objective m in
     let o = get_or m.objectives k d in
     let known = parts.objectives k d l in
-    let of_bits : HasSizes m 1000000000000 (box_of (bits n)) = record {
+    let of_bits : HasSizes m 1000000000000 (box_of_problem (bits n)) = record {
       truths = λ x _. bits_within n x;
       prefers = λ j _. bits_within n (first_preference m + j);
       all = λ x. let one = bits_within n x in omega arith;
     } in
-    small_total (box_of (choice_ranges m)) n (objective_total m pairs o) (objective_shares m parts pairs o known)
-    (objective_modest m pairs parts sizes 1000000000000 (omega arith) (box_of (choice_ranges m)) (choice_sizes m parts sizes) o known)
-    (objective_modest m pairs parts sizes 1000000000000 (omega arith) (box_of (bits n)) of_bits o known)
+    small_total (box_of_problem (choice_ranges m)) n (objective_total m pairs o) (objective_shares m parts pairs o known)
+    (objective_modest m pairs parts sizes 1000000000000 (omega arith) (box_of_problem (choice_ranges m)) (choice_sizes m parts sizes) o known)
+    (objective_modest m pairs parts sizes 1000000000000 (omega arith) (box_of_problem (bits n)) of_bits o known)

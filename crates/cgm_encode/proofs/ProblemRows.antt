@@ -14,11 +14,11 @@ use Rattle.cgm_model.specs.declared.lists.Lists.{Lists}
 use Rattle.cgm_model.specs.declared.lists.Objective.{Objective}
 use Rattle.cgm_model.specs.declared.lists.Preference.{Preference}
 use Rattle.cgm_model.specs.TruthVariables.{truth_variables, variable_of}
-use Rattle.cgm_model.specs.WellFormed.{IsWellFormed}
+use Rattle.cgm_model.specs.WellFormed.{IsWellFormedModel}
 use Rattle.cgm_evolve.specs.Pairs.{Pair}
 use Rattle.cgm_enc_formula.specs.Definitions.{negative}
 use Rattle.cgm_enc_formula.specs.Terms.{number_variable}
-use Rattle.cgm_encode.specs.Problem.{all_ranges, box_of, number_ranges, objective_rows, preference_clauses, preferences_written, problem_of, sum_rows}
+use Rattle.cgm_encode.specs.Problem.{all_ranges, box_of_problem, number_ranges, objective_rows, preference_clauses, preferences_written, problem_of, sum_rows}
 use Rattle.cgm_encode.specs.Quantities.{objective_total, sum_total}
 use Rattle.cgm_encode.specs.Totals.{Range, Total, combined_terms, row_of, total_rows}
 use Rattle.cgm_encode.specs.Variables.{first_objective, first_preference}
@@ -88,11 +88,11 @@ total_rows_fit b n v most t fresh there size few modest =
 looser : (b : Bounds) (most less more : ℕ) (t : Total) → less ≤ more → IsModest b most less t → IsModest b most more t
 looser b most less more t l h = let constant = h.constant in record { shares = h.shares; constant = omega arith }
 
-pub sums_fit : (m : Lists) → ∥ IsWellFormed m ∥₁ → All (IsRowOf (box_of (number_ranges m))) (sum_rows m)
+pub sums_fit : (m : Lists) → ∥ IsWellFormedModel m ∥₁ → All (IsRowOf (box_of_problem (number_ranges m))) (sum_rows m)
 sums_fit m well =
     let parts = known_parts m well in
     let sizes = known_sizes m well in
-    let b = box_of (number_ranges m) in
+    let b = box_of_problem (number_ranges m) in
     let n = truth_variables m in
     let rows = λ (sum : ℕ). total_rows n (sum_total m sum) (number_variable m (number.Sum sum)) in
     let long = numbers_long m in
@@ -104,11 +104,11 @@ sums_fit m well =
     (size_within 1000000000000 (number_ranges m) (numbers_small m parts sizes) (number_variable m (number.Sum sum))) (omega arith)
     (looser b 1000000000000 0 1000000 (sum_total m sum) (omega arith) (sum_modest m parts sizes b (number_truths m parts sizes) sum))))
 
-objectives_fit_box : (m : Lists) (pairs : List Pair) → ∥ IsWellFormed m ∥₁ → All (IsRowOf (box_of (all_ranges m pairs))) (objective_rows m pairs)
+objectives_fit_box : (m : Lists) (pairs : List Pair) → ∥ IsWellFormedModel m ∥₁ → All (IsRowOf (box_of_problem (all_ranges m pairs))) (objective_rows m pairs)
 objectives_fit_box m pairs well =
     let parts = known_parts m well in
     let sizes = known_sizes m well in
-    let b = box_of (all_ranges m pairs) in
+    let b = box_of_problem (all_ranges m pairs) in
     let first = first_objective m in
     let os = m.objectives in
     let rows = λ (o : ℕ × Objective). total_rows first (objective_total m pairs o.1) o.0 in
@@ -123,7 +123,7 @@ objectives_fit_box m pairs well =
     (size_within 1000001000000 (all_ranges m pairs) (all_small m parts sizes pairs) (first + k)) (omega arith)
     (objective_modest m pairs parts sizes 1000001000000 (omega arith) b (all_sizes m parts sizes pairs) o (parts.objectives k d l)))))
 
-pub objectives_fit : (m : Lists) (pairs : List Pair) → ∥ IsWellFormed m ∥₁ → All (IsRowOf (problem_of m pairs).bounds) (objective_rows m pairs)
+pub objectives_fit : (m : Lists) (pairs : List Pair) → ∥ IsWellFormedModel m ∥₁ → All (IsRowOf (problem_of m pairs).bounds) (objective_rows m pairs)
 unfolding problem_of
 objectives_fit m pairs well = objectives_fit_box m pairs well
 
@@ -150,7 +150,7 @@ preference_of m count u p h k l =
     let third = clause (literal u ∷ literal a ∷ negated b ∷ []) in
     All-cons C first (second ∷ third ∷ []) one (All-cons C second (third ∷ []) two (All-cons C third [] three (All-nil C)))
 
-pub preferences_known : (m : Lists) → ∥ IsWellFormed m ∥₁ → All (IsClauseOf (first_objective m)) (preferences_written m)
+pub preferences_known : (m : Lists) → ∥ IsWellFormedModel m ∥₁ → All (IsClauseOf (first_objective m)) (preferences_written m)
 preferences_known m well =
     let parts = known_parts m well in
     let count = first_objective m in

@@ -26,7 +26,7 @@ use Rattle.cgm_model.specs.declared.lists.Weighing.{Weighing}
 use Rattle.cgm_model.specs.Leaves.{element_numbers, is_leaf_task, leaf_tasks}
 use Rattle.cgm_model.specs.Statement.{IsKnownQuantity}
 use Rattle.cgm_model.specs.TruthVariables.{truth_variables, variable_of}
-use Rattle.cgm_model.specs.WellFormed.{IsWellFormed}
+use Rattle.cgm_model.specs.WellFormed.{IsWellFormedModel}
 use Rattle.cgm_evolve.specs.Costs.{elements_of_interest, interests_or}
 use Rattle.cgm_evolve.specs.Pairs.{Pair}
 use Rattle.cgm_obj.specs.Counts.{is_free_requirement}
@@ -36,7 +36,7 @@ use Rattle.cgm_enc_formula.specs.Terms.{model_variables, number_variable}
 use Rattle.cgm_enc_graph.specs.GraphClauses.{graph_clauses}
 use Rattle.cgm_enc_graph.proofs.GraphSizes.{graph_clauses_few}
 use Rattle.cgm_encode.specs.Laws.{IsSmallProblem}
-use Rattle.cgm_encode.specs.Problem.{all_ranges, bits, box_of, choice_ranges, model_rules_part, number_ranges, objective_range, objective_rows, own_range, own_ranges, preference_clauses, preferences_written, problem_of, rule_ranges, sum_range, sum_rows}
+use Rattle.cgm_encode.specs.Problem.{all_ranges, bits, box_of_problem, choice_ranges, model_rules_part, number_ranges, objective_range, objective_rows, own_range, own_ranges, preference_clauses, preferences_written, problem_of, rule_ranges, sum_range, sum_rows}
 use Rattle.cgm_encode.specs.Quantities.{free_requirements, objective_total, possible_work, quantity_total, sum_total, was_true_before}
 use Rattle.cgm_encode.specs.Totals.{Range, Share, Total, combined_terms, least_activity, opposite_total, total_range, total_rows}
 use Rattle.cgm_encode.specs.Variables.{first_objective, first_preference, naming_count}
@@ -80,10 +80,10 @@ all_choice m pairs x d l =
 
 -- ---- sizes of bounds
 
-pub size_at : (rs : List Range) (x : ℕ) (r : Range) → x < length rs → get_or rs x (pos 0, pos 0) ≡ r → greatest_size (box_of rs) x ≡ max (unsigned_abs r.0) (unsigned_abs r.1)
+pub size_at : (rs : List Range) (x : ℕ) (r : Range) → x < length rs → get_or rs x (pos 0, pos 0) ≡ r → greatest_size (box_of_problem rs) x ≡ max (unsigned_abs r.0) (unsigned_abs r.1)
 size_at rs x r l e =
     let none : Range = (pos 0, pos 0) in
-    ap (λ (z : ℤ). max (unsigned_abs z) (unsigned_abs (upper_of (box_of rs) x))) (lower_at rs x none l)
+    ap (λ (z : ℤ). max (unsigned_abs z) (unsigned_abs (upper_of (box_of_problem rs) x))) (lower_at rs x none l)
     ∙ ap (λ (z : ℤ). max (unsigned_abs (get_or rs x none).0) (unsigned_abs z)) (upper_at rs x none l)
     ∙ ap (λ (q : Range). max (unsigned_abs q.0) (unsigned_abs q.1)) e
 
@@ -93,7 +93,7 @@ IsSmallRange most r = (unsigned_abs r.0 ≤ most) × (unsigned_abs r.1 ≤ most)
 none_size : (most : ℕ) (l u : ℤ) → l ≡ pos 0 → u ≡ pos 0 → max (unsigned_abs l) (unsigned_abs u) ≤ most
 none_size most l u e f = rw e (rw f (omega arith))
 
-pub size_within : (most : ℕ) (rs : List Range) → All (IsSmallRange most) rs → (x : ℕ) → greatest_size (box_of rs) x ≤ most
+pub size_within : (most : ℕ) (rs : List Range) → All (IsSmallRange most) rs → (x : ℕ) → greatest_size (box_of_problem rs) x ≤ most
 size_within most rs small x =
     ⊎_elim
     (λ l.
@@ -103,7 +103,7 @@ size_within most rs small x =
     let low = here.0 in
     let high = here.1 in
     omega arith)
-    (λ past. none_size most (lower_of (box_of rs) x) (upper_of (box_of rs) x) (lower_past rs x past) (upper_past rs x past))
+    (λ past. none_size most (lower_of (box_of_problem rs) x) (upper_of (box_of_problem rs) x) (lower_past rs x past) (upper_past rs x past))
     (cases_lt x (length rs))
 
 -- the sizes on which the totals of a model stand
@@ -267,7 +267,7 @@ module _ (m : Lists) (parts : HasKnownParts m) (sizes : HasKnownSizes m) where
       All-append (IsSmallRange 1000000000) (bits (truth_variables m)) (map own_range m.vars) (bits_small 1000000000 (truth_variables m) (omega arith))
       (All-map (IsSmallRange 1000000000) own_range m.vars (λ k d l. (sizes.low k d l, sizes.high k d l)))
 
-  pub own_truths : (x : ℕ) → x < truth_variables m → greatest_size (box_of (own_ranges m)) x ≤ 1
+  pub own_truths : (x : ℕ) → x < truth_variables m → greatest_size (box_of_problem (own_ranges m)) x ≤ 1
   own_truths x l =
       let long = own_long m in
       let at = size_at (own_ranges m) x (pos 0, pos 1) (omega arith) (own_truth m x (pos 0, pos 0) l) in
@@ -277,14 +277,14 @@ module _ (m : Lists) (parts : HasKnownParts m) (sizes : HasKnownSizes m) where
   sums_small : All (IsSmallRange 1000000000000) (map (sum_range m) (range_with_len 0 (length m.sums)))
   sums_small =
       All-map (IsSmallRange 1000000000000) (sum_range m) (range_with_len 0 (length m.sums))
-      (λ k d l. range_sizes (box_of (own_ranges m)) 1000000000000 0 (truth_variables m) (sum_total m _) (sum_modest m parts sizes (box_of (own_ranges m)) own_truths _))
+      (λ k d l. range_sizes (box_of_problem (own_ranges m)) 1000000000000 0 (truth_variables m) (sum_total m _) (sum_modest m parts sizes (box_of_problem (own_ranges m)) own_truths _))
 
   pub numbers_small : All (IsSmallRange 1000000000000) (number_ranges m)
   numbers_small =
       All-append (IsSmallRange 1000000000000) (own_ranges m) (map (sum_range m) (range_with_len 0 (length m.sums)))
       (small_wider 1000000000 1000000000000 (omega arith) (own_ranges m) own_small) sums_small
 
-  pub number_truths : (x : ℕ) → x < truth_variables m → greatest_size (box_of (number_ranges m)) x ≤ 1
+  pub number_truths : (x : ℕ) → x < truth_variables m → greatest_size (box_of_problem (number_ranges m)) x ≤ 1
   number_truths x l =
       let own = own_long m in
       let long = numbers_long m in
@@ -303,7 +303,7 @@ module _ (m : Lists) (parts : HasKnownParts m) (sizes : HasKnownSizes m) where
       let own = own_long m in
       choice_number m x (pos 0, pos 0) (omega arith) ∙ number_own m x (pos 0, pos 0) (omega arith) ∙ own_truth m x (pos 0, pos 0) l
 
-  pub choice_sizes : HasSizes m 1000000000000 (box_of (choice_ranges m))
+  pub choice_sizes : HasSizes m 1000000000000 (box_of_problem (choice_ranges m))
   choice_sizes =
       let long = choices_long m in
       let one = one_range (pos 0, pos 1) refl in
@@ -321,10 +321,10 @@ module _ (m : Lists) (parts : HasKnownParts m) (sizes : HasKnownSizes m) where
         (All-map (IsSmallRange 1000001000000) (objective_range m pairs) m.objectives
         (λ k d l.
         let o = get_or m.objectives k d in
-        range_sizes (box_of (choice_ranges m)) 1000000000000 1000000 (first_objective m) (objective_total m pairs o)
-        (objective_modest m pairs parts sizes 1000000000000 (omega arith) (box_of (choice_ranges m)) choice_sizes o (parts.objectives k d l))))
+        range_sizes (box_of_problem (choice_ranges m)) 1000000000000 1000000 (first_objective m) (objective_total m pairs o)
+        (objective_modest m pairs parts sizes 1000000000000 (omega arith) (box_of_problem (choice_ranges m)) choice_sizes o (parts.objectives k d l))))
 
-    pub all_sizes : HasSizes m 1000001000000 (box_of (all_ranges m pairs))
+    pub all_sizes : HasSizes m 1000001000000 (box_of_problem (all_ranges m pairs))
     all_sizes =
         let choices = choices_long m in
         let long = all_long m pairs in
@@ -349,22 +349,22 @@ IsOrdered r = r.0 ≤ℤ r.1
 still : (l u : ℤ) → l ≡ pos 0 → u ≡ pos 0 → l ≤ℤ u
 still l u e f = omega (arith, ints)
 
-pub box_ordered : (rs : List Range) → All IsOrdered rs → (x : ℕ) → lower_of (box_of rs) x ≤ℤ upper_of (box_of rs) x
+pub box_ordered : (rs : List Range) → All IsOrdered rs → (x : ℕ) → lower_of (box_of_problem rs) x ≤ℤ upper_of (box_of_problem rs) x
 box_ordered rs h x =
     ⊎_elim
     (λ l.
     let none : Range = (pos 0, pos 0) in
     let r = get_or rs x none in
-    subst (λ (z : ℤ). lower_of (box_of rs) x ≤ℤ z) (sym (upper_at rs x none l)) (subst (λ (z : ℤ). z ≤ℤ r.1) (sym (lower_at rs x none l)) (h x none l)))
-    (λ past. still (lower_of (box_of rs) x) (upper_of (box_of rs) x) (lower_past rs x past) (upper_past rs x past))
+    subst (λ (z : ℤ). lower_of (box_of_problem rs) x ≤ℤ z) (sym (upper_at rs x none l)) (subst (λ (z : ℤ). z ≤ℤ r.1) (sym (lower_at rs x none l)) (h x none l)))
+    (λ past. still (lower_of (box_of_problem rs) x) (upper_of (box_of_problem rs) x) (lower_past rs x past) (upper_past rs x past))
     (cases_lt x (length rs))
 
 through : (low v high d : ℤ) → low ≤ℤ v → v ≤ℤ high → (low +ℤ d) ≤ℤ (high +ℤ d)
 through low v high d h g = omega (arith, ints)
 
-range_ordered : (rs : List Range) (n : ℕ) (t : Total) → All IsOrdered rs → IsOrdered (total_range (box_of rs) n t)
+range_ordered : (rs : List Range) (n : ℕ) (t : Total) → All IsOrdered rs → IsOrdered (total_range (box_of_problem rs) n t)
 range_ordered rs n t h =
-    let b = box_of rs in
+    let b = box_of_problem rs in
     let terms = combined_terms n t.shares in
     let between = activity_between b b.lower n (λ x _. (≤ℤ_refl (lower_of b x), box_ordered rs h x)) terms (combined_are_terms n n t.shares (omega arith)) in
     through (least_activity b terms) _ (greatest_activity b terms) t.constant between.0 between.1
@@ -436,7 +436,7 @@ small_names : (m : Lists) → IsSmallPart (model_rules_part m) → naming_count 
 unfolding rules_part
 small_names m h = let few = h.names in omega arith
 
-pub problem_small : RulesPartIsSmall → (m : Lists) (pairs : List Pair) → ∥ IsWellFormed m ∥₁ → IsSmallProblem (problem_of m pairs)
+pub problem_small : RulesPartIsSmall → (m : Lists) (pairs : List Pair) → ∥ IsWellFormedModel m ∥₁ → IsSmallProblem (problem_of m pairs)
 unfolding problem_of
 problem_small law m pairs well =
     let parts = known_parts m well in
@@ -465,7 +465,7 @@ problem_small law m pairs well =
       proper = record { same_count = upper ∙ sym lower; ordered = box_ordered ranges (all_ordered m pairs sizes) };
       sizes = λ x.
           let at = size_within 1000001000000 ranges small x in
-          (low_bound (lower_of (box_of ranges) x) (upper_of (box_of ranges) x) at, high_bound (lower_of (box_of ranges) x) (upper_of (box_of ranges) x) at);
+          (low_bound (lower_of (box_of_problem ranges) x) (upper_of (box_of_problem ranges) x) at, high_bound (lower_of (box_of_problem ranges) x) (upper_of (box_of_problem ranges) x) at);
       var_limit = omega arith;
       clause_limit = omega arith;
       row_limit = omega arith;

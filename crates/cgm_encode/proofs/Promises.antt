@@ -4,7 +4,7 @@ use Rattle.std.specs.Prelude.{ℤ}
 use Rattle.cgm_atom.specs.Instance.{Instance, IsSolution, vector}
 use Rattle.cgm_formula.specs.declared.assignment.Assignment.{Assignment}
 use Rattle.cgm_model.specs.declared.lists.Lists.{Lists}
-use Rattle.cgm_model.specs.WellFormed.{IsWellFormed}
+use Rattle.cgm_model.specs.WellFormed.{IsWellFormedModel}
 use Rattle.cgm_evolve.specs.Pairs.{Pair}
 use Rattle.cgm_obj.specs.Least.{Realizes}
 use Rattle.cgm_obj.specs.Vector.{vector_of}
@@ -56,6 +56,6 @@ extended_for m pairs enc a values is encoding law = record {
   vector = ap (λ (p : Instance). vector p values) encoding.problem ∙ ap (λ (vs : List ℤ). vector (problem_of m pairs) vs) is ∙ law.vector;
 }
 
-pub extended_promise : (m : Lists) (pairs : List Pair) (enc : Encoded) (a : Assignment) (values : List ℤ) → ∥ IsWellFormed m ∥₁ → Realizes m a → IsEncodingOf m pairs enc → values ≡ extension m pairs a → IsExtended m pairs enc a values
+pub extended_promise : (m : Lists) (pairs : List Pair) (enc : Encoded) (a : Assignment) (values : List ℤ) → ∥ IsWellFormedModel m ∥₁ → Realizes m a → IsEncodingOf m pairs enc → values ≡ extension m pairs a → IsExtended m pairs enc a values
 extended_promise m pairs enc a values well realizes encoding is =
     extended_for m pairs enc a values is encoding (realizations_extend m pairs a well realizes)

@@ -7,7 +7,7 @@ use Rattle.std.proofs.lemmas.List.Elements.{All-cons, All-nil, All-weaker}
 use Rattle.std.proofs.lemmas.List.Sums.{sum_by-cons}
 use Rattle.cgm_model.specs.declared.lists.Lists.{Lists}
 use Rattle.cgm_model.specs.declared.lists.Objective.{Objective}
-use Rattle.cgm_model.specs.WellFormed.{IsWellFormed}
+use Rattle.cgm_model.specs.WellFormed.{IsWellFormedModel}
 use Rattle.cgm_evolve.specs.Pairs.{Pair}
 use Rattle.cgm_encode.specs.Building.{share_size}
 use Rattle.cgm_encode.specs.Quantities.{objective_total}
@@ -45,7 +45,7 @@ pub signed_constant : (max : Bool) (t : Total) → max ≡ true → unsigned_abs
 signed_constant true t e small = let same = same_size t.constant in omega arith
 signed_constant false t e small = absurd cc
 
-pub objectives_fit_in : (m : Lists) (pairs : List Pair) → ∥ IsWellFormed m ∥₁ → All (IsFitting m pairs) m.objectives
+pub objectives_fit_in : (m : Lists) (pairs : List Pair) → ∥ IsWellFormedModel m ∥₁ → All (IsFitting m pairs) m.objectives
 objectives_fit_in m pairs well k d l =
     let parts = known_parts m well in
     let known = parts.objectives k d l in

@@ -20,7 +20,7 @@ use Rattle.cgm_model.specs.Assignment.{Fits}
 use Rattle.cgm_model.specs.Formulas.{IsKnownNumber, IsKnownTruth, formula_of}
 use Rattle.cgm_model.specs.Sums.{sum_value, sums_of}
 use Rattle.cgm_model.specs.TruthVariables.{truth_variables, variable_of}
-use Rattle.cgm_model.specs.WellFormed.{IsWellFormed}
+use Rattle.cgm_model.specs.WellFormed.{IsWellFormedModel}
 use Rattle.cgm_obj.specs.Counts.{is_met}
 use Rattle.cgm_enc_formula.specs.Laws.{extended}
 use Rattle.cgm_enc_formula.specs.NamingValues.{rule_truths}
@@ -34,7 +34,7 @@ use Rattle.cgm_encode.specs.Assignments.{choice_values, number_values, rule_valu
 abbrev IsReadableRule : Lists → (Truth → Bool) → (Number → ℤ) → Rule → Type 0
 IsReadableRule m names numbers r = IsReadable m names numbers (formula_of r)
 
-readable_rules : (m : Lists) (names : Truth → Bool) (numbers : Number → ℤ) → ∥ IsWellFormed m ∥₁ → All (IsReadableRule m names numbers) m.rules
+readable_rules : (m : Lists) (names : Truth → Bool) (numbers : Number → ℤ) → ∥ IsWellFormedModel m ∥₁ → All (IsReadableRule m names numbers) m.rules
 readable_rules m names numbers well k d l =
     let known = rule_formulas_known m well k d l in
     let rule = each_rule m well k d l in
@@ -127,7 +127,7 @@ module _ (m : Lists) (a : Assignment) (fits : Fits m a) where
         numbers_are = number_value;
       }
 
-  pub rule_values_told : ∥ IsWellFormed m ∥₁ → rule_values m a ≡ number_values m a ++ map bit (rule_truths (name_in a) (number_in a (sums_of m a)) m.rules)
+  pub rule_values_told : ∥ IsWellFormedModel m ∥₁ → rule_values m a ≡ number_values m a ++ map bit (rule_truths (name_in a) (number_in a (sums_of m a)) m.rules)
   rule_values_told well =
       let names = name_in a in
       let numbers = number_in a (sums_of m a) in
@@ -135,7 +135,7 @@ module _ (m : Lists) (a : Assignment) (fits : Fits m a) where
       ∙ rules_told m names numbers m.rules (recursion_from_All (IsReadableRule m names numbers) m.rules (readable_rules m names numbers well)) values reads
 
   -- one group behind another
-  pub choices_told : (old one two three sums : List ℤ) (rules : List Rule) (prefers : List Preference) → ∥ IsWellFormed m ∥₁ → old ≡ [] → sums ≡ sums_of m a → one ≡ old ++ (own ++ sums) → rules ≡ m.rules → two ≡ one ++ map bit (rule_truths (name_in a) (number_in a sums) rules) → prefers ≡ m.prefers → three ≡ two ++ map (λ p. bit (not (is_met a p))) prefers → three ≡ choice_values m a
+  pub choices_told : (old one two three sums : List ℤ) (rules : List Rule) (prefers : List Preference) → ∥ IsWellFormedModel m ∥₁ → old ≡ [] → sums ≡ sums_of m a → one ≡ old ++ (own ++ sums) → rules ≡ m.rules → two ≡ one ++ map bit (rule_truths (name_in a) (number_in a sums) rules) → prefers ≡ m.prefers → three ≡ two ++ map (λ p. bit (not (is_met a p))) prefers → three ≡ choice_values m a
   choices_told old one two three sums rules prefers well empty totals first same second are third =
       let numbers = ap (λ (l : List ℤ). l ++ (own ++ sums)) empty ∙ ap (λ (l : List ℤ). own ++ l) totals in
       let start : one ≡ values = first ∙ numbers in

@@ -3,7 +3,7 @@ use Rattle.std.specs.Prelude.{◌≡◌, List, ℤ}
 use Rattle.cgm_atom.specs.Instance.{IsSolution, vector}
 use Rattle.cgm_formula.specs.declared.assignment.Assignment.{Assignment}
 use Rattle.cgm_model.specs.declared.lists.Lists.{Lists}
-use Rattle.cgm_model.specs.WellFormed.{IsWellFormed}
+use Rattle.cgm_model.specs.WellFormed.{IsWellFormedModel}
 use Rattle.cgm_evolve.specs.Pairs.{Pair}
 use Rattle.cgm_obj.specs.Least.{Realizes}
 use Rattle.cgm_obj.specs.Vector.{vector_of}
@@ -14,7 +14,7 @@ use Rattle.cgm_encode.specs.Encoding.{IsEncodingOf}
 
 -- a fact of each well-formed model and earlier realization of which this is the encoding
 abbrev pub ForEncoded : Encoded → (Lists → List Pair → Type 0) → Type 0
-ForEncoded enc P = (m : Lists) (pairs : List Pair) → ∥ IsWellFormed m ∥₁ → IsEncodingOf m pairs enc → P m pairs
+ForEncoded enc P = (m : Lists) (pairs : List Pair) → ∥ IsWellFormedModel m ∥₁ → IsEncodingOf m pairs enc → P m pairs
 
 -- the assignment is the one that the values stand for, a realization, and the values of the objectives are its vector
 pub record IsDecodedFor (m : Lists) (pairs : List Pair) (enc : Encoded) (values : List ℤ) (a : Assignment) : Type 0 where

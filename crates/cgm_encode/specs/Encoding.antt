@@ -8,7 +8,7 @@ use Rattle.cgm_enc_formula.specs.declared.stop.EncodeStop.{EncodeStop}
 use Rattle.cgm_enc_formula.specs.declared.stop.EncodeStop.TheVariants as stops
 use Rattle.cgm_enc_formula.specs.Measures.{IsWithinMeasure}
 use Rattle.cgm_encode.specs.declared.answer.Encoded.{Encoded}
-use Rattle.cgm_encode.specs.Problem.{box_of, number_ranges, problem_of}
+use Rattle.cgm_encode.specs.Problem.{box_of_problem, number_ranges, problem_of}
 
 -- the problem, and the counts of what its first variables stand for
 pub record IsEncodingOf (m : Lists) (pairs : List Pair) (enc : Encoded) : Type 0 where
@@ -19,7 +19,7 @@ pub record IsEncodingOf (m : Lists) (pairs : List Pair) (enc : Encoded) : Type 0
 
 -- the bounds by which comparisons are measured
 abbrev pub number_box : Lists → Bounds
-number_box m = box_of (number_ranges m)
+number_box m = box_of_problem (number_ranges m)
 
 -- the measure of each comparison is within the limit
 abbrev pub IsEncodable : Lists → Type 0

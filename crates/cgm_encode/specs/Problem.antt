@@ -23,8 +23,8 @@ use Rattle.cgm_encode.specs.Variables.{first_objective, first_preference, naming
 
 -- ---- variables
 
-abbrev pub box_of : List Range → Bounds
-box_of ranges = record { lower = map (λ r. r.0) ranges; upper = map (λ r. r.1) ranges }
+abbrev pub box_of_problem : List Range → Bounds
+box_of_problem ranges = record { lower = map (λ r. r.0) ranges; upper = map (λ r. r.1) ranges }
 
 -- so many variables of 0 to 1
 abbrev pub bits : ℕ → List Range
@@ -40,7 +40,7 @@ own_ranges m = bits (truth_variables m) ++ map own_range m.vars
 
 -- a sum lies between the sums of its negative and of its positive combined numbers
 abbrev pub sum_range : Lists → ℕ → Range
-sum_range m sum = total_range (box_of (own_ranges m)) (truth_variables m) (sum_total m sum)
+sum_range m sum = total_range (box_of_problem (own_ranges m)) (truth_variables m) (sum_total m sum)
 
 -- and sums
 abbrev pub number_ranges : Lists → List Range
@@ -55,7 +55,7 @@ abbrev pub choice_ranges : Lists → List Range
 choice_ranges m = rule_ranges m ++ bits (length m.prefers)
 
 abbrev pub objective_range : Lists → List Pair → Objective → Range
-objective_range m pairs o = total_range (box_of (choice_ranges m)) (first_objective m) (objective_total m pairs o)
+objective_range m pairs o = total_range (box_of_problem (choice_ranges m)) (first_objective m) (objective_total m pairs o)
 
 -- and objectives
 abbrev pub all_ranges : Lists → List Pair → List Range
@@ -97,7 +97,7 @@ objective_rows m pairs =
 
 unfoldable pub problem_of : Lists → List Pair → Instance
 problem_of m pairs = record {
-  bounds = box_of (all_ranges m pairs);
+  bounds = box_of_problem (all_ranges m pairs);
   clauses = (graph_clauses m ++ map without_repeats (model_rules_part m).clauses) ++ map without_repeats (preferences_written m);
   rows = (sum_rows m ++ (model_rules_part m).rows) ++ objective_rows m pairs;
   objectives = map (λ x. record { 0 = x }) (range_with_len (first_objective m) (length m.objectives));

@@ -1,4 +1,4 @@
--- The text of a problem: a header, then a line for each variable, clause, row and objective, each by number.
+-- The text of a problem: a header, then a problem_line for each variable, clause, row and objective, each by number.
 use Rattle.std.specs.Prelude.{ℕ, List, [], ◌∷◌, ◌++◌, length, map, flat_map, codes, decimal, ℤ, Option, None, Some}
 use Rattle.std.specs.Fmt.{signed_decimal}
 use Rattle.std.specs.List.{enumerate_from, range_with_len}
@@ -23,13 +23,13 @@ term_word t = signed_decimal t.0 ++ (codes "*" ++ decimal t.1.0)
 
 -- ---- lines
 
--- the words with one space between each two, and a line feed
-abbrev pub line : List ℕ → List (List ℕ) → List ℕ
-line word words = word ++ (spaced words ++ 10 ∷ [])
+-- the words with one space between each two, and a problem_line feed
+abbrev pub problem_line : List ℕ → List (List ℕ) → List ℕ
+problem_line word words = word ++ (spaced words ++ 10 ∷ [])
 
 -- `var V LO HI`
 abbrev pub range_line : ℕ → ℤ → ℤ → List ℕ
-range_line v lo hi = line (codes "var") (decimal v ∷ signed_decimal lo ∷ signed_decimal hi ∷ [])
+range_line v lo hi = problem_line (codes "var") (decimal v ∷ signed_decimal lo ∷ signed_decimal hi ∷ [])
 
 -- with the bounds of the variable in the box
 abbrev pub var_line : Bounds → ℕ → List ℕ
@@ -37,16 +37,16 @@ var_line b v = range_line v (lower_of b v) (upper_of b v)
 
 -- `clause C` and its atoms
 abbrev pub clause_line : ℕ × Clause → List ℕ
-clause_line c = line (codes "clause") (decimal c.0 ∷ map atom_word c.1.atoms)
+clause_line c = problem_line (codes "clause") (decimal c.0 ∷ map atom_word c.1.atoms)
 
 -- `row R GUARD LEAST` and its terms
 abbrev pub row_line : ℕ × Row → List ℕ
 row_line r =
-    line (codes "row") (decimal r.0 ∷ guard_word r.1.guard ∷ signed_decimal r.1.least ∷ map term_word r.1.terms)
+    problem_line (codes "row") (decimal r.0 ∷ guard_word r.1.guard ∷ signed_decimal r.1.least ∷ map term_word r.1.terms)
 
 -- `objective V`
 abbrev pub objective_line : Var → List ℕ
-objective_line v = line (codes "objective") (decimal v.0 ∷ [])
+objective_line v = problem_line (codes "objective") (decimal v.0 ∷ [])
 
 -- ---- the text
 
@@ -59,8 +59,8 @@ clause_lines p = flat_map clause_line (enumerate_from 0 p.clauses)
 abbrev pub row_lines : Instance → List ℕ
 row_lines p = flat_map row_line (enumerate_from 0 p.rows)
 
-abbrev pub objective_lines : Instance → List ℕ
-objective_lines p = flat_map objective_line p.objectives
+abbrev pub problem_objective_lines : Instance → List ℕ
+problem_objective_lines p = flat_map objective_line p.objectives
 
 unfoldable pub problem_text : Instance → List ℕ
-problem_text p = line (codes "cgm-problem 1") [] ++ (var_lines p ++ (clause_lines p ++ (row_lines p ++ objective_lines p)))
+problem_text p = problem_line (codes "cgm-problem 1") [] ++ (var_lines p ++ (clause_lines p ++ (row_lines p ++ problem_objective_lines p)))

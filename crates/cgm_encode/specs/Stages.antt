@@ -13,24 +13,24 @@ use Rattle.cgm_enc_graph.specs.GraphClauses.{graph_clauses}
 use Rattle.cgm_encode.specs.declared.expressions.Expression.{Expression}
 use Rattle.cgm_encode.specs.Building.{defining_rows, expression_range, with_ranges, with_rows}
 use Rattle.cgm_encode.specs.Encoding.{IsEncodable, number_box}
-use Rattle.cgm_encode.specs.Problem.{box_of, choice_ranges, model_rules_part, number_ranges, own_ranges, preferences_written, problem_of, rule_ranges, sum_rows}
+use Rattle.cgm_encode.specs.Problem.{box_of_problem, choice_ranges, model_rules_part, number_ranges, own_ranges, preferences_written, problem_of, rule_ranges, sum_rows}
 
 -- elements, refinements and variables
 abbrev pub own_instance : Lists → Instance
-own_instance m = record { bounds = box_of (own_ranges m); clauses = []; rows = []; objectives = [] }
+own_instance m = record { bounds = box_of_problem (own_ranges m); clauses = []; rows = []; objectives = [] }
 
 -- and the goal graph
 abbrev pub graph_instance : Lists → Instance
-graph_instance m = record { bounds = box_of (own_ranges m); clauses = graph_clauses m; rows = []; objectives = [] }
+graph_instance m = record { bounds = box_of_problem (own_ranges m); clauses = graph_clauses m; rows = []; objectives = [] }
 
 -- and sums
 abbrev pub numbers_instance : Lists → Instance
-numbers_instance m = record { bounds = box_of (number_ranges m); clauses = graph_clauses m; rows = sum_rows m; objectives = [] }
+numbers_instance m = record { bounds = box_of_problem (number_ranges m); clauses = graph_clauses m; rows = sum_rows m; objectives = [] }
 
 -- and rules
 abbrev pub rules_instance : Lists → Instance
 rules_instance m = record {
-  bounds = box_of (rule_ranges m);
+  bounds = box_of_problem (rule_ranges m);
   clauses = graph_clauses m ++ map without_repeats (model_rules_part m).clauses;
   rows = sum_rows m ++ (model_rules_part m).rows;
   objectives = [];
@@ -39,7 +39,7 @@ rules_instance m = record {
 -- and preferences
 abbrev pub choices_instance : Lists → Instance
 choices_instance m = record {
-  bounds = box_of (choice_ranges m);
+  bounds = box_of_problem (choice_ranges m);
   clauses = (graph_clauses m ++ map without_repeats (model_rules_part m).clauses) ++ map without_repeats (preferences_written m);
   rows = sum_rows m ++ (model_rules_part m).rows;
   objectives = [];

@@ -3,7 +3,7 @@ ghost use Rattle.std.specs.Prelude.{◌≡◌, ◌+◌, ◌<◌, ◌≤◌, leng
 ghost use Rattle.std.specs.List.{zip};
 ghost use Rattle.cgm_atom.specs.Adding.{CanTake, with_written};
 ghost use Rattle.cgm_model.specs.Model.{lists_of};
-ghost use Rattle.cgm_model.specs.Statement.{IsPreference};
+ghost use Rattle.cgm_model.specs.Statement.{IsProperPreference};
 ghost use Rattle.cgm_encode.specs.Problem.{preference_clauses};
 
 use crate::names::truth_variable;
@@ -22,7 +22,7 @@ pub(crate) fn add_preferences(
 ) -> Result<(), OutOfMemory>
     requires count { length variables.now ≡ length prefers.now }
     requires room { CanTake builder.old (flat_map (preference_clauses (lists_of model.now)) (zip variables.now prefers.now)) }
-    requires known { All (IsPreference (lists_of model.now)) prefers.now }
+    requires known { All (IsProperPreference (lists_of model.now)) prefers.now }
     ensures { OnOk result (builder.new ≡ with_written builder.old (flat_map (preference_clauses (lists_of model.now)) (zip variables.now prefers.now))) }
 {
     for (place, p) in prefers.iter().enumerate() {
@@ -47,7 +47,7 @@ fn add_preference(
     preference: &Preference,
 ) -> Result<(), OutOfMemory>
     requires room { CanTake builder.old (preference_clauses (lists_of model.now) (u, preference.now)) }
-    requires known { IsPreference (lists_of model.now) preference.now }
+    requires known { IsProperPreference (lists_of model.now) preference.now }
     ensures { OnOk result (builder.new ≡ with_written builder.old (preference_clauses (lists_of model.now) (u, preference.now))) }
 {
     let better = truth_variable(model, preference.better);

@@ -16,7 +16,7 @@ use Rattle.cgm_evolve.specs.declared.draft.EarlierDraft.{EarlierDraft}
 use Rattle.cgm_evolve.specs.Index.{Indexes}
 use Rattle.cgm_evolve.specs.Line.{AreFaulty, ArePairFault, IsFaulty, SayPair, header_tokens, name_fault}
 use Rattle.cgm_evolve.specs.Pairs.{Pair}
-use Rattle.cgm_evolve.specs.Progress.{IsDraft, IsKept, IsPairAdded, IsPairStop, IsStep, IsStopAfter}
+use Rattle.cgm_evolve.specs.Progress.{IsEarlierDraft, HasDistinctPairs, IsPairAdded, IsPairStop, IsPairStep, IsStopAfter}
 use Rattle.cgm_evolve.specs.Text.{Follows, HasFault, IsNotRead, IsTextOf, LineComesTo, earlier_text}
 use Rattle.cgm_evolve.proofs.Giving.{gives_lines}
 use Rattle.cgm_evolve.proofs.Pushing.{fits, truth_in-push}
@@ -26,7 +26,7 @@ on_ok_more A B (Ok x) more a = more a
 on_ok_more A B (Err stop) more a = tt
 
 abbrev TokensStep : List Lexeme → EarlierDraft → EarlierDraft → Type 0
-TokensStep ts old new = IsStep (λ so_far next. Follows so_far ts next) old new
+TokensStep ts old new = IsPairStep (λ so_far next. Follows so_far ts next) old new
 
 abbrev TokensStop : List Lexeme → EarlierDraft → LineStop → Type 0
 TokensStop ts draft stop = IsStopAfter (λ so_far. AreFaulty so_far ts) draft stop
@@ -37,7 +37,7 @@ follows_pair : (pairs : List Pair) (ts : List Lexeme) (p : Pair) → ts ≢ [] �
 follows_pair pairs [] p some says fine = absurd (some refl)
 follows_pair pairs (t ∷ ts) p some says fine = (p, (says, fine, refl))
 
-draft_pushed : (pairs : List Pair) (ts : List Lexeme) (old new : EarlierDraft) → IsDraft (Some pairs) old → (added : IsPairAdded ts old new) → IsDraft (Some (pairs ++ added.pair ∷ [])) new
+draft_pushed : (pairs : List Pair) (ts : List Lexeme) (old new : EarlierDraft) → IsEarlierDraft (Some pairs) old → (added : IsPairAdded ts old new) → IsEarlierDraft (Some (pairs ++ added.pair ∷ [])) new
 draft_pushed pairs ts old new is added =
     let p = added.pair in
     let free = fits pairs p.0 (added.fits pairs is.index) in
@@ -86,21 +86,21 @@ begun_step ts old new (Err stop) some unbegun begun pairs index is = tt
 
 -- ---- lines
 
-line_step : (line : List ℕ) (ts : List Lexeme) (number : ℕ) (old new : EarlierDraft) → line_lexemes line ≡ Ok ts → TokensStep ts old new → LineStep earlier_text IsDraft number line old new
+line_step : (line : List ℕ) (ts : List Lexeme) (number : ℕ) (old new : EarlierDraft) → line_lexemes line ≡ Ok ts → TokensStep ts old new → LineStep earlier_text IsEarlierDraft number line old new
 line_step line ts number old new e step so_far is =
     let s = step so_far is in
     (s.0, (record { tokens = ts; lexed = e; follows = s.1.0 }, s.1.1))
 
-pub line_steps : {X : Type 0} (line : List ℕ) (ts : List Lexeme) (number : ℕ) (old new : EarlierDraft) (r : Result X LineStop) → line_lexemes line ≡ Ok ts → OnOk r (TokensStep ts old new) → OnOk r (LineStep earlier_text IsDraft number line old new)
+pub line_steps : {X : Type 0} (line : List ℕ) (ts : List Lexeme) (number : ℕ) (old new : EarlierDraft) (r : Result X LineStop) → line_lexemes line ≡ Ok ts → OnOk r (TokensStep ts old new) → OnOk r (LineStep earlier_text IsEarlierDraft number line old new)
 line_steps line ts number old new r e step =
-    on_ok_more (TokensStep ts old new) (LineStep earlier_text IsDraft number line old new) r (line_step line ts number old new e) step
+    on_ok_more (TokensStep ts old new) (LineStep earlier_text IsEarlierDraft number line old new) r (line_step line ts number old new e) step
 
 -- what is wrong with the tokens is wrong with the line
 faulty_line : (line : List ℕ) (ts : List Lexeme) (number : ℕ) (so_far : Option (List Pair)) (fault : LineFault) → line_lexemes line ≡ Ok ts → AreFaulty so_far ts fault → LineComesTo so_far number line (Err fault)
 faulty_line line ts number so_far fault e faulty =
     subst (λ (r : Result (List Lexeme) Flaw). IsFaulty so_far r fault) (sym e) faulty
 
-pub line_stopped : {X : Type 0} (line : List ℕ) (ts : List Lexeme) (number : ℕ) (draft : EarlierDraft) (r : Result X LineStop) → line_lexemes line ≡ Ok ts → IfErr r (TokensStop ts draft) → IfErr r (LineStops earlier_text IsDraft number line draft)
+pub line_stopped : {X : Type 0} (line : List ℕ) (ts : List Lexeme) (number : ℕ) (draft : EarlierDraft) (r : Result X LineStop) → line_lexemes line ≡ Ok ts → IfErr r (TokensStop ts draft) → IfErr r (LineStops earlier_text IsEarlierDraft number line draft)
 line_stopped line ts number draft (Ok x) e stopped = tt
 line_stopped line ts number draft (Err stop) e stopped = λ so_far is.
     stop_by_more (AreFaulty so_far ts) (λ fault. LineComesTo so_far number line (Err fault)) stop (λ fault faulty. faulty_line line ts number so_far fault e faulty) (stopped so_far is)
@@ -110,17 +110,17 @@ flawed_line : (line : List ℕ) (number : ℕ) (so_far : Option (List Pair)) (fa
 flawed_line line number so_far fault (flaw, (e, is)) =
     subst (λ (r : Result (List Lexeme) Flaw). IsFaulty so_far r fault) (sym e) is
 
-pub flawed_stops : (line : List ℕ) (number : ℕ) (draft : EarlierDraft) (stop : LexStop) → IsLineStop number line stop → LineStops earlier_text IsDraft number line draft (lexing_stop stop)
+pub flawed_stops : (line : List ℕ) (number : ℕ) (draft : EarlierDraft) (stop : LexStop) → IsLineStop number line stop → LineStops earlier_text IsEarlierDraft number line draft (lexing_stop stop)
 flawed_stops line number draft stop is so_far keeps =
     stop_by_more (IsFlawed line) (λ fault. LineComesTo so_far number line (Err fault)) (lexing_stop stop) (flawed_line line number so_far) (flawed number line stop is)
 
 -- ---- the end
 
-pub nothing_lacks : (draft : EarlierDraft) (so_far : Option (List Pair)) → draft.has_header ≡ true → IsDraft so_far draft → None ≡ lacks_header so_far
+pub nothing_lacks : (draft : EarlierDraft) (so_far : Option (List Pair)) → draft.has_header ≡ true → IsEarlierDraft so_far draft → None ≡ lacks_header so_far
 nothing_lacks draft None begun is = absurd (true≢false (sym begun ∙ is.header))
 nothing_lacks draft (Some said) begun is = refl
 
-pub header_lacks : (draft : EarlierDraft) (so_far : Option (List Pair)) → draft.has_header ≡ false → IsDraft so_far draft → Some (line_faults.Bad kinds.Header) ≡ lacks_header so_far
+pub header_lacks : (draft : EarlierDraft) (so_far : Option (List Pair)) → draft.has_header ≡ false → IsEarlierDraft so_far draft → Some (line_faults.Bad kinds.Header) ≡ lacks_header so_far
 header_lacks draft None unbegun is = refl
 header_lacks draft (Some said) unbegun is = absurd (true≢false (sym is.header ∙ unbegun))
 
@@ -139,23 +139,23 @@ no_lack fault e = cc
 pub record IsReadPairs (text : List ℕ) (draft : EarlierDraft) : Type 0 where
   pub pairs : List Pair
   pub comes : IsTextOf text pairs
-  pub keeps : IsDraft (Some pairs) draft
+  pub keeps : IsEarlierDraft (Some pairs) draft
 
-read_pairs_by : (text : List ℕ) (so_far : Option (List Pair)) (draft : EarlierDraft) → Comes earlier_text text (gives so_far) → IsDraft so_far draft → IsReadPairs text draft
+read_pairs_by : (text : List ℕ) (so_far : Option (List Pair)) (draft : EarlierDraft) → Comes earlier_text text (gives so_far) → IsEarlierDraft so_far draft → IsReadPairs text draft
 unfolding IsTextOf
 read_pairs_by text None draft comes is =
     absurd (no_lack (line_faults.Bad kinds.Header) (lacks_nothing earlier_text text None comes))
 read_pairs_by text (Some pairs) draft comes is = record { pairs = pairs; comes = comes; keeps = is }
 
-read_pairs : (text : List ℕ) (draft : EarlierDraft) → IsReadAs earlier_text IsDraft text draft → IsReadPairs text draft
+read_pairs : (text : List ℕ) (draft : EarlierDraft) → IsReadAs earlier_text IsEarlierDraft text draft → IsReadPairs text draft
 read_pairs text draft read = read_pairs_by text read.said draft read.comes read.keeps
 
-pub kept : (text : List ℕ) (draft : EarlierDraft) → IsReadAs earlier_text IsDraft text draft → IsKept draft
+pub kept : (text : List ℕ) (draft : EarlierDraft) → IsReadAs earlier_text IsEarlierDraft text draft → HasDistinctPairs draft
 kept text draft read =
     let of = read_pairs text draft read in
     record { so_far = Some of.pairs; is = of.keeps; proper = (gives_lines text of.pairs of.comes).proper }
 
-pub finished : (text : List ℕ) (draft : EarlierDraft) (pairs : List Pair) → IsReadAs earlier_text IsDraft text draft → pairs ≡ draft.pairs.items → IsTextOf text pairs
+pub finished : (text : List ℕ) (draft : EarlierDraft) (pairs : List Pair) → IsReadAs earlier_text IsEarlierDraft text draft → pairs ≡ draft.pairs.items → IsTextOf text pairs
 finished text draft pairs read same =
     let of = read_pairs text draft read in
     subst (IsTextOf text) (sym (same ∙ of.keeps.pairs)) of.comes

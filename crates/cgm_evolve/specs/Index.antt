@@ -5,9 +5,9 @@ use Rattle.indexmap.specs.IndexMap.{get_by}
 use Rattle.cgm_evolve.specs.declared.index.Index.{Index}
 use Rattle.cgm_evolve.specs.Pairs.{Pair, truth_in}
 
-abbrev pub found : Index → List ℕ → Option Bool
-found index name = get_by (λ key. bytes_eq name key.items) index.entries
+abbrev pub pair_found : Index → List ℕ → Option Bool
+pair_found index name = get_by (λ key. bytes_eq name key.items) index.entries
 
 -- it says of each name what the pairs say
 abbrev pub Indexes : List Pair → Index → Type 0
-Indexes pairs index = (name : List ℕ) → found index name ≡ truth_in pairs name
+Indexes pairs index = (name : List ℕ) → pair_found index name ≡ truth_in pairs name

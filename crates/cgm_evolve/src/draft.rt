@@ -1,14 +1,14 @@
 //! The pairs of the lines that were read so far.
 ghost use Rattle.std.specs.Prelude.{◌≡◌, ◌≢◌, List, Option, true, IsTrue, IfOk, IfErr, OnOk, map};
 ghost use Rattle.cgm_base.specs.declared.fault.BadKind.TheVariants.{Header};
-ghost use Rattle.cgm_lex.specs.Lexemes.{seen};
+ghost use Rattle.cgm_lex.specs.Lexemes.{token_seen};
 ghost use Rattle.cgm_lex.specs.Names.{is_spelled};
 ghost use Rattle.cgm_lex.specs.declared.stops.LineFault.TheVariants.{Bad};
 ghost use Rattle.cgm_lex.specs.declared.stops.LineStop.TheVariants.{Faulty};
 ghost use Rattle.cgm_evolve.specs.Index.{Indexes};
 ghost use Rattle.cgm_evolve.specs.Line.{AreFaulty, header_tokens, name_fault};
 ghost use Rattle.cgm_evolve.specs.Pairs.{Pair};
-ghost use Rattle.cgm_evolve.specs.Progress.{IsDraft, IsKept, IsPairAdded, IsPairStop, IsPut, IsStep, IsStopAfter};
+ghost use Rattle.cgm_evolve.specs.Progress.{IsEarlierDraft, HasDistinctPairs, IsPairAdded, IsPairStop, IsPairPut, IsPairStep, IsStopAfter};
 ghost use Rattle.cgm_evolve.specs.Text.{Follows, earlier_text};
 
 use crate::earlier::Earlier;
@@ -52,7 +52,7 @@ fn name_fault(index: &Index, name: &[u8]) -> Option<LineFault>
 impl EarlierDraft {
     /// The draft before the first line.
     pub(crate) fn new(alloc: Global) -> EarlierDraft
-        ensures { IsDraft None result }
+        ensures { IsEarlierDraft None result }
     {
         EarlierDraft {
             has_header: false,
@@ -64,7 +64,7 @@ impl EarlierDraft {
     /// Adds a pair.
     fn put(&mut self, alloc: Global, name: &[u8], truth: bool) -> Result<(), OutOfMemory>
         requires { IsTrue (is_spelled name.now) }
-        ensures { OnOk result (IsPut (name.now, truth) self.old self.new) }
+        ensures { OnOk result (IsPairPut (name.now, truth) self.old self.new) }
     {
         let kept = name_of(alloc, name)?;
         self.index.set(alloc, name, truth)?;
@@ -76,8 +76,8 @@ impl EarlierDraft {
 
     /// Adds the pair that a line's tokens say.
     fn add_pair(&mut self, alloc: Global, line: &[u8], tokens: &[Token]) -> Result<(), LineStop>
-        ensures added { OnOk result (IsPairAdded (map (seen line.now) tokens.now) self.old self.new) }
-        ensures stop { IfErr result (IsPairStop (map (seen line.now) tokens.now) self.old.index) }
+        ensures added { OnOk result (IsPairAdded (map (token_seen line.now) tokens.now) self.old self.new) }
+        ensures stop { IfErr result (IsPairStop (map (token_seen line.now) tokens.now) self.old.index) }
     {
         match pair_of(line, tokens) {
             None => Err(LineStop::Faulty(LineFault::Bad(BadKind::Form))),
@@ -93,11 +93,11 @@ impl EarlierDraft {
 
     /// Takes the first tokens of the text, which are to be the header.
     fn begin(&mut self, line: &[u8], tokens: &[Token]) -> Result<(), LineStop>
-        ensures begun { OnOk result (map (seen line.now) tokens.now ≡ header_tokens) }
+        ensures begun { OnOk result (map (token_seen line.now) tokens.now ≡ header_tokens) }
         ensures header { OnOk result (self.new.has_header ≡ true) }
         ensures pairs { self.new.pairs.items ≡ self.old.pairs.items }
         ensures index { self.new.index ≡ self.old.index }
-        ensures stop { IfErr result (λ stop. (map (seen line.now) tokens.now ≢ header_tokens) × (stop ≡ Faulty (Bad Header))) }
+        ensures stop { IfErr result (λ stop. (map (token_seen line.now) tokens.now ≢ header_tokens) × (stop ≡ Faulty (Bad Header))) }
     {
         if !is_header(line, tokens) {
             return Err(LineStop::Faulty(LineFault::Bad(BadKind::Header)));
@@ -108,8 +108,8 @@ impl EarlierDraft {
 
     /// Adds what a line's tokens say.
     fn add_tokens(&mut self, alloc: Global, line: &[u8], tokens: &[Token]) -> Result<(), LineStop>
-        ensures step { OnOk result (IsStep (λ so_far next. Follows so_far (map (seen line.now) tokens.now) next) self.old self.new) }
-        ensures stop { IfErr result (IsStopAfter (λ so_far. AreFaulty so_far (map (seen line.now) tokens.now)) self.old) }
+        ensures step { OnOk result (IsPairStep (λ so_far next. Follows so_far (map (token_seen line.now) tokens.now) next) self.old self.new) }
+        ensures stop { IfErr result (IsStopAfter (λ so_far. AreFaulty so_far (map (token_seen line.now) tokens.now)) self.old) }
     {
         if is_end(tokens) {
             return Ok(());
@@ -123,7 +123,7 @@ impl EarlierDraft {
 
     /// The earlier realization of the lines so far.
     pub(crate) fn finish(self) -> Earlier
-        requires { IsKept self }
+        requires { HasDistinctPairs self }
         ensures { result.pairs ≡ self.pairs.items }
     {
         let EarlierDraft {
@@ -143,7 +143,7 @@ impl Draft for EarlierDraft {
 
     ghost form = { earlier_text };
 
-    ghost holds = { IsDraft };
+    ghost holds = { IsEarlierDraft };
 
     fn add_line(&mut self, alloc: Global, line: &[u8], number: u32) -> Result<(), LineStop> {
         match tokens_of_line(alloc, line, number) {

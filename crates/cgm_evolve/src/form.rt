@@ -1,6 +1,6 @@
 //! The forms of a line of an earlier text.
 ghost use Rattle.std.specs.Prelude.{◌≡◌, ◌≢◌, ◌↔◌, ℕ, ℤ, List, [], ◌∷◌, map, IsTrue, IfSome, IfNone};
-ghost use Rattle.cgm_lex.specs.Lexemes.{Lexeme, number, seen, word};
+ghost use Rattle.cgm_lex.specs.Lexemes.{Lexeme, number, token_seen, word};
 ghost use Rattle.cgm_evolve.specs.Line.{SayPair, header_tokens};
 ghost use Rattle.cgm_evolve.specs.Pairs.{Pair};
 
@@ -9,7 +9,7 @@ use cgm_lex::{Kind, Token, bytes_of, is_spelled};
 
 /// Says whether no token is left.
 pub(crate) fn is_end(tokens: &[Token]) -> bool
-    ensures { (line : List ℕ) → IsTrue result ↔ (map (seen line) tokens.now ≡ []) }
+    ensures { (line : List ℕ) → IsTrue result ↔ (map (token_seen line) tokens.now ≡ []) }
 {
     match tokens.split_first() {
         None => true,
@@ -19,8 +19,8 @@ pub(crate) fn is_end(tokens: &[Token]) -> bool
 
 /// Takes a word off.
 fn take_word<'l, 't>(line: &'l [u8], tokens: &'t [Token]) -> Option<(&'l [u8], &'t [Token])>
-    ensures found { IfSome result (λ parts. map (seen line.now) tokens.now ≡ word parts.0.now ∷ map (seen line.now) parts.1.now) }
-    ensures none { IfNone result ((w : List ℕ) (after : List Lexeme) → map (seen line.now) tokens.now ≢ word w ∷ after) }
+    ensures found { IfSome result (λ parts. map (token_seen line.now) tokens.now ≡ word parts.0.now ∷ map (token_seen line.now) parts.1.now) }
+    ensures none { IfNone result ((w : List ℕ) (after : List Lexeme) → map (token_seen line.now) tokens.now ≢ word w ∷ after) }
 {
     match tokens.split_first() {
         None => None,
@@ -33,8 +33,8 @@ fn take_word<'l, 't>(line: &'l [u8], tokens: &'t [Token]) -> Option<(&'l [u8], &
 
 /// A word and nothing else.
 fn one_word<'l>(line: &'l [u8], tokens: &[Token]) -> Option<&'l [u8]>
-    ensures found { IfSome result (λ w. map (seen line.now) tokens.now ≡ word w.now ∷ []) }
-    ensures none { IfNone result ((w : List ℕ) → map (seen line.now) tokens.now ≢ word w ∷ []) }
+    ensures found { IfSome result (λ w. map (token_seen line.now) tokens.now ≡ word w.now ∷ []) }
+    ensures none { IfNone result ((w : List ℕ) → map (token_seen line.now) tokens.now ≢ word w ∷ []) }
 {
     match take_word(line, tokens) {
         None => None,
@@ -44,8 +44,8 @@ fn one_word<'l>(line: &'l [u8], tokens: &[Token]) -> Option<&'l [u8]>
 
 /// Two words and nothing else.
 fn two_words<'l>(line: &'l [u8], tokens: &[Token]) -> Option<(&'l [u8], &'l [u8])>
-    ensures found { IfSome result (λ parts. map (seen line.now) tokens.now ≡ word parts.0.now ∷ word parts.1.now ∷ []) }
-    ensures none { IfNone result ((one other : List ℕ) → map (seen line.now) tokens.now ≢ word one ∷ word other ∷ []) }
+    ensures found { IfSome result (λ parts. map (token_seen line.now) tokens.now ≡ word parts.0.now ∷ word parts.1.now ∷ []) }
+    ensures none { IfNone result ((one other : List ℕ) → map (token_seen line.now) tokens.now ≢ word one ∷ word other ∷ []) }
 {
     match take_word(line, tokens) {
         None => None,
@@ -58,8 +58,8 @@ fn two_words<'l>(line: &'l [u8], tokens: &[Token]) -> Option<(&'l [u8], &'l [u8]
 
 /// A number and nothing else.
 fn one_number(tokens: &[Token]) -> Option<i64>
-    ensures found { IfSome result (λ k. (line : List ℕ) → map (seen line) tokens.now ≡ number k ∷ []) }
-    ensures none { IfNone result ((line : List ℕ) (k : ℤ) → map (seen line) tokens.now ≢ number k ∷ []) }
+    ensures found { IfSome result (λ k. (line : List ℕ) → map (token_seen line) tokens.now ≡ number k ∷ []) }
+    ensures none { IfNone result ((line : List ℕ) (k : ℤ) → map (token_seen line) tokens.now ≢ number k ∷ []) }
 {
     match tokens.split_first() {
         None => None,
@@ -72,7 +72,7 @@ fn one_number(tokens: &[Token]) -> Option<i64>
 
 /// Says whether these are the tokens of the header.
 pub(crate) fn is_header(line: &[u8], tokens: &[Token]) -> bool
-    ensures { IsTrue result ↔ (map (seen line.now) tokens.now ≡ header_tokens) }
+    ensures { IsTrue result ↔ (map (token_seen line.now) tokens.now ≡ header_tokens) }
 {
     match take_word(line, tokens) {
         None => false,
@@ -85,8 +85,8 @@ pub(crate) fn is_header(line: &[u8], tokens: &[Token]) -> bool
 
 /// The name and the truth that tokens say.
 pub(crate) fn pair_of<'l>(line: &'l [u8], tokens: &[Token]) -> Option<(&'l [u8], bool)>
-    ensures found { IfSome result (λ p. SayPair (map (seen line.now) tokens.now) (p.0.now, p.1)) }
-    ensures none { IfNone result ((p : Pair) → ¬ SayPair (map (seen line.now) tokens.now) p) }
+    ensures found { IfSome result (λ p. SayPair (map (token_seen line.now) tokens.now) (p.0.now, p.1)) }
+    ensures none { IfNone result ((p : Pair) → ¬ SayPair (map (token_seen line.now) tokens.now) p) }
 {
     match two_words(line, tokens) {
         None => None,

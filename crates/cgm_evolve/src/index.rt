@@ -1,7 +1,7 @@
-//! The truths of an earlier realization, found by name.
+//! The truths of an earlier realization, pair_found by name.
 ghost use Rattle.std.specs.Prelude.{◌≡◌, List, ℕ, OnOk, if◌then◌else◌};
 ghost use Rattle.std.specs.Str.{bytes_eq};
-ghost use Rattle.cgm_evolve.specs.Index.{found};
+ghost use Rattle.cgm_evolve.specs.Index.{pair_found};
 
 use cgm_formula::OutOfMemory;
 use indexmap::IndexMap;
@@ -16,7 +16,7 @@ pub(crate) struct Index {
 impl Index {
     /// The index of no names.
     pub(crate) fn new(alloc: Global) -> Index
-        ensures { (name : List ℕ) → found result name ≡ None }
+        ensures { (name : List ℕ) → pair_found result name ≡ None }
     {
         Index {
             entries: IndexMap::new(alloc),
@@ -24,14 +24,14 @@ impl Index {
     }
 
     pub(crate) fn get(&self, name: &[u8]) -> Option<bool>
-        ensures { result ≡ found self.now name.now }
+        ensures { result ≡ pair_found self.now name.now }
     {
         self.entries.get(name).copied()
     }
 
     /// Says the name's truth, whatever it was before.
     pub(crate) fn set(&mut self, alloc: Global, name: &[u8], truth: bool) -> Result<(), OutOfMemory>
-        ensures { OnOk result ((q : List ℕ) → found self.new q ≡ (if bytes_eq q name.now then Some truth else found self.old q)) }
+        ensures { OnOk result ((q : List ℕ) → pair_found self.new q ≡ (if bytes_eq q name.now then Some truth else pair_found self.old q)) }
     {
         let key = Vec::from_slice(alloc, name)?;
         self.entries.insert(key, truth)?;

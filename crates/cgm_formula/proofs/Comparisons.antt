@@ -5,7 +5,7 @@ use Rattle.std.proofs.lemmas.List.Elements.{All-from_recursion, recursion_from_A
 use Rattle.cgm_formula.specs.declared.formula.Linear.{Linear}
 use Rattle.cgm_formula.specs.declared.formula.Formula.{Formula}
 use Rattle.cgm_formula.specs.declared.formula.Formula.TheVariants.{Not, And, Or, Implies, Iff, AtMost, AtLeast, Equal}
-use Rattle.cgm_formula.specs.Nodes.{comparisons, comparisons_step, joined}
+use Rattle.cgm_formula.specs.Nodes.{comparisons, comparisons_step, lists_joined}
 use Rattle.cgm_formula.proofs.Folds.{fold-Not, fold-And, fold-Or, fold-Implies, fold-Iff, fold-AtMost, fold-AtLeast, fold-Equal}
 
 pub split : {X : Type 0} (Q : X → Type 0) (xs ys : List X) → AllByRecursion Q (xs ++ ys) → AllByRecursion Q xs × AllByRecursion Q ys
@@ -21,14 +21,14 @@ module _ (Q : Linear × ℤ → Type 0) where
   abbrev pub Holds : Formula → Type 0
   Holds f = All Q (comparisons f)
 
-  each_of : (parts : List Formula) → AllByRecursion Q (joined (map comparisons parts)) → AllByRecursion Holds parts
+  each_of : (parts : List Formula) → AllByRecursion Q (lists_joined (map comparisons parts)) → AllByRecursion Holds parts
   each_of [] h = tt
   each_of (part ∷ parts) h =
-      let both = split Q (comparisons part) (joined (map comparisons parts)) h in
+      let both = split Q (comparisons part) (lists_joined (map comparisons parts)) h in
       (All-from_recursion Q (comparisons part) both.0, each_of parts both.1)
 
-  all_of : (parts : List Formula) → All Q (joined (map comparisons parts)) → All Holds parts
-  all_of parts h = All-from_recursion Holds parts (each_of parts (recursion_from_All Q (joined (map comparisons parts)) h))
+  all_of : (parts : List Formula) → All Q (lists_joined (map comparisons parts)) → All Holds parts
+  all_of parts h = All-from_recursion Holds parts (each_of parts (recursion_from_All Q (lists_joined (map comparisons parts)) h))
 
   pub of_negation : (part : Formula) → Holds (Not part) → Holds part
   of_negation part h = subst (All Q) (fold-Not comparisons_step part) h

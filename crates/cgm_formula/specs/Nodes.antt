@@ -1,4 +1,4 @@
--- What stands in a formula: its names, comparisons and linear expressions, its nodes, and its brackets as they nest in text.
+-- What stands in a formula: its formula_names, comparisons and linear expressions, its nodes, and its brackets as they nest in text.
 use Rattle.std.specs.Prelude.{ℕ, ◌+◌, max, nat_lt, ◌==◌, Bool, true, ◌&&◌, if◌then◌else◌, List, [], ◌∷◌, ◌++◌, length, sum, map, ℤ, pos, negsuc}
 use Rattle.std.specs.List.{list_all}
 use Rattle.cgm_formula.specs.declared.formula.Truth.{Truth}
@@ -9,35 +9,35 @@ use Rattle.cgm_formula.specs.declared.formula.Formula.TheOpen.{Formula-F}
 use Rattle.cgm_formula.specs.declared.formula.Formula.TheFolds.{fold-Formula}
 
 -- the lists, one after another
-abbrev pub joined : {X : Type 0} → List (List X) → List X
-joined [] = []
-joined (xs ∷ rest) = xs ++ joined rest
+abbrev pub lists_joined : {X : Type 0} → List (List X) → List X
+lists_joined [] = []
+lists_joined (xs ∷ rest) = xs ++ lists_joined rest
 
 abbrev pub greatest : List ℕ → ℕ
 greatest [] = 0
 greatest (n ∷ ns) = max n (greatest ns)
 
--- the names of elements and refinements, from the left
+-- the formula_names of elements and refinements, from the left
 abbrev pub names_step : Formula-F (List Truth) → List Truth
 names_step (Formula-F.Name name) = name ∷ []
 names_step (Formula-F.Not part) = part
-names_step (Formula-F.And parts) = joined parts
-names_step (Formula-F.Or parts) = joined parts
+names_step (Formula-F.And parts) = lists_joined parts
+names_step (Formula-F.Or parts) = lists_joined parts
 names_step (Formula-F.Implies premise conclusion) = premise ++ conclusion
 names_step (Formula-F.Iff one other) = one ++ other
 names_step (Formula-F.AtMost l k) = []
 names_step (Formula-F.AtLeast l k) = []
 names_step (Formula-F.Equal l k) = []
 
-abbrev pub names : Formula → List Truth
-names = fold-Formula (List Truth) names_step
+abbrev pub formula_names : Formula → List Truth
+formula_names = fold-Formula (List Truth) names_step
 
 -- each comparison's linear expression with its number, from the left
 abbrev pub comparisons_step : Formula-F (List (Linear × ℤ)) → List (Linear × ℤ)
 comparisons_step (Formula-F.Name name) = []
 comparisons_step (Formula-F.Not part) = part
-comparisons_step (Formula-F.And parts) = joined parts
-comparisons_step (Formula-F.Or parts) = joined parts
+comparisons_step (Formula-F.And parts) = lists_joined parts
+comparisons_step (Formula-F.Or parts) = lists_joined parts
 comparisons_step (Formula-F.Implies premise conclusion) = premise ++ conclusion
 comparisons_step (Formula-F.Iff one other) = one ++ other
 comparisons_step (Formula-F.AtMost l k) = (l, k) ∷ []

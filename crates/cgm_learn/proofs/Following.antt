@@ -13,7 +13,7 @@ use Rattle.cgm_atom.specs.Bounds.{Bounds, IsBoxOf}
 use Rattle.cgm_atom.specs.Constraints.{Constraint, left_by, left_by_named}
 use Rattle.cgm_atom.specs.Instance.{Instance}
 use Rattle.cgm_atom.specs.Laws.{IsLeftSmaller, IsSmaller}
-use Rattle.cgm_atom.specs.Limits.{IsBound, IsWellFormed}
+use Rattle.cgm_atom.specs.Limits.{IsBound, IsWellFormedProblem}
 use Rattle.cgm_atom.specs.LogState.{all_narrowed, carried, greatest_carried}
 use Rattle.cgm_atom.specs.Narrowing.{is_true_in, made_true}
 use Rattle.cgm_atom.specs.Placing.{placed}
@@ -34,7 +34,7 @@ use Rattle.cgm_learn.specs.declared.walks.Turn.{Turn}
 use Rattle.cgm_learn.specs.declared.walks.Walk.{Walk}
 use Rattle.cgm_learn.specs.Grounds.{GroundState, placed_on, whole_state}
 use Rattle.cgm_learn.specs.Learning.{IsConflictIn, IsNameAfter, named_after}
-use Rattle.cgm_learn.specs.Walking.{IsCause, IsDecisionAt, IsEnd, IsExplained, IsFirst, IsLedTo, IsNeeded, IsPlaceOf, IsReasoned, IsRest, IsStepped, IsTurn, IsUsable, IsUsed, IsWalk, followed, is_met_before, left_by_used}
+use Rattle.cgm_learn.specs.Walking.{IsCause, IsDecisionAt, IsWalkEnd, IsExplained, IsFirst, IsLedTo, IsNeeded, IsPlaceOf, IsReasoned, IsRest, IsStepped, IsTurn, IsUsable, IsUsed, IsWalk, followed, is_met_before, left_by_used}
 use Rattle.cgm_learn.proofs.Boxes.{open_before, open_in_larger, rejoined, rest_before, smaller_before, true_at_need}
 use Rattle.cgm_learn.proofs.Changes.{IsNext, earlier_larger, place_limits, reason_at}
 
@@ -158,7 +158,7 @@ size_of b a false e sizes = rw e (sizes a.var.0).1
 pub freed : (g : GroundState) (t : TrailState) (w : Place) (walk : Walk) (rest : Bounds) (c : Change) (a : Atom) → IsTrail t → t.problem ≡ g.problem → IsPlaceOf t w → IsNext t w walk.place c → is_met_before walk.need c ≡ false → IsWalk g t walk → a ≡ at_bound_of walk.need c.atom → rest ≡ relaxed walk.need (at_bound_of g.problem.bounds a) → IsBoxOf g.problem.bounds rest → IsRest g w.state (record { place = w; need = rest; used = walk.used }) a
 freed g t w walk rest c a trail same place next unmet far e f limits =
     let need : Bounds = walk.need in
-    let valid : IsWellFormed g.problem = subst IsWellFormed same trail.problem in
+    let valid : IsWellFormedProblem g.problem = subst IsWellFormedProblem same trail.problem in
     let inside : IsSmaller (made_true w.state c.atom) need = subst (λ b. IsSmaller b need) next.made far.needed.inside in
     let later : IsBoxOf t.problem.bounds (made_true w.state c.atom) = subst (λ b. IsBoxOf t.problem.bounds b) next.made (place_limits t walk.place trail far.place) in
     let before : IsBoxOf g.problem.bounds w.state = subst (λ (q : Instance). IsBoxOf q.bounds w.state) same (place_limits t w trail place) in
@@ -225,7 +225,7 @@ cause_at g t w walk c h a trail reasoned place next far found e same =
 
 -- ---- the end of the walk
 
-pub walked : (g : GroundState) (t : TrailState) (walk : Walk) → t.problem ≡ g.problem → walk.place.at ≡ 0 → IsWalk g t walk → IsEnd g walk
+pub walked : (g : GroundState) (t : TrailState) (walk : Walk) → t.problem ≡ g.problem → walk.place.at ≡ 0 → IsWalk g t walk → IsWalkEnd g walk
 walked g t walk same e far =
     let state : walk.place.state ≡ g.problem.bounds = far.place.state ∙ ap (λ n. box_after t.problem.bounds (take n t.changes)) e ∙ ap (λ (q : Instance). q.bounds) same in
     record {

@@ -22,7 +22,7 @@ use Rattle.cgm_atom.specs.ClauseAtoms.{AreKnown}
 use Rattle.cgm_atom.specs.Constraints.{Constraint}
 use Rattle.cgm_atom.specs.Instance.{Instance, fault_unless, first_some, var_count}
 use Rattle.cgm_atom.specs.Laws.{IsSmaller}
-use Rattle.cgm_atom.specs.Limits.{IsWellFormed}
+use Rattle.cgm_atom.specs.Limits.{IsWellFormedProblem}
 use Rattle.cgm_atom.specs.LogState.{LogState, all_narrowed, greatest_carried, named}
 use Rattle.cgm_atom.specs.Narrowing.{all_assumed, is_false_in, made_true}
 use Rattle.cgm_atom.specs.Placing.{placed}
@@ -36,7 +36,7 @@ use Rattle.cgm_learn.specs.declared.walks.Turn.{Turn}
 use Rattle.cgm_learn.specs.declared.walks.Walk.{Walk}
 use Rattle.cgm_learn.specs.Grounds.{GroundState, IsGround, IsKnownOn, whole_state}
 use Rattle.cgm_learn.specs.Learning.{IsAcceptedLemma, IsLemmaInRange, IsUnitAtLast, named_after}
-use Rattle.cgm_learn.specs.Walking.{AreNegations, IsEnd, IsLesson, IsPlaceOf, IsTurn, IsUsable, IsUsed, followed, left_by_used}
+use Rattle.cgm_learn.specs.Walking.{AreNegations, IsWalkEnd, IsLesson, IsPlaceOf, IsTurn, IsUsable, IsUsed, followed, left_by_used}
 use Rattle.cgm_learn.proofs.Boxes.{false_made, inside_from, made_counts, negation_open, open_in_larger, true_negation}
 use Rattle.cgm_learn.proofs.Changes.{IsCutBetween, cut_between, cut_box, level_at_decision}
 use Rattle.cgm_learn.proofs.Following.{smaller_refuted}
@@ -137,7 +137,7 @@ record IsMade (l : Learned) (atoms : List Atom) (u : Used) : Type 0 where
   hints_are : l.hints ≡ reverse u.hints.items
   bound_is : l.bound ≡ u.bound
 
-accepted_by : (g : GroundState) (l : Learned) (atoms : List Atom) (u : Used) → IsGround g → IsWellFormed g.problem → IsMade l atoms u → IsUsed g u → AreKnown (var_count g.problem) atoms → ((b : Bounds) → IsSmaller b g.problem.bounds → All (λ a. is_false_in b a ≡ true) atoms → left_by_used g u b ≡ None) → IsAcceptedLemma g.problem g.state g.pending l
+accepted_by : (g : GroundState) (l : Learned) (atoms : List Atom) (u : Used) → IsGround g → IsWellFormedProblem g.problem → IsMade l atoms u → IsUsed g u → AreKnown (var_count g.problem) atoms → ((b : Bounds) → IsSmaller b g.problem.bounds → All (λ a. is_false_in b a ≡ true) atoms → left_by_used g u b ≡ None) → IsAcceptedLemma g.problem g.state g.pending l
 accepted_by g l atoms u valid_ground valid made used known refuted = λ worker.
     let whole = whole_state g in
     let n = length g.state.entries in
@@ -167,7 +167,7 @@ range_by g l atoms u made used range = λ worker below. (
 nothing_false : (b : Bounds) → All (λ (a : Atom). is_false_in b a ≡ true) []
 nothing_false b = All-nil (λ (a : Atom). is_false_in b a ≡ true)
 
-pub lesson_at_end : (g : GroundState) (t : TrailState) (l : Learned) (walk : Walk) → IsGround g → IsWellFormed g.problem → IsEnd g walk → l.clause.atoms ≡ [] → l.hints ≡ reverse walk.used.hints.items → l.bound ≡ walk.used.bound → IsLesson g t l
+pub lesson_at_end : (g : GroundState) (t : TrailState) (l : Learned) (walk : Walk) → IsGround g → IsWellFormedProblem g.problem → IsWalkEnd g walk → l.clause.atoms ≡ [] → l.hints ≡ reverse walk.used.hints.items → l.bound ≡ walk.used.bound → IsLesson g t l
 lesson_at_end g t l walk valid_ground valid end e f k =
     let u : Used = walk.used in
     let made : IsMade l [] u = record { atoms_are = e; hints_are = f; bound_is = k } in
@@ -203,7 +203,7 @@ unit_by t l rest base first others a level place earlier inside undecided e fals
           (open_in_larger base.state cut a (rw place.state boxes.1) undecided),
     )
 
-pub lesson_at_turn : (g : GroundState) (t : TrailState) (l : Learned) (walk : Walk) (turn : Turn) (first : Place) (others : List Atom) (opposite : Atom) → IsGround g → IsWellFormed g.problem → IsTurn g t walk turn → AreNegations g.problem.bounds walk.need (var_count g.problem) others → opposite ≡ negation turn.atom → IsAtomInRange opposite → IsPlaceOf t first → first.at ≤ turn.base.at → IsSmaller first.state walk.need → l.clause.atoms ≡ others ++ opposite ∷ [] → l.hints ≡ reverse walk.used.hints.items → l.bound ≡ walk.used.bound → l.level ≡ first.level → IsLesson g t l
+pub lesson_at_turn : (g : GroundState) (t : TrailState) (l : Learned) (walk : Walk) (turn : Turn) (first : Place) (others : List Atom) (opposite : Atom) → IsGround g → IsWellFormedProblem g.problem → IsTurn g t walk turn → AreNegations g.problem.bounds walk.need (var_count g.problem) others → opposite ≡ negation turn.atom → IsAtomInRange opposite → IsPlaceOf t first → first.at ≤ turn.base.at → IsSmaller first.state walk.need → l.clause.atoms ≡ others ++ opposite ∷ [] → l.hints ≡ reverse walk.used.hints.items → l.bound ≡ walk.used.bound → l.level ≡ first.level → IsLesson g t l
 lesson_at_turn g t l walk turn first others opposite valid_ground valid far negations same range place h inside e f bound k =
     let u : Used = walk.used in
     let rest : Bounds = walk.need in

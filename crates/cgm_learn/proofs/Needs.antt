@@ -14,7 +14,7 @@ use Rattle.cgm_atom.specs.declared.constraints.Atom.{Atom}
 use Rattle.cgm_atom.specs.declared.constraints.Clause.{Clause}
 use Rattle.cgm_atom.specs.declared.constraints.Var.{Var}
 use Rattle.cgm_atom.specs.Atoms.{negation}
-use Rattle.cgm_atom.specs.Bounds.{Bounds, IsBoxOf, IsProper, lower_of, upper_of}
+use Rattle.cgm_atom.specs.Bounds.{Bounds, IsBoxOf, AreProperBounds, lower_of, upper_of}
 use Rattle.cgm_atom.specs.ClauseAtoms.{AreKnown, left_in}
 use Rattle.cgm_atom.specs.Laws.{IsSmaller}
 use Rattle.cgm_atom.specs.Narrowing.{is_false_in, is_true_in, left_by_atoms, left_by_clause, made_true, raised, reduced}
@@ -32,7 +32,7 @@ both_cases lo hi k true o h g = let a = read_le k lo h in let b = read_lt hi k g
 both_cases lo hi k false o h g = let a = read_le hi k h in let b = read_lt k lo g in omega (arith, ints, a, b, o)
 
 -- no atom is both true and false in a box in order
-pub not_both : (b : Bounds) (a : Atom) → IsProper b → is_true_in b a ≡ true → is_false_in b a ≡ true → ⊥
+pub not_both : (b : Bounds) (a : Atom) → AreProperBounds b → is_true_in b a ≡ true → is_false_in b a ≡ true → ⊥
 not_both b a proper h g = both_cases (lower_of b a.var.0) (upper_of b a.var.0) a.k a.at_least (proper.ordered a.var.0) h g
 
 max_below : (lo k v : ℤ) → lo ≤ℤ v → k ≤ℤ v → int_max lo k ≤ℤ v
@@ -65,13 +65,13 @@ added_cases work need x k false h holds = record {
 pub added_inside : (work need : Bounds) (a : Atom) → IsSmaller work need → is_true_in work a ≡ true → IsSmaller work (made_true need a)
 added_inside work need a h holds = added_cases work need a.var.0 a.k a.at_least h holds
 
-added_by : (work need new : Bounds) (a : Atom) (answer f : Bool) → IsProper work → IsSmaller work need → is_true_in work a ≡ true → is_false_in need a ≡ f → answer ≡ not f → new ≡ (if answer then made_true need a else need) → new ≡ made_true need a
+added_by : (work need new : Bounds) (a : Atom) (answer f : Bool) → AreProperBounds work → IsSmaller work need → is_true_in work a ≡ true → is_false_in need a ≡ f → answer ≡ not f → new ≡ (if answer then made_true need a else need) → new ≡ made_true need a
 added_by work need new a answer true proper h holds e g n = absurd (not_both work a proper holds (false_in_smaller work need a h e))
 added_by work need new a true false proper h holds e g n = n
 added_by work need new a false false proper h holds e g n = absurd (cc)
 
 -- it can be added
-pub added : (work need new : Bounds) (a : Atom) (answer : Bool) → IsProper work → IsSmaller work need → is_true_in work a ≡ true → answer ≡ not (is_false_in need a) → new ≡ (if answer then made_true need a else need) → new ≡ made_true need a
+pub added : (work need new : Bounds) (a : Atom) (answer : Bool) → AreProperBounds work → IsSmaller work need → is_true_in work a ≡ true → answer ≡ not (is_false_in need a) → new ≡ (if answer then made_true need a else need) → new ≡ made_true need a
 added work need new a answer proper h holds g n = added_by work need new a answer (is_false_in need a) proper h holds refl g n
 
 pub explained_same : (limits work need : Bounds) → IsSmaller work need → IsBoxOf limits need → IsExplained limits work need need
@@ -92,7 +92,7 @@ true_opposite_cases b x false k h = le_is_true (k +ℤ pos 1) (lower_of b x.0) (
 pub true_opposite : (b : Bounds) (a : Atom) → is_false_in b a ≡ true → is_true_in b (negation a) ≡ true
 true_opposite b a h = true_opposite_cases b a.var a.at_least a.k h
 
-pub falsified_by : (work need new : Bounds) (a n : Atom) → IsProper work → IsSmaller work need → a.var.0 < length work.lower → n ≡ negation a → new ≡ made_true need n → is_false_in new a ≡ true
+pub falsified_by : (work need new : Bounds) (a n : Atom) → AreProperBounds work → IsSmaller work need → a.var.0 < length work.lower → n ≡ negation a → new ≡ made_true need n → is_false_in new a ≡ true
 falsified_by work need new a n proper h known e f =
     rw (f, e) (false_made need a (omega (arith, known, h.lower_count)) (omega (arith, h.lower_count, h.upper_count, proper.same_count)))
 
@@ -211,17 +211,17 @@ gives_cases b b' x y false true k r known up-known known' up-known' h g = absurd
 gives_cases b b' x y false false k r known up-known known' up-known' h g = reduced_here b b' x.0 y.0 k r (cases_eq y.0 x.0) up-known up-known' h g
 
 -- where making one atom true makes another true, it does so in each box
-pub made_gives : (b b' : Bounds) (u a : Atom) → IsProper b → IsSmaller b b' → u.var.0 < length b.lower → is_true_in (made_true b u) a ≡ true → is_true_in b a ≡ false → is_true_in (made_true b' u) a ≡ true
+pub made_gives : (b b' : Bounds) (u a : Atom) → AreProperBounds b → IsSmaller b b' → u.var.0 < length b.lower → is_true_in (made_true b u) a ≡ true → is_true_in b a ≡ false → is_true_in (made_true b' u) a ≡ true
 made_gives b b' u a proper h known e f =
     gives_cases b b' u.var a.var u.at_least a.at_least u.k a.k known (omega (arith, known, proper.same_count)) (omega (arith, known, h.lower_count)) (omega (arith, known, proper.same_count, h.upper_count)) e f
 
-atoms_give : (work need : Bounds) (atoms : List Atom) (a : Atom) → IsProper work → IsSmaller work need → AreKnown (length work.lower) atoms → is_true_in work a ≡ false → IsSomeAnd (left_by_atoms work atoms) (λ left. is_true_in left a ≡ true) → IfSome (left_by_atoms need atoms) (λ left. is_true_in left a ≡ true)
+atoms_give : (work need : Bounds) (atoms : List Atom) (a : Atom) → AreProperBounds work → IsSmaller work need → AreKnown (length work.lower) atoms → is_true_in work a ≡ false → IsSomeAnd (left_by_atoms work atoms) (λ left. is_true_in left a ≡ true) → IfSome (left_by_atoms need atoms) (λ left. is_true_in left a ≡ true)
 atoms_give work need [] a proper h known unmet given = absurd given
 atoms_give work need (u ∷ []) a proper h known unmet given = made_gives work need u a proper h (All-head (λ x. x.var.0 < length work.lower) u [] known) given unmet
 atoms_give work need (u ∷ v ∷ atoms) a proper h known unmet given = absurd (cc)
 
 -- a clause that gives an atom in the box gives it in the needed one
-pub clause_gives : (work need : Bounds) (c : Clause) (a : Atom) → IsProper work → IsSmaller work need → AreKnown (length work.lower) c.atoms → is_true_in work a ≡ false → left_in need c.atoms ≡ left_in work c.atoms → IsSomeAnd (left_by_clause work c) (λ left. is_true_in left a ≡ true) → IfSome (left_by_clause need c) (λ left. is_true_in left a ≡ true)
+pub clause_gives : (work need : Bounds) (c : Clause) (a : Atom) → AreProperBounds work → IsSmaller work need → AreKnown (length work.lower) c.atoms → is_true_in work a ≡ false → left_in need c.atoms ≡ left_in work c.atoms → IsSomeAnd (left_by_clause work c) (λ left. is_true_in left a ≡ true) → IfSome (left_by_clause need c) (λ left. is_true_in left a ≡ true)
 unfolding left_by_clause
 clause_gives work need c a proper h known unmet same given =
     subst (λ xs. IfSome (left_by_atoms need xs) (λ left. is_true_in left a ≡ true)) (sym same)
@@ -234,13 +234,13 @@ known_at n atoms i a known found =
     subst (λ (x : Atom). x.var.0 < n) (get_or_from_slice_get atoms i a a found) (known i a (within_list atoms i a found))
 
 -- a box that a proper one lies in is proper
-pub proper_larger : (work need : Bounds) → IsProper work → IsSmaller work need → IsProper need
+pub proper_larger : (work need : Bounds) → AreProperBounds work → IsSmaller work need → AreProperBounds need
 proper_larger work need proper h = record {
   same_count = sym h.upper_count ∙ proper.same_count ∙ h.lower_count;
   ordered = λ x. ≤ℤ_trans (lower_of need x) (lower_of work x) (upper_of need x) (h.inside x).0 (≤ℤ_trans (lower_of work x) (upper_of work x) (upper_of need x) (proper.ordered x) (h.inside x).1);
 }
 
-pub proper_of : (limits b : Bounds) → IsBoxOf limits b → IsProper b
+pub proper_of : (limits b : Bounds) → IsBoxOf limits b → AreProperBounds b
 proper_of limits b box = record { same_count = box.upper_count ∙ sym box.lower_count; ordered = box.ordered }
 
 -- what has been added so far
@@ -256,7 +256,7 @@ clause_begins work need atoms h = record {
   falsified = falsified_none work need atoms;
 }
 
-pub clause_steps : (work old now new : Bounds) (atoms : List Atom) (n : ℕ) (a : Atom) → IsProper work → IsClauseSoFar work old now atoms n → slice_get atoms n ≡ Some a → (is_false_in work a ≡ true → is_false_in new a ≡ true) → ((limits : Bounds) → IsBoxOf limits now → IsExplained limits work now new) → IsClauseSoFar work old new atoms (n + 1)
+pub clause_steps : (work old now new : Bounds) (atoms : List Atom) (n : ℕ) (a : Atom) → AreProperBounds work → IsClauseSoFar work old now atoms n → slice_get atoms n ≡ Some a → (is_false_in work a ≡ true → is_false_in new a ≡ true) → ((limits : Bounds) → IsBoxOf limits now → IsExplained limits work now new) → IsClauseSoFar work old new atoms (n + 1)
 clause_steps work old now new atoms n a proper far found falsified explained =
     let own = explained now (box_of_itself now (proper_larger work now proper far.inside)) in
     record {

@@ -13,7 +13,7 @@ use Rattle.cgm_atom.specs.declared.constraints.Atom.{Atom}
 use Rattle.cgm_atom.specs.declared.constraints.Row.{Row}
 use Rattle.cgm_atom.specs.declared.constraints.Var.{Var}
 use Rattle.cgm_atom.specs.Atoms.{negation}
-use Rattle.cgm_atom.specs.Bounds.{Bounds, IsProper, lower_of, upper_of}
+use Rattle.cgm_atom.specs.Bounds.{Bounds, AreProperBounds, lower_of, upper_of}
 use Rattle.cgm_atom.specs.Laws.{IsSmaller}
 use Rattle.cgm_atom.specs.Limits.{AreTermsOf, IsAbsent}
 use Rattle.cgm_atom.specs.Narrowing.{greatest_activity, greatest_term, is_claimed_in, is_true_in, kept_atom, left_by_row, left_by_unmet, made_true, raised, reduced, tightened_by_term, tightened_by_terms}
@@ -63,17 +63,17 @@ pub row_refused : (b : Bounds) (r : Row) → left_by_row b r ≡ None → IsRefu
 row_refused b r h = row_refused_by b r (int_lt (greatest_activity b r.terms) r.least) (is_claimed_in b r.guard) refl refl h
 
 -- a row whose guard is given as false gives it in a larger box too
-guard_gives : (work need : Bounds) (g a : Atom) (s t : Bool) → IsProper work → IsSmaller work need → g.var.0 < length work.lower → is_true_in work a ≡ false → IsSomeAnd (if s then None else Some (made_true work (negation g))) (λ left. is_true_in left a ≡ true) → IfSome (if t then None else Some (made_true need (negation g))) (λ left. is_true_in left a ≡ true)
+guard_gives : (work need : Bounds) (g a : Atom) (s t : Bool) → AreProperBounds work → IsSmaller work need → g.var.0 < length work.lower → is_true_in work a ≡ false → IsSomeAnd (if s then None else Some (made_true work (negation g))) (λ left. is_true_in left a ≡ true) → IfSome (if t then None else Some (made_true need (negation g))) (λ left. is_true_in left a ≡ true)
 guard_gives work need g a true t proper h known unmet given = absurd given
 guard_gives work need g a false true proper h known unmet given = tt
 guard_gives work need g a false false proper h known unmet given = made_gives work need (negation g) a proper h known given unmet
 
-unmet_gives : (work need : Bounds) (g : Option Atom) (a : Atom) → IsProper work → IsSmaller work need → IfSome g (λ x. x.var.0 < length work.lower) → is_true_in work a ≡ false → IsSomeAnd (left_by_unmet work g) (λ left. is_true_in left a ≡ true) → IfSome (left_by_unmet need g) (λ left. is_true_in left a ≡ true)
+unmet_gives : (work need : Bounds) (g : Option Atom) (a : Atom) → AreProperBounds work → IsSmaller work need → IfSome g (λ x. x.var.0 < length work.lower) → is_true_in work a ≡ false → IsSomeAnd (left_by_unmet work g) (λ left. is_true_in left a ≡ true) → IfSome (left_by_unmet need g) (λ left. is_true_in left a ≡ true)
 unmet_gives work need None a proper h known unmet given = tt
 unmet_gives work need (Some g) a proper h known unmet given = guard_gives work need g a (is_true_in work g) (is_true_in need g) proper h known unmet given
 
 -- where no values meet the row
-pub row_gives_guard : (work need : Bounds) (r : Row) (a : Atom) → IsProper work → IsSmaller work need → IfSome r.guard (λ x. x.var.0 < length work.lower) → is_true_in work a ≡ false → greatest_activity work r.terms <ℤ r.least → greatest_activity need r.terms <ℤ r.least → IsSomeAnd (left_by_row work r) (λ left. is_true_in left a ≡ true) → IfSome (left_by_row need r) (λ left. is_true_in left a ≡ true)
+pub row_gives_guard : (work need : Bounds) (r : Row) (a : Atom) → AreProperBounds work → IsSmaller work need → IfSome r.guard (λ x. x.var.0 < length work.lower) → is_true_in work a ≡ false → greatest_activity work r.terms <ℤ r.least → greatest_activity need r.terms <ℤ r.least → IsSomeAnd (left_by_row work r) (λ left. is_true_in left a ≡ true) → IfSome (left_by_row need r) (λ left. is_true_in left a ≡ true)
 row_gives_guard work need r a proper h known unmet here there given =
     subst (λ o. IfSome o (λ left. is_true_in left a ≡ true)) (sym (left_by_row-unmet need r (greatest_activity need r.terms) refl there))
     (unmet_gives work need r.guard a proper h known unmet
@@ -219,7 +219,7 @@ row_gives b r a known even claimed h = row_gives_by b r a (int_lt (greatest_acti
 -- ---- what the code adds
 
 -- the guard is claimed where it was made true
-pub guard_made : (work need new : Bounds) (g : Atom) → IsProper work → IsSmaller work need → g.var.0 < length work.lower → new ≡ made_true need g → is_true_in new g ≡ true
+pub guard_made : (work need new : Bounds) (g : Atom) → AreProperBounds work → IsSmaller work need → g.var.0 < length work.lower → new ≡ made_true need g → is_true_in new g ≡ true
 guard_made work need new g proper h known e =
     rw e (made_holds need g (omega (arith, known, h.lower_count)) (omega (arith, h.lower_count, h.upper_count, proper.same_count)))
 
@@ -234,13 +234,13 @@ row_refused_still work mid new r most slack e f claimed smaller sum =
     (claimed_in_smaller new mid r.guard smaller claimed)
 
 -- a row whose guard was given
-pub row_guard_still : (work new : Bounds) (r : Row) (a : Atom) (most : ℤ) (slack : ℕ) → IsProper work → IsSmaller work new → IfSome r.guard (λ x. x.var.0 < length work.lower) → is_true_in work a ≡ false → most ≡ greatest_activity work r.terms → most <ℤ r.least → ((pos slack +ℤ most) +ℤ pos 1) ≡ r.least → IsSomeAnd (left_by_row work r) (λ left. is_true_in left a ≡ true) → ((b : Bounds) → IsSmaller b new → HoldsIn None b → greatest_activity b r.terms ≤ℤ (greatest_activity work r.terms +ℤ pos slack)) → IfSome (left_by_row new r) (λ left. is_true_in left a ≡ true)
+pub row_guard_still : (work new : Bounds) (r : Row) (a : Atom) (most : ℤ) (slack : ℕ) → AreProperBounds work → IsSmaller work new → IfSome r.guard (λ x. x.var.0 < length work.lower) → is_true_in work a ≡ false → most ≡ greatest_activity work r.terms → most <ℤ r.least → ((pos slack +ℤ most) +ℤ pos 1) ≡ r.least → IsSomeAnd (left_by_row work r) (λ left. is_true_in left a ≡ true) → ((b : Bounds) → IsSmaller b new → HoldsIn None b → greatest_activity b r.terms ≤ℤ (greatest_activity work r.terms +ℤ pos slack)) → IfSome (left_by_row new r) (λ left. is_true_in left a ≡ true)
 row_guard_still work new r a most slack proper inside known unmet e less f given sum =
     row_gives_guard work new r a proper inside known unmet (subst (λ m. m <ℤ r.least) e less)
     (refused_sum (greatest_activity new r.terms) most r.least slack (rw e (sum new (IsSmaller-same new) tt)) f) given
 
 -- a row that is claimed, with the negation of what it gives left out
-pub row_atom_still : (work mid new : Bounds) (r : Row) (a o : Atom) (most : ℤ) (slack : ℕ) → IsProper work → IsSmaller work new → AreTermsOf (length work.lower) r.terms → a.var.0 < length work.lower → o ≡ negation a → most ≡ greatest_activity (made_true work o) r.terms → ((pos slack +ℤ most) +ℤ pos 1) ≡ r.least → is_claimed_in mid r.guard ≡ true → IsSmaller new mid → ((b : Bounds) → IsSmaller b new → HoldsIn (Some o) b → greatest_activity b r.terms ≤ℤ (greatest_activity (made_true work o) r.terms +ℤ pos slack)) → IfSome (left_by_row new r) (λ left. is_true_in left a ≡ true)
+pub row_atom_still : (work mid new : Bounds) (r : Row) (a o : Atom) (most : ℤ) (slack : ℕ) → AreProperBounds work → IsSmaller work new → AreTermsOf (length work.lower) r.terms → a.var.0 < length work.lower → o ≡ negation a → most ≡ greatest_activity (made_true work o) r.terms → ((pos slack +ℤ most) +ℤ pos 1) ≡ r.least → is_claimed_in mid r.guard ≡ true → IsSmaller new mid → ((b : Bounds) → IsSmaller b new → HoldsIn (Some o) b → greatest_activity b r.terms ≤ℤ (greatest_activity (made_true work o) r.terms +ℤ pos slack)) → IfSome (left_by_row new r) (λ left. is_true_in left a ≡ true)
 row_atom_still work mid new r a o most slack proper inside terms known same e f claimed smaller sum =
     let even : length new.upper ≡ length new.lower = sym inside.upper_count ∙ proper.same_count ∙ inside.lower_count in
     let here : a.var.0 < length new.lower = omega (arith, known, inside.lower_count) in

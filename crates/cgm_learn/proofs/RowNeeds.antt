@@ -11,7 +11,7 @@ use Rattle.std.proofs.Math.Nat.{mul-le-mul_left, div-add-mod}
 use borrow.Author.Differences.{up, down}
 use Rattle.cgm_atom.specs.declared.constraints.Atom.{Atom}
 use Rattle.cgm_atom.specs.declared.constraints.Var.{Var}
-use Rattle.cgm_atom.specs.Bounds.{Bounds, IsBoxOf, IsProper, lower_of, upper_of}
+use Rattle.cgm_atom.specs.Bounds.{Bounds, IsBoxOf, AreProperBounds, lower_of, upper_of}
 use Rattle.cgm_atom.specs.Laws.{IsSmaller}
 use Rattle.cgm_atom.specs.Limits.{AreTermsOf}
 use Rattle.cgm_atom.specs.Narrowing.{greatest_activity, greatest_term, is_true_in, made_true, raised, reduced}
@@ -167,7 +167,7 @@ pub both_parts : (s t : Bool) → cond s t false ≡ true → (s ≡ true) × (t
 both_parts true t e = (refl, e)
 both_parts false t e = absurd (cc)
 
-moved_by : (b work : Bounds) (c : ℤ) (x : ℕ) (a : Atom) (s : Bool) → int_lt c (pos 0) ≡ s → cond (cond s a.at_least (not a.at_least)) (a.var.0 == x) false ≡ true → IsProper work → IsOpenIn work a → is_true_in b a ≡ true → greatest_term b c x ≤ℤ greatest_term (made_true work a) c x
+moved_by : (b work : Bounds) (c : ℤ) (x : ℕ) (a : Atom) (s : Bool) → int_lt c (pos 0) ≡ s → cond (cond s a.at_least (not a.at_least)) (a.var.0 == x) false ≡ true → AreProperBounds work → IsOpenIn work a → is_true_in b a ≡ true → greatest_term b c x ≤ℤ greatest_term (made_true work a) c x
 moved_by b work c x a s e h proper undecided met =
     let parts = both_parts (cond s a.at_least (not a.at_least)) (a.var.0 == x) h in
     let same : a.var.0 ≡ x = eqb-true a.var.0 x parts.1 in
@@ -177,7 +177,7 @@ moved_by b work c x a s e h proper undecided met =
     (subst (λ (v : ℤ). cond s (c *ℤ lower_of b a.var.0) (c *ℤ upper_of b a.var.0) ≤ℤ v) (sym (term_by (made_true work a) c a.var.0 s e))
     (moved_cases b work c a.var.0 a.at_least s a.k e parts.0 known (omega (arith, known, proper.same_count)) undecided.not_true met)))
 
-pub moved_with : (b work : Bounds) (t : ℤ × Var) (own : Option Atom) → is_left_out own t ≡ true → IsProper work → IfSome own (IsOpenIn work) → HoldsIn own b → greatest_term b t.0 t.1.0 ≤ℤ greatest_term (box_with work own) t.0 t.1.0
+pub moved_with : (b work : Bounds) (t : ℤ × Var) (own : Option Atom) → is_left_out own t ≡ true → AreProperBounds work → IfSome own (IsOpenIn work) → HoldsIn own b → greatest_term b t.0 t.1.0 ≤ℤ greatest_term (box_with work own) t.0 t.1.0
 moved_with b work t None h proper undecided met = absurd (cc)
 moved_with b work t (Some a) h proper undecided met = moved_by b work t.0 t.1.0 a (int_lt t.0 (pos 0)) refl h proper undecided met
 
@@ -207,14 +207,14 @@ term_moved work new own t left left' out sum b smaller met =
     (sum_at_most (greatest_term b t.0 t.1.0) (greatest_term new t.0 t.1.0) (pos left') (pos left') (term_smaller b new t.0 t.1.0 smaller) (≤ℤ_refl (pos left'))) sum)
 
 -- a term whose bound is left out
-pub term_passed : (work : Bounds) (own : Option Atom) (t : ℤ × Var) (left : ℕ) → is_left_out own t ≡ true → IsProper work → IfSome own (IsOpenIn work) → (b : Bounds) → HoldsIn own b → (greatest_term b t.0 t.1.0 +ℤ pos left) ≤ℤ (greatest_term (box_with work own) t.0 t.1.0 +ℤ pos left)
+pub term_passed : (work : Bounds) (own : Option Atom) (t : ℤ × Var) (left : ℕ) → is_left_out own t ≡ true → AreProperBounds work → IfSome own (IsOpenIn work) → (b : Bounds) → HoldsIn own b → (greatest_term b t.0 t.1.0 +ℤ pos left) ≤ℤ (greatest_term (box_with work own) t.0 t.1.0 +ℤ pos left)
 term_passed work own t left out proper undecided b met =
     sum_at_most (greatest_term b t.0 t.1.0) (greatest_term (box_with work own) t.0 t.1.0) (pos left) (pos left) (moved_with b work t own out proper undecided met) (≤ℤ_refl (pos left))
 
 next_sum : (a w t b x r : ℤ) (left left' slack : ℕ) → ((a +ℤ (w +ℤ t)) +ℤ pos left) ≤ℤ (((x +ℤ b) +ℤ r) +ℤ pos slack) → (x +ℤ pos left') ≤ℤ (w +ℤ pos left) → ((a +ℤ t) +ℤ pos left') ≤ℤ ((b +ℤ r) +ℤ pos slack)
 next_sum a w t b x r left left' slack h k = omega (arith, ints)
 
-pub row_steps : (work old now new : Bounds) (own : Option Atom) (terms rest : List (ℤ × Var)) (t : ℤ × Var) (slack left left' : ℕ) → IsProper work → IsRowSoFar work old now own terms (t ∷ rest) slack left → ((b : Bounds) → IsSmaller b new → HoldsIn own b → (greatest_term b t.0 t.1.0 +ℤ pos left') ≤ℤ (greatest_term (box_with work own) t.0 t.1.0 +ℤ pos left)) → ((limits : Bounds) → IsBoxOf limits now → IsExplained limits work now new) → IsRowSoFar work old new own terms rest slack left'
+pub row_steps : (work old now new : Bounds) (own : Option Atom) (terms rest : List (ℤ × Var)) (t : ℤ × Var) (slack left left' : ℕ) → AreProperBounds work → IsRowSoFar work old now own terms (t ∷ rest) slack left → ((b : Bounds) → IsSmaller b new → HoldsIn own b → (greatest_term b t.0 t.1.0 +ℤ pos left') ≤ℤ (greatest_term (box_with work own) t.0 t.1.0 +ℤ pos left)) → ((limits : Bounds) → IsBoxOf limits now → IsExplained limits work now new) → IsRowSoFar work old new own terms rest slack left'
 row_steps work old now new own terms rest t slack left left' proper far sum explained =
     let mine = explained now (box_of_itself now (proper_larger work now proper far.inside)) in
     let under : Bounds = box_with work own in
@@ -227,13 +227,13 @@ row_steps work old now new own terms rest t slack left left' proper far sum expl
     }
 
 -- bounds that stay within their limit
-pub sizes_between : (work old now : Bounds) → IsProper work → AreBounds old → IsSmaller work old → ((limits : Bounds) → IsBoxOf limits old → IsExplained limits work old now) → AreBounds now
+pub sizes_between : (work old now : Bounds) → AreProperBounds work → AreBounds old → IsSmaller work old → ((limits : Bounds) → IsBoxOf limits old → IsExplained limits work old now) → AreBounds now
 sizes_between work old now proper sizes inside explained =
     let box = box_of_itself old (proper_larger work old proper inside) in
     let mine = explained old box in
     AreBounds-inside old now sizes mine.within.inside mine.within.ordered
 
-pub sizes_so_far : (work old now : Bounds) (own : Option Atom) (terms rest : List (ℤ × Var)) (slack left : ℕ) → IsProper work → AreBounds old → IsSmaller work old → IsRowSoFar work old now own terms rest slack left → AreBounds now
+pub sizes_so_far : (work old now : Bounds) (own : Option Atom) (terms rest : List (ℤ × Var)) (slack left : ℕ) → AreProperBounds work → AreBounds old → IsSmaller work old → IsRowSoFar work old now own terms rest slack left → AreBounds now
 sizes_so_far work old now own terms rest slack left proper sizes inside far = sizes_between work old now proper sizes inside far.explained
 
 -- what was added lies between
@@ -241,7 +241,7 @@ pub record IsBetween (work old new : Bounds) : Type 0 where
   pub inside : IsSmaller work new
   pub more : IsSmaller new old
 
-pub between : (work old new : Bounds) → IsProper work → IsSmaller work old → ((limits : Bounds) → IsBoxOf limits old → IsExplained limits work old new) → IsBetween work old new
+pub between : (work old new : Bounds) → AreProperBounds work → IsSmaller work old → ((limits : Bounds) → IsBoxOf limits old → IsExplained limits work old new) → IsBetween work old new
 between work old new proper inside explained =
     let mine = explained old (box_of_itself old (proper_larger work old proper inside)) in
     record { inside = mine.inside; more = mine.more }

@@ -3,7 +3,7 @@ use Rattle.std.specs.Prelude.{◌≡◌, ◌≢◌, Bool, true, false, cond, ℕ
 use Rattle.std.specs.List.{All}
 use Rattle.cgm_atom.specs.declared.constraints.Atom.{Atom}
 use Rattle.cgm_atom.specs.declared.entries.Hint.{Hint}
-use Rattle.cgm_atom.specs.Bounds.{Bounds, IsBoxOf, IsProper, lower_of, upper_of}
+use Rattle.cgm_atom.specs.Bounds.{Bounds, IsBoxOf, AreProperBounds, lower_of, upper_of}
 use Rattle.cgm_atom.specs.ClauseAtoms.{AreKnown}
 use Rattle.cgm_atom.specs.Constraints.{Constraint, left_by}
 use Rattle.cgm_atom.specs.Laws.{IsSmaller}
@@ -122,7 +122,7 @@ pub record IsTurn (g : GroundState) (t : TrailState) (w : Walk) (turn : Turn) : 
   pub enough : IsRest g turn.base.state w turn.atom
 
 -- the hints lead from the problem's own bounds to conflict
-pub record IsEnd (g : GroundState) (w : Walk) : Type 0 where
+pub record IsWalkEnd (g : GroundState) (w : Walk) : Type 0 where
   pub refuted : left_by_used g w.used g.problem.bounds ≡ None
   pub used : IsUsed g w.used
 
@@ -134,7 +134,7 @@ IsStepped g t w (Err e) = Unit {0}
 
 -- the whole walk: it turns, or it ends
 abbrev pub IsWalkedTo : GroundState → TrailState → Walk → Option Turn → Type 0
-IsWalkedTo g t w None = IsEnd g w
+IsWalkedTo g t w None = IsWalkEnd g w
 IsWalkedTo g t w (Some turn) = IsTurn g t w turn
 
 -- ---- explanations
@@ -156,7 +156,7 @@ IsExplainedInBoth work old new =
 
 -- what is needed of a box, both within the limits of bounds
 pub record IsNeedOf (work need : Bounds) : Type 0 where
-  pub proper : IsProper work
+  pub proper : AreProperBounds work
   pub inside : IsSmaller work need
   pub work_sizes : AreBounds work
   pub need_sizes : AreBounds need

@@ -4,7 +4,7 @@ ghost use Rattle.std.specs.List.{All};
 ghost use Rattle.cgm_atom.specs.Acceptance.{IsAcceptedAfter, IsAcceptedState};
 ghost use Rattle.cgm_atom.specs.Placing.{all_placed};
 ghost use Rattle.cgm_learn.specs.Learning.{IsAcceptedLemma, IsConflictIn, IsKnownHint, IsLemmaInRange, IsNameAfter, IsOpenLemma, IsUnitAfterCut};
-ghost use Rattle.cgm_learn.specs.Walking.{IsConflictOn, IsEnd, IsLesson, IsReasoned, IsTurn};
+ghost use Rattle.cgm_learn.specs.Walking.{IsConflictOn, IsWalkEnd, IsLesson, IsReasoned, IsTurn};
 ghost use Rattle.cgm_trail.specs.Steps.{AreReasoned};
 ghost use Rattle.cgm_trail.specs.TrailState.{TrailState, box_of, level_of};
 
@@ -73,7 +73,7 @@ impl<'g> Ground<'g> {
     /// The lemma without atoms.
     #[tactic(none)]
     fn learn_end(&self, alloc: Global, walk: Walk) -> Learned
-        requires { IsEnd self.now walk }
+        requires { IsWalkEnd self.now walk }
         ensures { (trail : TrailState) → IsLesson self.now trail result }
     {
         self.problem().recall_well_formed();

@@ -1,6 +1,6 @@
 //! Why narrowing gave an atom, or conflict: as little of a box as is needed for it.
 ghost use Rattle.std.specs.Prelude.{◌≡◌, ◌<◌, length, false, true, None, OnOk};
-ghost use Rattle.cgm_atom.specs.Bounds.{IsBoxOf, IsProper};
+ghost use Rattle.cgm_atom.specs.Bounds.{IsBoxOf, AreProperBounds};
 ghost use Rattle.cgm_atom.specs.ClauseAtoms.{AreKnown, IsReadable, atoms_of, left_in};
 ghost use Rattle.cgm_atom.specs.Constraints.{left_by};
 ghost use Rattle.cgm_atom.specs.Laws.{IsSmaller};
@@ -18,7 +18,7 @@ use std::alloc::Global;
 /// Adds an atom that is true in the box to the needed bounds.
 pub(crate) fn need_atom(atom: Atom, work: &BoxState, need: &mut BoxState)
     requires known { atom.var.0 < length work.now.lower }
-    requires proper { IsProper work.now }
+    requires proper { AreProperBounds work.now }
     requires met { is_true_in work.now atom ≡ true }
     requires inside { IsSmaller work.now need.old }
     ensures after { need.new ≡ made_true need.old atom }
@@ -30,7 +30,7 @@ pub(crate) fn need_atom(atom: Atom, work: &BoxState, need: &mut BoxState)
 /// Adds the negation of an atom where the atom is false in the box.
 fn need_false(atom: Atom, work: &BoxState, need: &mut BoxState)
     requires known { atom.var.0 < length work.now.lower }
-    requires proper { IsProper work.now }
+    requires proper { AreProperBounds work.now }
     requires inside { IsSmaller work.now need.old }
     ensures falsified { is_false_in work.now atom ≡ true → is_false_in need.new atom ≡ true }
     ensures explained { IsExplainedIn work.now need.old need.new }
@@ -48,7 +48,7 @@ fn need_false(atom: Atom, work: &BoxState, need: &mut BoxState)
 fn explain_clause(atoms: ClauseAtoms<'_>, work: &BoxState, need: &mut BoxState)
     requires readable { IsReadable atoms }
     requires known { AreKnown (length work.now.lower) (atoms_of atoms) }
-    requires proper { IsProper work.now }
+    requires proper { AreProperBounds work.now }
     requires inside { IsSmaller work.now need.old }
     ensures left { left_in need.new (atoms_of atoms.entry)
         ≡ left_in work.now (atoms_of atoms.entry) }

@@ -1,6 +1,6 @@
 //! Places of a trail, from the last back to the first.
 ghost use Rattle.std.specs.Prelude.{◌≡◌, ◌+◌, ◌<◌, ◌≤◌, length, slice_get, Some, IfOk, IsTrue};
-ghost use Rattle.cgm_atom.specs.Bounds.{IsProper};
+ghost use Rattle.cgm_atom.specs.Bounds.{AreProperBounds};
 ghost use Rattle.cgm_atom.specs.Laws.{IsSmaller};
 ghost use Rattle.cgm_trail.specs.TrailState.{is_decision as is_decision_change};
 ghost use Rattle.cgm_learn.specs.Walking.{IsDecisionAt, IsInsideAt, IsPlaceOf, is_met_before as is_met_before_change};
@@ -143,8 +143,8 @@ fn is_inside_at(inner: &BoxState, outer: &BoxState, variable: Var) -> bool
     requires inner { variable.0 < length inner.now.lower }
     requires outer { variable.0 < length outer.now.lower }
     ensures inside { IsTrue result → IsInsideAt inner.now outer.now variable.0 }
-    ensures inner_proper { IsProper inner.now }
-    ensures outer_proper { IsProper outer.now }
+    ensures inner_proper { AreProperBounds inner.now }
+    ensures outer_proper { AreProperBounds outer.now }
 {
     if inner.lo(variable) < outer.lo(variable) {
         return false;

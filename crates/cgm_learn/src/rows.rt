@@ -1,6 +1,6 @@
 //! What a row needs to be in conflict, or to give an atom: each bound as far out as the row's slack allows.
 ghost use Rattle.std.specs.Prelude.{◌≡◌, ◌≢◌, ◌+◌, ◌*◌, ◌<◌, ◌≤◌, ◌+ℤ◌, ◌-ℤ◌, ◌≤ℤ◌, ◌<ℤ◌, cond, false, int_lt, length, not, pos, true, unsigned_abs, None, IfOk, IfSome, OnOk};
-ghost use Rattle.cgm_atom.specs.Bounds.{Bounds, IsBoxOf, IsProper};
+ghost use Rattle.cgm_atom.specs.Bounds.{Bounds, IsBoxOf, AreProperBounds};
 ghost use Rattle.cgm_atom.specs.Laws.{IsSmaller};
 ghost use Rattle.cgm_atom.specs.Limits.{AreTermsOf, IsBound, IsRowOf, max_bound, max_least, max_measure};
 ghost use Rattle.cgm_atom.specs.Narrowing.{greatest_activity as greatest_activity_in, greatest_term, is_claimed_in, left_by_row, made_true};
@@ -203,7 +203,7 @@ fn explain_terms(
 /// Adds the guard, which is true in the box.
 fn explain_guard(guard: Option<Atom>, work: &BoxState, need: &mut BoxState)
     requires known { IfSome guard (λ g. g.var.0 < length work.now.lower) }
-    requires proper { IsProper work.now }
+    requires proper { AreProperBounds work.now }
     requires inside { IsSmaller work.now need.old }
     requires claimed { is_claimed_in work.now guard ≡ true }
     ensures claimed { is_claimed_in need.new guard ≡ true }
@@ -257,7 +257,7 @@ pub(crate) fn explain_row_conflict(row: &Row, work: &BoxState, need: &mut BoxSta
 /// The box with an open atom made true.
 fn copy_with(alloc: Global, work: &BoxState, atom: Atom) -> Result<BoxState, OutOfMemory>
     requires undecided { IsOpenIn work.now atom }
-    requires proper { IsProper work.now }
+    requires proper { AreProperBounds work.now }
     ensures made { IfOk result (λ b. b ≡ made_true work.now atom) }
     ensures within { IfOk result (IsBoxOf work.now) }
 {
@@ -275,7 +275,7 @@ fn slack_with(
 ) -> Result<Option<u64>, OutOfMemory>
     requires row { IsRowOf work.now row.now }
     requires undecided { IsOpenIn work.now atom }
-    requires proper { IsProper work.now }
+    requires proper { AreProperBounds work.now }
     ensures { IfOk result (HasSlack row.now (made_true work.now atom)) }
 {
     let under = copy_with(alloc, work, atom)?;

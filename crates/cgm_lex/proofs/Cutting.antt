@@ -2,7 +2,7 @@
 use Rattle.std.proofs.Common.{◌≡◌, ℕ, ◌+◌, ◌-◌, ◌<◌, ◌≤◌, true, false, List, [], ◌∷◌, ◌++◌, length, get_or, drop, slice_range, refl, ap, ◌∙◌, sym, arith, drop_of_length-le}
 use Rattle.std.proofs.lemmas.Bool.Decides.{nat_tests}
 use Rattle.std.proofs.lemmas.List.Edits.{between_more, length-between}
-use Rattle.cgm_lex.specs.Pieces.{closed, cut, pieces, is_blank, is_run_byte}
+use Rattle.cgm_lex.specs.Pieces.{closed, pieces_cut, pieces, is_blank, is_run_byte}
 use Rattle.cgm_lex.proofs.Contents.{first_of}
 
 -- a blank is in no run
@@ -13,14 +13,14 @@ pub blank_step : (bs : List ℕ) (at : ℕ) → at < length bs → is_blank (get
 blank_step bs at h blank =
     rw (first_of bs at h) (rw (blank_is_no_run (get_or bs at 0) blank) (rw blank refl))
 
-pub nothing_left : (bs run : List ℕ) (at : ℕ) → length bs ≤ at → cut run (drop at bs) ≡ closed run (cut [] (drop at bs))
+pub nothing_left : (bs run : List ℕ) (at : ℕ) → length bs ≤ at → pieces_cut run (drop at bs) ≡ closed run (pieces_cut [] (drop at bs))
 nothing_left bs run at h = rw (drop_of_length-le bs {i = at} h) refl
 
-pub run_step : (bs : List ℕ) (from at : ℕ) → from ≤ at → at < length bs → is_run_byte (get_or bs at 0) ≡ true → cut (slice_range bs from at) (drop at bs) ≡ cut (slice_range bs from (at + 1)) (drop (at + 1) bs)
+pub run_step : (bs : List ℕ) (from at : ℕ) → from ≤ at → at < length bs → is_run_byte (get_or bs at 0) ≡ true → pieces_cut (slice_range bs from at) (drop at bs) ≡ pieces_cut (slice_range bs from (at + 1)) (drop (at + 1) bs)
 run_step bs from at order h run =
     rw (first_of bs at h) (rw run (rw (between_more bs from at 0 order h) refl))
 
-pub run_stops : (bs run : List ℕ) (at : ℕ) → at < length bs → is_run_byte (get_or bs at 0) ≡ false → cut run (drop at bs) ≡ closed run (cut [] (drop at bs))
+pub run_stops : (bs run : List ℕ) (at : ℕ) → at < length bs → is_run_byte (get_or bs at 0) ≡ false → pieces_cut run (drop at bs) ≡ closed run (pieces_cut [] (drop at bs))
 run_stops bs run at h stop = rw (first_of bs at h) (rw stop refl)
 
 closed_is : (run : List ℕ) (others : List (List ℕ)) → 0 < length run → closed run others ≡ run ∷ others

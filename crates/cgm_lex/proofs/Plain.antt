@@ -8,10 +8,10 @@ use Rattle.std.proofs.lemmas.List.Folds.{list_all-append}
 use Rattle.std.proofs.lemmas.Str.{IsUtf8-from_ascii}
 use Rattle.std.proofs.lemmas.Str.Ascii.{IsAscii-cons, IsAscii-nil}
 use Rattle.cgm_lex.specs.declared.token.Flaw.{Flaw}
-use Rattle.cgm_lex.specs.Lexemes.{Lexeme, all_lexemes, joined, lexeme_of, line_lexemes, run_lexeme, number_or_flaw}
+use Rattle.cgm_lex.specs.Lexemes.{Lexeme, all_lexemes, flaws_joined, lexeme_of, line_lexemes, run_lexeme, number_or_flaw}
 use Rattle.cgm_lex.specs.Lines.{content}
 use Rattle.cgm_lex.specs.Numbers.{begins_number, number_of, plain_number, negative_number}
-use Rattle.cgm_lex.specs.Pieces.{closed, cut, pieces, is_blank, is_run_byte}
+use Rattle.cgm_lex.specs.Pieces.{closed, pieces_cut, pieces, is_blank, is_run_byte}
 use Rattle.cgm_lex.specs.Spelling.{IsPlain}
 
 both : (a b : Bool) → (a && b) ≡ true → (a ≡ true) × (b ≡ true)
@@ -38,14 +38,14 @@ run_push run b e f = list_all-append is_run_byte run (b ∷ []) ∙ rw e (rw f r
 no_run : (b : ℕ) → is_run_byte b ≡ false → is_run_byte b ≡ true → ⊥
 no_run b e f = true≢false (sym f ∙ e)
 
-cut_cases : (run bs : List ℕ) (b : ℕ) (in_run blank : Bool) → is_run_byte b ≡ in_run → is_blank b ≡ blank → list_all is_run_byte run ≡ true → (is_run_byte b ≡ true → ArePieces (cut (run ++ b ∷ []) bs)) → ArePieces (cut [] bs) → ArePieces (cut run (b ∷ bs))
+cut_cases : (run bs : List ℕ) (b : ℕ) (in_run blank : Bool) → is_run_byte b ≡ in_run → is_blank b ≡ blank → list_all is_run_byte run ≡ true → (is_run_byte b ≡ true → ArePieces (pieces_cut (run ++ b ∷ []) bs)) → ArePieces (pieces_cut [] bs) → ArePieces (pieces_cut run (b ∷ bs))
 unfolding ArePieces IsPiece
 cut_cases run bs b true blank e f runs pushed more = rw e (pushed e)
-cut_cases run bs b false true e f runs pushed more = rw e (rw f (closed_pieces run (cut [] bs) runs more))
+cut_cases run bs b false true e f runs pushed more = rw e (rw f (closed_pieces run (pieces_cut [] bs) runs more))
 cut_cases run bs b false false e f runs pushed more =
-    rw e (rw f (closed_pieces run ((b ∷ []) ∷ cut [] bs) runs ((λ run_byte. absurd (no_run b e run_byte)), more)))
+    rw e (rw f (closed_pieces run ((b ∷ []) ∷ pieces_cut [] bs) runs ((λ run_byte. absurd (no_run b e run_byte)), more)))
 
-cut_pieces : (run bs : List ℕ) → list_all is_run_byte run ≡ true → ArePieces (cut run bs)
+cut_pieces : (run bs : List ℕ) → list_all is_run_byte run ≡ true → ArePieces (pieces_cut run bs)
 unfolding ArePieces
 cut_pieces run [] runs = closed_pieces run [] runs tt
 cut_pieces run (b ∷ bs) runs =
@@ -96,7 +96,7 @@ plain_more : (t : Lexeme) (ts : List Lexeme) → IsPlain t → All IsPlain ts �
 plain_more t ts here later zero d h = here
 plain_more t ts here later (suc k) d h = later k d (omega (arith, h))
 
-joined_plain : (r : Result Lexeme Flaw) (rs : Result (List Lexeme) Flaw) → IsPlainResult r → ArePlain rs → ArePlain (joined r rs)
+joined_plain : (r : Result Lexeme Flaw) (rs : Result (List Lexeme) Flaw) → IsPlainResult r → ArePlain rs → ArePlain (flaws_joined r rs)
 unfolding IsPlainResult ArePlain
 joined_plain (Err flaw) rs here later = tt
 joined_plain (Ok t) (Err flaw) here later = tt

@@ -11,8 +11,8 @@ use Rattle.std.proofs.lemmas.List.Folds.{list_all-append}
 use Rattle.cgm_lex.specs.Lexemes.{Lexeme, opening, closing, colon, number, word, all_lexemes, lexeme_of, line_lexemes, run_lexeme}
 use Rattle.cgm_lex.specs.Lines.{content, ends_line}
 use Rattle.cgm_lex.specs.Numbers.{begins_number, number_of, plain_number, negative_number}
-use Rattle.cgm_lex.specs.Pieces.{closed, cut, pieces, is_run_byte}
-use Rattle.cgm_lex.specs.Spelling.{IsPlain, gap, is_closing, is_opening, spelled_line, text_of}
+use Rattle.cgm_lex.specs.Pieces.{closed, pieces_cut, pieces, is_run_byte}
+use Rattle.cgm_lex.specs.Spelling.{IsPlain, gap, is_closing_bracket, is_opening, spelled_line, text_of}
 use Rattle.cgm_lex.proofs.Numbering.{own}
 
 -- bytes of a canonical line
@@ -155,27 +155,27 @@ lexeme_is_read (number k) plain =
 lexeme_is_read (word bs) plain = run_says bs plain.1.0 plain.0 ∙ rw plain.1.1 refl
 
 Stops : List ℕ → Type 0
-Stops rest = (run : List ℕ) → cut run rest ≡ closed run (cut [] rest)
+Stops rest = (run : List ℕ) → pieces_cut run rest ≡ closed run (pieces_cut [] rest)
 
-cut_runs : (run bs rest : List ℕ) → list_all is_run_byte bs ≡ true → cut run (bs ++ rest) ≡ cut (run ++ bs) rest
-cut_runs run [] rest e = ap (λ r. cut r rest) (sym (append-nil run))
+cut_runs : (run bs rest : List ℕ) → list_all is_run_byte bs ≡ true → pieces_cut run (bs ++ rest) ≡ pieces_cut (run ++ bs) rest
+cut_runs run [] rest e = ap (λ r. pieces_cut r rest) (sym (append-nil run))
 cut_runs run (b ∷ bs) rest e =
     let parts = both (is_run_byte b) (list_all is_run_byte bs) e in
-    rw parts.0 (cut_runs (run ++ b ∷ []) bs rest parts.1 ∙ ap (λ r. cut r rest) (append_assoc run (b ∷ []) bs))
+    rw parts.0 (cut_runs (run ++ b ∷ []) bs rest parts.1 ∙ ap (λ r. pieces_cut r rest) (append_assoc run (b ∷ []) bs))
 
 closed_is : (run : List ℕ) (others : List (List ℕ)) → 0 < length run → closed run others ≡ run ∷ others
 closed_is [] others h = absurd (omega arith)
 closed_is (b ∷ bs) others h = refl
 
-run_first : (bs rest : List ℕ) → list_all is_run_byte bs ≡ true → 0 < length bs → Stops rest → cut [] (bs ++ rest) ≡ bs ∷ cut [] rest
+run_first : (bs rest : List ℕ) → list_all is_run_byte bs ≡ true → 0 < length bs → Stops rest → pieces_cut [] (bs ++ rest) ≡ bs ∷ pieces_cut [] rest
 unfolding Stops
-run_first bs rest e some stops = cut_runs [] bs rest e ∙ stops bs ∙ closed_is bs (cut [] rest) some
+run_first bs rest e some stops = cut_runs [] bs rest e ∙ stops bs ∙ closed_is bs (pieces_cut [] rest) some
 
 stops_at_end : Stops []
 unfolding Stops
 stops_at_end run = refl
 
-stops_before : (next : Lexeme) (more : List Lexeme) → Stops ((if is_closing next then [] else codes " ") ++ spelled_line (next ∷ more))
+stops_before : (next : Lexeme) (more : List Lexeme) → Stops ((if is_closing_bracket next then [] else codes " ") ++ spelled_line (next ∷ more))
 unfolding Stops
 stops_before opening more run = refl
 stops_before closing [] run = refl
@@ -184,11 +184,11 @@ stops_before colon more run = refl
 stops_before (number k) more run = refl
 stops_before (word bs) more run = refl
 
-gap_is_blank : (none : Bool) (rest : List ℕ) → cut [] ((if none then [] else codes " ") ++ rest) ≡ cut [] rest
+gap_is_blank : (none : Bool) (rest : List ℕ) → pieces_cut [] ((if none then [] else codes " ") ++ rest) ≡ pieces_cut [] rest
 gap_is_blank true rest = refl
 gap_is_blank false rest = refl
 
-piece_first : (t next : Lexeme) (more : List Lexeme) → IsPlain t → cut [] (text_of t ++ (gap t next ++ spelled_line (next ∷ more))) ≡ text_of t ∷ cut [] (gap t next ++ spelled_line (next ∷ more))
+piece_first : (t next : Lexeme) (more : List Lexeme) → IsPlain t → pieces_cut [] (text_of t ++ (gap t next ++ spelled_line (next ∷ more))) ≡ text_of t ∷ pieces_cut [] (gap t next ++ spelled_line (next ∷ more))
 piece_first opening next more plain = refl
 piece_first closing next more plain = refl
 piece_first colon next more plain = refl
@@ -198,14 +198,14 @@ piece_first (number k) next more plain =
 piece_first (word bs) next more plain =
     run_first bs (gap (word bs) next ++ spelled_line (next ∷ more)) plain.1.0 plain.0 (stops_before next more)
 
-piece_last : (t : Lexeme) → IsPlain t → cut [] (text_of t) ≡ text_of t ∷ []
+piece_last : (t : Lexeme) → IsPlain t → pieces_cut [] (text_of t) ≡ text_of t ∷ []
 piece_last opening plain = refl
 piece_last closing plain = refl
 piece_last colon plain = refl
 piece_last (number k) plain =
     let is = number_is_read k plain in
-    ap (cut []) (sym (append-nil (signed_decimal k))) ∙ run_first (signed_decimal k) [] is.runs is.some stops_at_end
-piece_last (word bs) plain = ap (cut []) (sym (append-nil bs)) ∙ run_first bs [] plain.1.0 plain.0 stops_at_end
+    ap (pieces_cut []) (sym (append-nil (signed_decimal k))) ∙ run_first (signed_decimal k) [] is.runs is.some stops_at_end
+piece_last (word bs) plain = ap (pieces_cut []) (sym (append-nil bs)) ∙ run_first bs [] plain.1.0 plain.0 stops_at_end
 
 first_plain : (t : Lexeme) (ts : List Lexeme) → All IsPlain (t ∷ ts) → IsPlain t
 first_plain t ts plain = plain 0 t (omega arith)
@@ -213,12 +213,12 @@ first_plain t ts plain = plain 0 t (omega arith)
 others_plain : (t : Lexeme) (ts : List Lexeme) → All IsPlain (t ∷ ts) → All IsPlain ts
 others_plain t ts plain = λ k d h. plain (suc k) d (omega (arith, h))
 
-pieces_of_line : (ts : List Lexeme) → All IsPlain ts → cut [] (spelled_line ts) ≡ map text_of ts
+pieces_of_line : (ts : List Lexeme) → All IsPlain ts → pieces_cut [] (spelled_line ts) ≡ map text_of ts
 pieces_of_line [] plain = refl
 pieces_of_line (t ∷ []) plain = piece_last t (first_plain t [] plain)
 pieces_of_line (t ∷ next ∷ more) plain =
     piece_first t next more (first_plain t (next ∷ more) plain)
-    ∙ ap (λ ps. text_of t ∷ ps) (gap_is_blank (is_opening t || is_closing next) (spelled_line (next ∷ more)) ∙ pieces_of_line (next ∷ more) (others_plain t (next ∷ more) plain))
+    ∙ ap (λ ps. text_of t ∷ ps) (gap_is_blank (is_opening t || is_closing_bracket next) (spelled_line (next ∷ more)) ∙ pieces_of_line (next ∷ more) (others_plain t (next ∷ more) plain))
 
 says_all : (ts : List Lexeme) → All IsPlain ts → all_lexemes (map text_of ts) ≡ Ok ts
 says_all [] plain = refl
@@ -247,7 +247,7 @@ line_is_clean : (ts : List Lexeme) → All IsPlain ts → list_all is_clean (spe
 line_is_clean [] plain = refl
 line_is_clean (t ∷ []) plain = text_is_clean t (first_plain t [] plain)
 line_is_clean (t ∷ next ∷ more) plain =
-    clean_append (text_of t) (gap t next ++ spelled_line (next ∷ more)) (text_is_clean t (first_plain t (next ∷ more) plain)) (clean_append (gap t next) (spelled_line (next ∷ more)) (gap_is_clean (is_opening t || is_closing next)) (line_is_clean (next ∷ more) (others_plain t (next ∷ more) plain)))
+    clean_append (text_of t) (gap t next ++ spelled_line (next ∷ more)) (text_is_clean t (first_plain t (next ∷ more) plain)) (clean_append (gap t next) (spelled_line (next ∷ more)) (gap_is_clean (is_opening t || is_closing_bracket next)) (line_is_clean (next ∷ more) (others_plain t (next ∷ more) plain)))
 
 pub line_is_read : (ts : List Lexeme) → All IsPlain ts → line_lexemes (spelled_line ts) ≡ Ok ts
 line_is_read ts plain =

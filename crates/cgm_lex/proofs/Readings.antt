@@ -10,7 +10,7 @@ use Rattle.cgm_lex.specs.declared.token.LexStop.{LexStop}
 use Rattle.cgm_lex.specs.declared.token.LexStop.TheVariants as lex_stops
 use Rattle.cgm_lex.specs.Lexemes.{IsLineStop}
 use Rattle.cgm_lex.specs.Lines.{lines}
-use Rattle.cgm_lex.specs.Readings.{TextForm, Outcome, gives, fails, IsEnd, IsOutcome, Lead, Comes, IsDecided, IsNotReadAs, IsReadAs, IsReadWhole, IsStopBy, LineStep, LineStops, Starts, IsFlawed, lexing_stop, stop_at}
+use Rattle.cgm_lex.specs.Readings.{TextForm, Outcome, gives, fails, IsTextEnd, IsTextOutcome, Lead, Comes, IsDecided, IsNotReadAs, IsReadAs, IsReadWhole, IsStopBy, LineStep, LineStops, Starts, IsFlawed, lexing_stop, stop_at}
 
 -- ---- the loop
 
@@ -64,7 +64,7 @@ read_stops form holds text line rest more number draft stop split read stopped =
 
 -- ---- the end
 
-ended : {S : Type 0} (said : S) (lack : Option LineFault) → lack ≡ None → IsEnd lack said (gives said)
+ended : {S : Type 0} (said : S) (lack : Option LineFault) → lack ≡ None → IsTextEnd lack said (gives said)
 ended said None e = refl
 ended said (Some fault) e = cc
 
@@ -75,7 +75,7 @@ read_whole form holds text draft whole lacks = record {
   keeps = whole.keeps;
 }
 
-lacking : {S : Type 0} (said : S) (lack : Option LineFault) (fault : LineFault) → lack ≡ Some fault → IsEnd lack said (fails 1 fault)
+lacking : {S : Type 0} (said : S) (lack : Option LineFault) (fault : LineFault) → lack ≡ Some fault → IsTextEnd lack said (fails 1 fault)
 lacking said None fault e = cc
 lacking said (Some other) fault e = cc
 
@@ -102,11 +102,11 @@ stop_by_more P Q line_stops.Memory more p = tt
 
 -- ---- a text has one outcome, and always one
 
-outcome_once : {S : Type 0} (r : Result S LineFault) (line : ℕ) (o p : Outcome S) (A B : S → Type 0) → IsOutcome r line o A → IsOutcome r line p B → ((said : S) → A said → B said → o ≡ p) → o ≡ p
+outcome_once : {S : Type 0} (r : Result S LineFault) (line : ℕ) (o p : Outcome S) (A B : S → Type 0) → IsTextOutcome r line o A → IsTextOutcome r line p B → ((said : S) → A said → B said → o ≡ p) → o ≡ p
 outcome_once (Ok said) line o p A B a b later = later said a b
 outcome_once (Err fault) line o p A B a b later = a ∙ sym b
 
-end_once : {S : Type 0} (lack : Option LineFault) (said : S) (o p : Outcome S) → IsEnd lack said o → IsEnd lack said p → o ≡ p
+end_once : {S : Type 0} (lack : Option LineFault) (said : S) (o p : Outcome S) → IsTextEnd lack said o → IsTextEnd lack said p → o ≡ p
 end_once None said o p a b = a ∙ sym b
 end_once (Some fault) said o p a b = a ∙ sym b
 
@@ -114,17 +114,17 @@ lead_once : {S : Type 0} (form : TextForm S) → IsDecided form → (said : S) (
 lead_once form decided said line [] o p a b = end_once (form.lacks said) said o p a b
 lead_once {S} form decided said line (bytes ∷ more) o p a b =
     let same = decided.one said line bytes b.0 a.0 b.1.0 a.1.0 in
-    let here = subst (λ (r : Result S LineFault). IsOutcome r line p (λ next. Lead form next (line + 1) more p)) same b.1.1 in
+    let here = subst (λ (r : Result S LineFault). IsTextOutcome r line p (λ next. Lead form next (line + 1) more p)) same b.1.1 in
     outcome_once a.0 line o p (λ next. Lead form next (line + 1) more o) (λ next. Lead form next (line + 1) more p) a.1.1 here (λ next x y. lead_once form decided next (line + 1) more o p x y)
 
 pub one_outcome : {S : Type 0} (form : TextForm S) → IsDecided form → (text : List ℕ) (o p : Outcome S) → Comes form text o → Comes form text p → o ≡ p
 one_outcome form decided text o p a b = lead_once form decided form.begins 1 (lines text) o p a b
 
-outcome_some : {S : Type 0} (r : Result S LineFault) (line : ℕ) (L : Outcome S → S → Type 0) → ((said : S) → ((o : Outcome S) → ¬ L o said) → ⊥) → ((o : Outcome S) → ¬ IsOutcome r line o (L o)) → ⊥
+outcome_some : {S : Type 0} (r : Result S LineFault) (line : ℕ) (L : Outcome S → S → Type 0) → ((said : S) → ((o : Outcome S) → ¬ L o said) → ⊥) → ((o : Outcome S) → ¬ IsTextOutcome r line o (L o)) → ⊥
 outcome_some (Ok said) line L later none = later said none
 outcome_some (Err fault) line L later none = none (fails line fault) refl
 
-end_some : {S : Type 0} (lack : Option LineFault) (said : S) → ((o : Outcome S) → ¬ IsEnd lack said o) → ⊥
+end_some : {S : Type 0} (lack : Option LineFault) (said : S) → ((o : Outcome S) → ¬ IsTextEnd lack said o) → ⊥
 end_some None said none = none (gives said) refl
 end_some (Some fault) said none = none (fails 1 fault) refl
 
@@ -170,15 +170,15 @@ text_or_fault_some form decided text no_text no_fault = some_outcome form decide
 
 -- ---- what a text says lacks nothing
 
-pub said_at_end : {S : Type 0} (lack : Option LineFault) (said x : S) → IsEnd lack said (gives x) → x ≡ said
+pub said_at_end : {S : Type 0} (lack : Option LineFault) (said x : S) → IsTextEnd lack said (gives x) → x ≡ said
 said_at_end None said x e = gives_once x said e
 said_at_end (Some fault) said x e = absurd (gives_no_fault x 1 fault e)
 
-end_lacks : {S : Type 0} (form : TextForm S) (said x : S) (lack : Option LineFault) → form.lacks said ≡ lack → IsEnd lack said (gives x) → form.lacks x ≡ None
+end_lacks : {S : Type 0} (form : TextForm S) (said x : S) (lack : Option LineFault) → form.lacks said ≡ lack → IsTextEnd lack said (gives x) → form.lacks x ≡ None
 end_lacks {S} form said x None e h = ap (λ (y : S). form.lacks y) (gives_once x said h) ∙ e
 end_lacks form said x (Some fault) e h = absurd (gives_no_fault x 1 fault h)
 
-outcome_lacks : {S : Type 0} (r : Result S LineFault) (line : ℕ) (x : S) (L : S → Type 0) (A : Type 0) → IsOutcome r line (gives x) L → ((said : S) → L said → A) → A
+outcome_lacks : {S : Type 0} (r : Result S LineFault) (line : ℕ) (x : S) (L : S → Type 0) (A : Type 0) → IsTextOutcome r line (gives x) L → ((said : S) → L said → A) → A
 outcome_lacks (Ok said) line x L A is more = more said is
 outcome_lacks (Err fault) line x L A is more = absurd (gives_no_fault x line fault is)
 

@@ -35,12 +35,12 @@ abbrev pub token_bytes : List ℕ → Token → List ℕ
 token_bytes text token = slice_range text token.from token.to
 
 -- what a token of this text says
-abbrev pub seen : List ℕ → Token → Lexeme
-seen text token = lexeme_with (token_bytes text token) token.kind
+abbrev pub token_seen : List ℕ → Token → Lexeme
+token_seen text token = lexeme_with (token_bytes text token) token.kind
 
 -- the token has a byte, and lies in the text
-abbrev pub IsWithin : List ℕ → Token → Type 0
-IsWithin text token = (token.from < token.to) × (token.to ≤ length text)
+abbrev pub IsWithinText : List ℕ → Token → Type 0
+IsWithinText text token = (token.from < token.to) × (token.to ≤ length text)
 
 abbrev pub number_or_flaw : Option ℤ → Result Lexeme Flaw
 number_or_flaw None = Err flaws.BadNumber
@@ -61,14 +61,14 @@ lexeme_of (byte ∷ bytes) =
     else Err flaws.BadByte
 
 -- the first flaw from the left counts
-abbrev pub joined : Result Lexeme Flaw → Result (List Lexeme) Flaw → Result (List Lexeme) Flaw
-joined (Err flaw) others = Err flaw
-joined (Ok lexeme) (Err flaw) = Err flaw
-joined (Ok lexeme) (Ok lexemes) = Ok (lexeme ∷ lexemes)
+abbrev pub flaws_joined : Result Lexeme Flaw → Result (List Lexeme) Flaw → Result (List Lexeme) Flaw
+flaws_joined (Err flaw) others = Err flaw
+flaws_joined (Ok lexeme) (Err flaw) = Err flaw
+flaws_joined (Ok lexeme) (Ok lexemes) = Ok (lexeme ∷ lexemes)
 
 abbrev pub all_lexemes : List (List ℕ) → Result (List Lexeme) Flaw
 all_lexemes [] = Ok []
-all_lexemes (piece ∷ more) = joined (lexeme_of piece) (all_lexemes more)
+all_lexemes (piece ∷ more) = flaws_joined (lexeme_of piece) (all_lexemes more)
 
 -- what the tokens of a line say, or the line's first flaw
 abbrev pub line_lexemes : List ℕ → Result (List Lexeme) Flaw
@@ -84,8 +84,8 @@ pub record Placed : Type 0 where
   pub line : ℕ
   pub lexeme : Lexeme
 
-abbrev pub placed : List ℕ → Token → Placed
-placed text token = record { line = token.line; lexeme = seen text token }
+abbrev pub token_placed : List ℕ → Token → Placed
+token_placed text token = record { line = token.line; lexeme = token_seen text token }
 
 abbrev pub placed_at : ℕ → Lexeme → Placed
 placed_at line lexeme = record { line = line; lexeme = lexeme }
@@ -105,20 +105,20 @@ fault_or line (Err flaw) others = Some (fault_at line flaw)
 fault_or line (Ok lexemes) others = others
 
 -- the first fault of these lines, of which the first has the number `line`
-abbrev pub first_fault : ℕ → List (List ℕ) → Option LexFault
-first_fault line [] = None
-first_fault line (bytes ∷ more) = fault_or line (line_lexemes bytes) (first_fault (line + 1) more)
+abbrev pub first_lexical_fault : ℕ → List (List ℕ) → Option LexFault
+first_lexical_fault line [] = None
+first_lexical_fault line (bytes ∷ more) = fault_or line (line_lexemes bytes) (first_lexical_fault (line + 1) more)
 
 -- from one place of the text to another the tokens stand in order and apart, and the bytes of each say what it says
-abbrev pub StandInOrder : List ℕ → ℕ → ℕ → List Token → Type 0
-StandInOrder text from to [] = from ≤ to
-StandInOrder text from to (token ∷ more) =
-    (from ≤ token.from) × (lexeme_of (token_bytes text token) ≡ Ok (seen text token)) × StandInOrder text token.to to more
+abbrev pub TokensStandInOrder : List ℕ → ℕ → ℕ → List Token → Type 0
+TokensStandInOrder text from to [] = from ≤ to
+TokensStandInOrder text from to (token ∷ more) =
+    (from ≤ token.from) × (lexeme_of (token_bytes text token) ≡ Ok (token_seen text token)) × TokensStandInOrder text token.to to more
 
 -- the tokens `new` are `old` and then those of the line with this number, which say this
-pub record IsAdded (text : List ℕ) (line : ℕ) (old new : List Token) (lexemes : List Lexeme) : Type 0 where
-  pub same : map (placed text) new ≡ map (placed text) old ++ map (placed_at line) lexemes
-  pub within : All (IsWithin text) old → All (IsWithin text) new
+pub record AreTokensAdded (text : List ℕ) (line : ℕ) (old new : List Token) (lexemes : List Lexeme) : Type 0 where
+  pub same : map (token_placed text) new ≡ map (token_placed text) old ++ map (placed_at line) lexemes
+  pub within : All (IsWithinText text) old → All (IsWithinText text) new
 
 -- this is the fault of the line with this number
 abbrev pub IsFaultOf : ℕ → List ℕ → LexFault → Type 0

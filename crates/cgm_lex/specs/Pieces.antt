@@ -20,11 +20,11 @@ closed [] others = others
 closed (byte ∷ bytes) others = (byte ∷ bytes) ∷ others
 
 -- the pieces of the run so far and of the bytes that come after it
-abbrev pub cut : List ℕ → List ℕ → List (List ℕ)
-cut run [] = closed run []
-cut run (byte ∷ bytes) =
-    if is_run_byte byte then cut (run ++ byte ∷ []) bytes
-    else closed run (if is_blank byte then cut [] bytes else (byte ∷ []) ∷ cut [] bytes)
+abbrev pub pieces_cut : List ℕ → List ℕ → List (List ℕ)
+pieces_cut run [] = closed run []
+pieces_cut run (byte ∷ bytes) =
+    if is_run_byte byte then pieces_cut (run ++ byte ∷ []) bytes
+    else closed run (if is_blank byte then pieces_cut [] bytes else (byte ∷ []) ∷ pieces_cut [] bytes)
 
 abbrev pub pieces : List ℕ → List (List ℕ)
-pieces bytes = cut [] bytes
+pieces bytes = pieces_cut [] bytes

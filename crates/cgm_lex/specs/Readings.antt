@@ -42,20 +42,20 @@ pub data Outcome (S : Type 0) : Type 0 where
   fails : ℕ → LineFault → Outcome S
 
 -- what a text lacks that ends is a fault of its first line
-abbrev pub IsEnd : {S : Type 0} → Option LineFault → S → Outcome S → Type 0
-IsEnd None said outcome = outcome ≡ gives said
-IsEnd (Some fault) said outcome = outcome ≡ fails 1 fault
+abbrev pub IsTextEnd : {S : Type 0} → Option LineFault → S → Outcome S → Type 0
+IsTextEnd None said outcome = outcome ≡ gives said
+IsTextEnd (Some fault) said outcome = outcome ≡ fails 1 fault
 
 -- a faulty line ends the text; after another one it is as the lines after it say
-abbrev pub IsOutcome : {S : Type 0} → Result S LineFault → ℕ → Outcome S → (S → Type 0) → Type 0
-IsOutcome (Ok said) line outcome Later = Later said
-IsOutcome (Err fault) line outcome Later = outcome ≡ fails line fault
+abbrev pub IsTextOutcome : {S : Type 0} → Result S LineFault → ℕ → Outcome S → (S → Type 0) → Type 0
+IsTextOutcome (Ok said) line outcome Later = Later said
+IsTextOutcome (Err fault) line outcome Later = outcome ≡ fails line fault
 
 -- what these lines come to after what was said so far; the first of them has the number `line`
 abbrev pub Lead : {S : Type 0} → TextForm S → S → ℕ → List (List ℕ) → Outcome S → Type 0
-Lead form said line [] outcome = IsEnd (form.lacks said) said outcome
+Lead form said line [] outcome = IsTextEnd (form.lacks said) said outcome
 Lead {S} form said line (bytes ∷ more) outcome =
-    (r : Result S LineFault) × (form.comes said line bytes r × IsOutcome r line outcome (λ next. Lead form next (line + 1) more outcome))
+    (r : Result S LineFault) × (form.comes said line bytes r × IsTextOutcome r line outcome (λ next. Lead form next (line + 1) more outcome))
 
 -- what a text comes to
 abbrev pub Comes : {S : Type 0} → TextForm S → List ℕ → Outcome S → Type 0
@@ -107,7 +107,7 @@ LineStops {S} form holds line bytes old stop =
 pub record IsReadWhole {S D : Type 0} (form : TextForm S) (holds : S → D → Type 0) (text : List ℕ) (draft : D) : Type 0 where
   pub said : S
   pub keeps : holds said draft
-  pub leads : (o : Outcome S) → IsEnd (form.lacks said) said o → Comes form text o
+  pub leads : (o : Outcome S) → IsTextEnd (form.lacks said) said o → Comes form text o
 
 -- the draft holds what the text says
 pub record IsReadAs {S D : Type 0} (form : TextForm S) (holds : S → D → Type 0) (text : List ℕ) (draft : D) : Type 0 where

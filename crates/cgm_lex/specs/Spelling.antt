@@ -26,13 +26,13 @@ abbrev pub is_opening : Lexeme → Bool
 is_opening opening = true
 is_opening _ = false
 
-abbrev pub is_closing : Lexeme → Bool
-is_closing closing = true
-is_closing _ = false
+abbrev pub is_closing_bracket : Lexeme → Bool
+is_closing_bracket closing = true
+is_closing_bracket _ = false
 
 -- what stands between two tokens
 abbrev pub gap : Lexeme → Lexeme → List ℕ
-gap one next = if is_opening one || is_closing next then [] else codes " "
+gap one next = if is_opening one || is_closing_bracket next then [] else codes " "
 
 -- the line of these tokens, without its line feed
 abbrev pub spelled_line : List Lexeme → List ℕ

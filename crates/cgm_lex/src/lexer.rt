@@ -2,7 +2,7 @@
 ghost use Rattle.std.specs.Prelude.{◌≡◌, ◌+◌, ◌<◌, ◌≤◌, List, ◌++◌, length, map, All, IfOk, IfErr, IfNone, MatchOption, Ok, drop};
 ghost use Rattle.std.specs.List.{slice_range};
 ghost use Rattle.cgm_base.specs.Words.{most_bytes};
-ghost use Rattle.cgm_lex.specs.Lexemes.{Lexeme, IsAdded, IsFaultOf, IsLineStop, IsWithin, StandInOrder, first_fault, lexeme_with, line_lexemes, placed, seen, text_lexemes};
+ghost use Rattle.cgm_lex.specs.Lexemes.{Lexeme, AreTokensAdded, IsFaultOf, IsLineStop, IsWithinText, TokensStandInOrder, first_lexical_fault, lexeme_with, line_lexemes, token_placed, token_seen, text_lexemes};
 ghost use Rattle.cgm_lex.specs.Lines.{lines};
 ghost use Rattle.cgm_lex.specs.Spans.{line_spans, span_of, text_spans};
 
@@ -42,11 +42,11 @@ fn add_tokens(
     requires small { length text.now ≤ most_bytes }
     ensures added { IfOk result (λ found. MatchOption found
         ((lexemes : List Lexeme) × ((line_lexemes (slice_range text.now start end) ≡ Ok lexemes)
-        × IsAdded text.now line tokens.old.items tokens.new.items lexemes))
+        × AreTokensAdded text.now line tokens.old.items tokens.new.items lexemes))
         (λ fault. IsFaultOf line (slice_range text.now start end) fault
         × (tokens.new.items ≡ tokens.old.items))) }
-    ensures order { IfOk result (λ found. StandInOrder text.now 0 start tokens.old.items
-        → StandInOrder text.now 0 end tokens.new.items) }
+    ensures order { IfOk result (λ found. TokensStandInOrder text.now 0 start tokens.old.items
+        → TokensStandInOrder text.now 0 end tokens.new.items) }
     ensures spans { IfOk result (λ found. IfNone found (map span_of tokens.new.items
         ≡ map span_of tokens.old.items ++ line_spans start (slice_range text.now start end))) }
 {
@@ -71,10 +71,10 @@ fn add_tokens(
 pub fn tokens_of_line(alloc: Global, line: &[u8], number: u32) -> Result<Vec<Token>, LexStop>
     requires { length line.now ≤ most_bytes }
     ensures lexemes { IfOk result (λ tokens. line_lexemes line.now
-        ≡ Ok (map (seen line.now) tokens.items)) }
+        ≡ Ok (map (token_seen line.now) tokens.items)) }
     ensures numbered { IfOk result (λ tokens. All (λ token. token.line ≡ number) tokens.items) }
-    ensures within { IfOk result (λ tokens. All (IsWithin line.now) tokens.items) }
-    ensures order { IfOk result (λ tokens. StandInOrder line.now 0 (length line.now) tokens.items) }
+    ensures within { IfOk result (λ tokens. All (IsWithinText line.now) tokens.items) }
+    ensures order { IfOk result (λ tokens. TokensStandInOrder line.now 0 (length line.now) tokens.items) }
     ensures spans { IfOk result (λ tokens. map span_of tokens.items ≡ line_spans 0 line.now) }
     ensures stop { IfErr result (IsLineStop number line.now) }
 {
@@ -90,14 +90,14 @@ pub fn tokens_of_line(alloc: Global, line: &[u8], number: u32) -> Result<Vec<Tok
 /// fault.
 pub fn tokens(alloc: Global, bytes: &[u8]) -> Result<Lexed, AllocError>
     requires { length bytes.now ≤ most_bytes }
-    ensures tokens { IfOk result (λ lexed. map (placed bytes.now) lexed.tokens.items
+    ensures tokens { IfOk result (λ lexed. map (token_placed bytes.now) lexed.tokens.items
         ≡ text_lexemes 1 (lines bytes.now)) }
-    ensures within { IfOk result (λ lexed. All (IsWithin bytes.now) lexed.tokens.items) }
-    ensures order { IfOk result (λ lexed. StandInOrder bytes.now 0 (length bytes.now)
+    ensures within { IfOk result (λ lexed. All (IsWithinText bytes.now) lexed.tokens.items) }
+    ensures order { IfOk result (λ lexed. TokensStandInOrder bytes.now 0 (length bytes.now)
         lexed.tokens.items) }
     ensures spans { IfOk result (λ lexed. map span_of lexed.tokens.items
         ≡ text_spans 0 (lines bytes.now)) }
-    ensures fault { IfOk result (λ lexed. lexed.fault ≡ first_fault 1 (lines bytes.now)) }
+    ensures fault { IfOk result (λ lexed. lexed.fault ≡ first_lexical_fault 1 (lines bytes.now)) }
 {
     let mut tokens = Vec::new(alloc);
     let mut start = 0;

@@ -2,7 +2,7 @@
 ghost use Rattle.std.specs.Prelude.{◌≡◌, ℕ, ◌+◌, ◌<◌, ◌≤◌, true, false, [], ◌∷◌, length, position, ◌==◌, drop, IfSome, MatchOption, slice_index};
 ghost use Rattle.std.specs.List.{slice_range};
 ghost use Rattle.cgm_lex.specs.Lines.{content as content_of, lines};
-ghost use Rattle.cgm_lex.specs.Pieces.{closed, cut, pieces, is_run_byte as is_of_run, is_blank as is_blank_byte};
+ghost use Rattle.cgm_lex.specs.Pieces.{closed, pieces_cut, pieces, is_run_byte as is_of_run, is_blank as is_blank_byte};
 ghost use Rattle.cgm_lex.specs.Spans.{run_before, span_from, spans_after};
 
 use crate::bytes::{ends_line, is_blank, is_run_byte};
@@ -49,8 +49,8 @@ fn skip_blanks(words: &[u8], from: usize) -> usize
 fn run_end(words: &[u8], from: usize) -> usize
     requires { from ≤ length words.now }
     ensures within { (from ≤ result) × (result ≤ length words.now) }
-    ensures run { cut [] (drop from words.now)
-        ≡ closed (slice_range words.now from result) (cut [] (drop result words.now)) }
+    ensures run { pieces_cut [] (drop from words.now)
+        ≡ closed (slice_range words.now from result) (pieces_cut [] (drop result words.now)) }
     ensures spans { (start : ℕ) → spans_after start from words.now
         ≡ run_before (start + from) (start + result) (spans_after start result words.now) }
     ensures begun { from < length words.now → is_of_run (slice_index words.now from) ≡ true

@@ -9,10 +9,10 @@ use Rattle.cgm_trail.specs.TrailState.{IsOpenIn, TrailState, box_of}
 
 -- whether the atom, which isn't false, is true now; it isn't where it was open and no step is left,
 -- or where it was open and memory was wanted for a step
-abbrev pub IsMade : {E : Type 0} → Atom → TrailState → TrailState → ℕ → Result Bool E → Type 0
-IsMade a old new left (Ok true) = box_of new ≡ made_true (box_of old) a
-IsMade a old new left (Ok false) = (left ≡ 0) × (new ≡ old) × IsOpenIn (box_of old) a
-IsMade a old new left (Err e) = (0 < left) × (new ≡ old) × IsOpenIn (box_of old) a
+abbrev pub IsMadeTrue : {E : Type 0} → Atom → TrailState → TrailState → ℕ → Result Bool E → Type 0
+IsMadeTrue a old new left (Ok true) = box_of new ≡ made_true (box_of old) a
+IsMadeTrue a old new left (Ok false) = (left ≡ 0) × (new ≡ old) × IsOpenIn (box_of old) a
+IsMadeTrue a old new left (Err e) = (0 < left) × (new ≡ old) × IsOpenIn (box_of old) a
 
 -- values of the box meet the row, by so much at most, and it is claimed
 pub record HasRoom (b : Bounds) (r : Row) (room : ℕ) : Type 0 where

@@ -2,7 +2,7 @@
 ghost use Rattle.std.specs.Prelude.{◌≡◌, false, ◌+◌, ◌^◌, ◌<◌, ◌≤◌, length};
 ghost use Rattle.cgm_atom.specs.Constraints.{Constraint};
 ghost use Rattle.cgm_atom.specs.Narrowing.{is_false_in};
-ghost use Rattle.cgm_linear.specs.Making.{IsMade};
+ghost use Rattle.cgm_linear.specs.Making.{IsMadeTrue};
 ghost use Rattle.cgm_trail.specs.Steps.{IsGiven, IsOnly, IsPropagated};
 ghost use Rattle.cgm_trail.specs.TrailState.{box_of};
 
@@ -23,7 +23,7 @@ pub(crate) fn make(
     requires not_false { is_false_in (box_of trail.old) atom ≡ false }
     requires room { trail.old.moves + left.old ≤ 2 ^ 62 }
     ensures made { (k : Constraint) → IsGiven (box_of trail.old) k atom → IsPropagated (IsOnly by k) trail.old trail.new left.old left.new }
-    ensures answer { IsMade atom trail.old trail.new left.new result }
+    ensures answer { IsMadeTrue atom trail.old trail.new left.new result }
 {
     if is_true(trail.state(), atom) {
         return Ok(true);

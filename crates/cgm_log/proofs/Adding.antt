@@ -10,10 +10,10 @@ use Rattle.cgm_atom.specs.Acceptance.{IsAccepted}
 use Rattle.cgm_atom.specs.Instance.{Instance}
 use Rattle.cgm_atom.specs.LogState.{state_of}
 use Rattle.cgm_atom.specs.Placing.{all_placed}
-use Rattle.cgm_atom.specs.Limits.{IsWellFormed}
+use Rattle.cgm_atom.specs.Limits.{IsWellFormedProblem}
 use Rattle.cgm_atom.specs.Ranges.{IsPrintable}
 use Rattle.cgm_atom.proofs.StateLemmas.{IsAccepted-nil, state_of-entries}
-use Rattle.cgm_step.specs.Indexing.{Index, IsIndexOf}
+use Rattle.cgm_step.specs.Indexing.{Index, IsLogIndexOf}
 use Rattle.cgm_log.specs.declared.batches.Batch.{Batch}
 use Rattle.cgm_log.specs.declared.batches.Refund.{Refund}
 use Rattle.cgm_log.specs.declared.batches.Traded.{Traded}
@@ -22,12 +22,12 @@ use Rattle.cgm_log.specs.LogBook.{IsLog}
 use Rattle.cgm_log.specs.Trading.{news_of}
 
 -- a log without entries
-pub empty_log : (p : Instance) (entries : List Entry) → entries ≡ [] → IsWellFormed p → IsLog (record { problem = p; entries = entries })
+pub empty_log : (p : Instance) (entries : List Entry) → entries ≡ [] → IsWellFormedProblem p → IsLog (record { problem = p; entries = entries })
 empty_log p entries e valid =
     subst (λ (xs : List Entry). IsLog (record { problem = p; entries = xs })) (sym e)
     (record { problem = valid; accepted = IsAccepted-nil p; printable = All-nil IsPrintable; count = omega arith })
 
-pub counted : (index : Index) (log : List Entry) → IsIndexOf index log → index.entries ≡ length log
+pub counted : (index : Index) (log : List Entry) → IsLogIndexOf index log → index.entries ≡ length log
 counted index log own = ap (λ (i : Index). i.entries) own ∙ ap length (state_of-entries log) ∙ length-map log Some
 
 -- ---- the list that lands

@@ -21,11 +21,11 @@ use Rattle.cgm_atom.proofs.Solutions.{none-solution}
 use Rattle.cgm_atom.proofs.StateLemmas.{IsAccepted-push, best_values-append, last_best_of_log, state_of-push}
 use Rattle.cgm_log.specs.declared.batches.Batch.{Batch}
 use Rattle.cgm_log.specs.declared.batches.Fate.TheVariants.{Behind, Kept}
-use Rattle.cgm_log.specs.Landing.{ClosesLast, IsLemmaOf, IsProper, fate_after, kept_candidate, kept_entry}
+use Rattle.cgm_log.specs.Landing.{ClosesLast, IsLemmaOf, IsProperBatch, fate_after, kept_candidate, kept_entry}
 
 -- who has seen as many entries as there are has seen them all
-pub proper_after_all : (p : Instance) (log : List Entry) (seen : ℕ) (b : Batch) → seen ≡ length log → IsProper p (take seen log) b → IsProper p log b
-proper_after_all p log seen b e h = subst (λ (xs : List Entry). IsProper p xs b) (take_all seen log (omega arith)) h
+pub proper_after_all : (p : Instance) (log : List Entry) (seen : ℕ) (b : Batch) → seen ≡ length log → IsProperBatch p (take seen log) b → IsProperBatch p log b
+proper_after_all p log seen b e h = subst (λ (xs : List Entry). IsProperBatch p xs b) (take_all seen log (omega arith)) h
 
 -- entries that are accepted one after another
 accepted_more : (p : Instance) (log more : List Entry) → IsAccepted p log → IsAcceptedAfter p (state_of log) more → IsAccepted p (log ++ more)
@@ -114,6 +114,6 @@ by_candidate p log lemmas by (Some values) h still_open all accepted closing sol
     subst (λ (xs : List Entry). IsAccepted p xs) (append_assoc log placed (kept_candidate p (state_of log) by (Some values)))
     (kept_accepted p (log ++ placed) by (length (state_of log).bests) values (last_best (state_of log)) (accepted_more p log placed h accepted) (open_after log placed still_open all_open) (last_best_stays log placed all_open) solves)
 
-pub landing_accepted : (p : Instance) (log : List Entry) (b : Batch) → IsAccepted p log → (state_of log).closed ≡ false → IsProper p log b → IsAccepted p (log ++ (all_placed (length log) b.lemmas ++ kept_candidate p (state_of log) b.by b.candidate))
+pub landing_accepted : (p : Instance) (log : List Entry) (b : Batch) → IsAccepted p log → (state_of log).closed ≡ false → IsProperBatch p log b → IsAccepted p (log ++ (all_placed (length log) b.lemmas ++ kept_candidate p (state_of log) b.by b.candidate))
 landing_accepted p log b h still_open proper =
     by_candidate p log b.lemmas b.by b.candidate h still_open proper.lemmas proper.accepted proper.closing proper.candidate

@@ -12,7 +12,7 @@ use Rattle.cgm_atom.specs.Instance.{Instance}
 use Rattle.cgm_atom.specs.LogState.{LogState, last_best, state_of}
 use Rattle.cgm_atom.specs.Placing.{CanBePlaced, HintsCanBePlaced, IsBefore, all_placed, placed_entry}
 use Rattle.cgm_atom.specs.Ranges.{IsHintInRange}
-use Rattle.cgm_step.specs.Indexing.{Index, IsIndexOf, index_after, index_of, index_with}
+use Rattle.cgm_step.specs.Indexing.{Index, IsLogIndexOf, index_after, index_of, index_with}
 use Rattle.cgm_step.proofs.States.{own_after}
 use Rattle.cgm_log.specs.declared.batches.Fate.{Fate}
 use Rattle.cgm_log.specs.declared.batches.Fate.TheVariants.{Behind, Kept}
@@ -62,7 +62,7 @@ index_after_placed i n [] = refl
 index_after_placed i n (Best by values ∷ entries) = index_after_placed (index_with i (Best by values)) n entries
 index_after_placed i n (Lemma by clause hints bound ∷ entries) = index_after_placed (index_with i (Lemma by clause hints bound)) n entries
 
-index_of_placed : (index : Index) (log entries : List Entry) (n : ℕ) → IsIndexOf index (log ++ entries) → IsIndexOf index (log ++ all_placed n entries)
+index_of_placed : (index : Index) (log entries : List Entry) (n : ℕ) → IsLogIndexOf index (log ++ entries) → IsLogIndexOf index (log ++ all_placed n entries)
 index_of_placed index log entries n own =
     let i = index_of (state_of log) in
     own
@@ -71,9 +71,9 @@ index_of_placed index log entries n own =
     ∙ own_after i (index_after i (all_placed n entries)) (all_placed n entries) refl log refl
 
 -- the index after the landing, whose entries were placed once it was made
-pub indexed_landing : (index : Index) (old same new whole landing placed : List Entry) (n : ℕ) → IsIndexOf index (old ++ whole) → same ≡ old → landing ≡ whole → placed ≡ all_placed n landing → new ≡ same ++ placed → IsIndexOf index new
+pub indexed_landing : (index : Index) (old same new whole landing placed : List Entry) (n : ℕ) → IsLogIndexOf index (old ++ whole) → same ≡ old → landing ≡ whole → placed ≡ all_placed n landing → new ≡ same ++ placed → IsLogIndexOf index new
 indexed_landing index old same new whole landing placed n own e f g h =
-    subst (λ (xs : List Entry). IsIndexOf index xs)
+    subst (λ (xs : List Entry). IsLogIndexOf index xs)
     (sym (h
     ∙ ap (λ (xs : List Entry). xs ++ placed) e
     ∙ ap (λ (xs : List Entry). old ++ xs) g

@@ -11,7 +11,7 @@ use Rattle.cgm_atom.specs.declared.entries.Hint.{Hint}
 use Rattle.cgm_atom.specs.declared.entries.Hint.TheVariants as hint
 use Rattle.cgm_atom.specs.Entailment.{best_values}
 use Rattle.cgm_atom.specs.Instance.{Instance, IsSolution}
-use Rattle.cgm_atom.specs.Limits.{IsWellFormed, max_workers}
+use Rattle.cgm_atom.specs.Limits.{IsWellFormedProblem, max_workers}
 use Rattle.cgm_atom.specs.LogState.{LogState, last_best, state_of}
 use Rattle.cgm_atom.specs.Placing.{all_placed, placed, placed_entry}
 use Rattle.cgm_atom.specs.Ranges.{IsHintInRange, IsPlaced, IsPrintable}
@@ -22,7 +22,7 @@ use Rattle.cgm_step.proofs.Accepted.{AreValuesOf-from_none}
 use Rattle.cgm_log.specs.declared.batches.Batch.{Batch}
 use Rattle.cgm_log.specs.declared.batches.Fate.{Fate}
 use Rattle.cgm_log.specs.declared.batches.Fate.TheVariants.{Behind, Kept}
-use Rattle.cgm_log.specs.Landing.{IsLemmaOf, IsProper, fate_after, kept_candidate, kept_entry}
+use Rattle.cgm_log.specs.Landing.{IsLemmaOf, IsProperBatch, fate_after, kept_candidate, kept_entry}
 
 -- ---- hints
 
@@ -49,21 +49,21 @@ placed_printable by n (Lemma maker clause hints bound) small h = (
 
 -- ---- the candidate
 
-best_printable : (p : Instance) (by : ℕ) (values : List ℤ) → IsWellFormed p → by < max_workers → IsSolution p values → IsPrintable (Best by values)
+best_printable : (p : Instance) (by : ℕ) (values : List ℤ) → IsWellFormedProblem p → by < max_workers → IsSolution p values → IsPrintable (Best by values)
 best_printable p by values valid worker solves = ((worker, (AreValuesOf-from_none p values valid (none-solution p values solves)).sizes), tt)
 
 kept_printable : (by : ℕ) (values : List ℤ) (fate : Fate) → IsPrintable (Best by values) → All IsPrintable (kept_entry by values fate)
 kept_printable by values (Kept ordinal) h = All-cons IsPrintable (Best by values) [] h (All-nil IsPrintable)
 kept_printable by values (Behind ordinal best) h = All-nil IsPrintable
 
-candidate_printable : (p : Instance) (s : LogState) (by : ℕ) (candidate : Option (List ℤ)) → IsWellFormed p → by < max_workers → IfSome candidate (IsSolution p) → All IsPrintable (kept_candidate p s by candidate)
+candidate_printable : (p : Instance) (s : LogState) (by : ℕ) (candidate : Option (List ℤ)) → IsWellFormedProblem p → by < max_workers → IfSome candidate (IsSolution p) → All IsPrintable (kept_candidate p s by candidate)
 candidate_printable p s by None valid worker solves = All-nil IsPrintable
 candidate_printable p s by (Some values) valid worker solves =
     kept_printable by values (fate_after p (length s.bests) (last_best s) values) (best_printable p by values valid worker solves)
 
 -- ---- the batch
 
-pub landing_printable : (p : Instance) (log : List Entry) (s : LogState) (b : Batch) → IsWellFormed p → length log < 2 ^ 63 → IsProper p log b → All IsPrintable (all_placed (length log) b.lemmas ++ kept_candidate p s b.by b.candidate)
+pub landing_printable : (p : Instance) (log : List Entry) (s : LogState) (b : Batch) → IsWellFormedProblem p → length log < 2 ^ 63 → IsProperBatch p log b → All IsPrintable (all_placed (length log) b.lemmas ++ kept_candidate p s b.by b.candidate)
 landing_printable p log s b valid small proper =
     let n = length log in
     All-append IsPrintable (all_placed n b.lemmas) (kept_candidate p s b.by b.candidate)

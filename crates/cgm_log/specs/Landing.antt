@@ -30,7 +30,7 @@ ClosesLast (e ∷ lemmas) candidate =
     (IsTrue (is_closing e) → (lemmas ≡ []) × (candidate ≡ None)) × ClosesLast lemmas candidate
 
 -- the batch is proper after the entries that were seen
-pub record IsProper (p : Instance) (seen : List Entry) (b : Batch) : Type 0 where
+pub record IsProperBatch (p : Instance) (seen : List Entry) (b : Batch) : Type 0 where
   pub worker : b.by < max_workers
   pub count : length b.lemmas ≤ max_batch_lemmas
   pub lemmas : All (IsLemmaOf b.by (length seen)) b.lemmas

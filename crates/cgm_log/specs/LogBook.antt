@@ -4,7 +4,7 @@ use Rattle.std.specs.List.{All}
 use Rattle.cgm_atom.specs.declared.entries.Entry.{Entry}
 use Rattle.cgm_atom.specs.Acceptance.{IsAccepted}
 use Rattle.cgm_atom.specs.Instance.{Instance}
-use Rattle.cgm_atom.specs.Limits.{IsWellFormed}
+use Rattle.cgm_atom.specs.Limits.{IsWellFormedProblem}
 use Rattle.cgm_atom.specs.Ranges.{IsPrintable}
 
 pub record LogBook : Type 0 where
@@ -13,7 +13,7 @@ pub record LogBook : Type 0 where
 
 -- what holds of every log
 pub record IsLog (l : LogBook) : Type 0 where
-  pub problem : IsWellFormed l.problem
+  pub problem : IsWellFormedProblem l.problem
   pub accepted : IsAccepted l.problem l.entries
   pub printable : All IsPrintable l.entries
   pub count : length l.entries < 2 ^ 63

@@ -7,8 +7,8 @@ ghost use Rattle.cgm_atom.specs.Instance.{IsSolution};
 ghost use Rattle.cgm_atom.specs.LogState.{state_of};
 ghost use Rattle.cgm_atom.specs.Placing.{HintsCanBePlaced, all_placed};
 ghost use Rattle.cgm_atom.specs.Ranges.{IsPrintable};
-ghost use Rattle.cgm_step.specs.Indexing.{IsIndexOf};
-ghost use Rattle.cgm_log.specs.Landing.{IsProper, fate_of, kept_candidate, with_landed};
+ghost use Rattle.cgm_step.specs.Indexing.{IsLogIndexOf};
+ghost use Rattle.cgm_log.specs.Landing.{IsProperBatch, fate_of, kept_candidate, with_landed};
 ghost use Rattle.cgm_log.specs.LogBook.{IsLog};
 ghost use Rattle.cgm_log.specs.Trading.{IsAnswer, news_of};
 
@@ -34,11 +34,11 @@ impl Model for Log {
 
     ghost Value = { LogBook };
 
-    ghost use Rattle.cgm_log.specs.LogParts.{IsKept, log_book};
+    ghost use Rattle.cgm_log.specs.LogParts.{IsKeptLog, log_book};
 
     ghost view = { log_book };
 
-    ghost invariant = { IsKept };
+    ghost invariant = { IsKeptLog };
 }
 
 impl Log {
@@ -112,7 +112,7 @@ impl Log {
     /// Conditions: all entries were seen, and the batch is proper after them.
     pub fn trade(&mut self, seen: u64, batch: Batch) -> Result<Traded, Refund>
         requires all_seen { seen ≡ length self.old.entries }
-        requires proper { IsProper self.old.problem (take seen self.old.entries) batch }
+        requires proper { IsProperBatch self.old.problem (take seen self.old.entries) batch }
         ensures answer { IfOk result (λ t. IsAnswer self.old.problem self.old.entries batch t) }
         ensures news { IfOk result (λ t. news_of t ≡ drop seen self.old.entries) }
         ensures landed { OnOk result
@@ -137,7 +137,7 @@ impl Log {
     /// Adds the lemmas of a batch, and what is kept of its candidate, to a log that isn't closed.
     fn land(&mut self, news: Seq<Entry>, judged: Judged, batch: Batch) -> Result<Traded, Refund>
         requires still_open { (state_of self.old.entries).closed ≡ false }
-        requires proper { IsProper self.old.problem self.old.entries batch }
+        requires proper { IsProperBatch self.old.problem self.old.entries batch }
         requires kept { judged.kept.items
             ≡ kept_candidate self.old.problem (state_of self.old.entries) batch.by batch.candidate }
         requires fate { judged.fate
@@ -233,10 +233,10 @@ fn append_placed(
     lemmas: Vec<Entry>,
     kept: Vec<Entry>,
 ) -> Result<(), Vec<Entry>>
-    requires own { IsIndexOf index.old entries.old.items }
+    requires own { IsLogIndexOf index.old entries.old.items }
     requires hints { All (HintsCanBePlaced (length entries.old.items)) lemmas.items }
     requires no_hints { all_placed (length entries.old.items) kept.items ≡ kept.items }
-    ensures own { IsIndexOf index.new entries.new.items }
+    ensures own { IsLogIndexOf index.new entries.new.items }
     ensures ok { OnOk result (entries.new.items ≡ entries.old.items
         ++ (all_placed (length entries.old.items) lemmas.items ++ kept.items)) }
     ensures err { OnErr result (entries.new.items ≡ entries.old.items) }
@@ -264,13 +264,13 @@ fn make_room(
     landing: &mut Vec<Entry>,
     kept: Vec<Entry>,
 ) -> Result<(), OutOfMemory>
-    requires own { IsIndexOf index.old entries.old.items }
+    requires own { IsLogIndexOf index.old entries.old.items }
     ensures entries { entries.new.items ≡ entries.old.items }
     ensures room { OnOk result
         (vec_len entries.new + vec_len landing.new ≤ vec_capacity entries.new) }
     ensures landing { OnOk result (landing.new.items ≡ landing.old.items ++ kept.items) }
     ensures indexed { OnOk result
-        (IsIndexOf index.new (entries.old.items ++ (landing.old.items ++ kept.items))) }
+        (IsLogIndexOf index.new (entries.old.items ++ (landing.old.items ++ kept.items))) }
     ensures front { OnErr result
         (take (length landing.old.items) landing.new.items ≡ landing.old.items) }
     ensures unchanged { OnErr result (index.new ≡ index.old) }

@@ -1,7 +1,7 @@
 //! How a worker reaches the log that it adds to.
 ghost use Rattle.std.specs.Prelude.{◌≡◌, ◌+◌, ◌^◌, ◌<◌, ◌≤◌, length, None, IfOk, IfErr, IfSome, IsSome};
 ghost use Rattle.cgm_atom.specs.Acceptance.{IsAccepted};
-ghost use Rattle.cgm_log.specs.Landing.{IsProper};
+ghost use Rattle.cgm_log.specs.Landing.{IsProperBatch};
 ghost use Rattle.cgm_log.specs.Seats.{Seat};
 ghost use Rattle.cgm_log.specs.Trading.{IsAnswer, with_batch, with_news};
 
@@ -29,7 +29,7 @@ pub trait Trader {
     /// Conditions: the batch is proper after the entries that were seen, it has the trader's number
     /// where there is one, and a trade may still be made.
     fn trade(&mut self, batch: Batch) -> Result<Traded, Refund>
-        requires proper { IsProper (seat self.old).problem (seat self.old).told batch }
+        requires proper { IsProperBatch (seat self.old).problem (seat self.old).told batch }
         requires own_number { IfSome (seat self.old).number (λ n. batch.by ≡ n) }
         requires left { 1 ≤ (seat self.old).trades }
         ensures answer { IfOk result

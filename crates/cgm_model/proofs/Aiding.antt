@@ -26,18 +26,18 @@ use Rattle.cgm_model.specs.declared.lists.Sum.{Sum}
 use Rattle.cgm_model.specs.declared.lists.Variable.{Variable}
 use Rattle.cgm_model.specs.declared.names.NameTable.{NameTable}
 use Rattle.cgm_model.specs.Formulas.{formula_of, node_total}
-use Rattle.cgm_model.specs.Keeping.{AreFor, HasRoom}
+use Rattle.cgm_model.specs.Keeping.{AreFor, HasGraphRoom}
 use Rattle.cgm_model.specs.Lists.{added, no_lists}
-use Rattle.cgm_model.specs.Named.{IsNamed, thing_named}
-use Rattle.cgm_model.specs.NameTable.{found}
+use Rattle.cgm_model.specs.Named.{IsNamedThing, thing_named}
+use Rattle.cgm_model.specs.NameTable.{thing_found}
 use Rattle.cgm_model.specs.Statement.{is_new}
-use Rattle.cgm_model.specs.TargetIndex.{IsIndexOf, HasRoomFor}
+use Rattle.cgm_model.specs.TargetIndex.{IsTargetIndexOf, HasTargetRoomFor}
 use Rattle.cgm_model.proofs.Lookups.{thing_named-is_some, not_some-thing_named}
 
 -- ---- the lists stay
 
 -- more room changes nothing that the aids say
-pub AreFor-graph : (m : Lists) (old : Aids) (g : Graph) → ((rs : List Refinement) → IsIndexOf rs old.graph → IsIndexOf rs g) → ((count : ℕ) → HasRoomFor count old.graph → HasRoomFor count g) → AreFor m old → AreFor m (record old { graph = g })
+pub AreFor-graph : (m : Lists) (old : Aids) (g : Graph) → ((rs : List Refinement) → IsTargetIndexOf rs old.graph → IsTargetIndexOf rs g) → ((count : ℕ) → HasTargetRoomFor count old.graph → HasTargetRoomFor count g) → AreFor m old → AreFor m (record old { graph = g })
 AreFor-graph m old g kept room h = record {
   names = h.names;
   graph = kept m.refinements h.graph;
@@ -75,7 +75,7 @@ AreFor-marks m old marks false is h = record {
   interests = λ k. ap (λ (bs : List Bool). get_or bs k false) is ∙ h.interests k;
 }
 
-pub AreFor-names : (m : Lists) (old : Aids) (names : NameTable) → ((q : List ℕ) → found names q ≡ found old.names q) → AreFor m old → AreFor m (record old { names = names })
+pub AreFor-names : (m : Lists) (old : Aids) (names : NameTable) → ((q : List ℕ) → thing_found names q ≡ thing_found old.names q) → AreFor m old → AreFor m (record old { names = names })
 AreFor-names m old names same h = record {
   names = λ q t is. same q ∙ h.names q t is;
   graph = h.graph;
@@ -91,7 +91,7 @@ not_none None e = refl
 not_none (Some x) e = absurd (false≢true e)
 
 -- a new name stands for nothing
-new_apart : (m : Lists) (name q : List ℕ) (t : Thing) → is_new m name ≡ true → IsNamed m q t → bytes_eq q name ≡ true → ⊥
+new_apart : (m : Lists) (name q : List ℕ) (t : Thing) → is_new m name ≡ true → IsNamedThing m q t → bytes_eq q name ≡ true → ⊥
 new_apart m name q t new is same =
     let one : q ≡ name = (bytes_eq-Decides q name).0 same in
     thing_named-is_some m q t is (ap (thing_named m) one ∙ not_none (thing_named m name) (not_some-thing_named m name ∙ new))
@@ -100,15 +100,15 @@ chosen : (b : Bool) (x y : Option Thing) → (b ≡ true → ⊥) → cond b x y
 chosen true x y h = absurd (h refl)
 chosen false x y h = refl
 
-names_kept : (m : Lists) (name : List ℕ) (t : Thing) (old new : NameTable) → ((q : List ℕ) → found new q ≡ cond (bytes_eq q name) (Some t) (found old q)) → is_new m name ≡ true → (q : List ℕ) (u : Thing) → IsNamed m q u → found old q ≡ Some u → found new q ≡ Some u
+names_kept : (m : Lists) (name : List ℕ) (t : Thing) (old new : NameTable) → ((q : List ℕ) → thing_found new q ≡ cond (bytes_eq q name) (Some t) (thing_found old q)) → is_new m name ≡ true → (q : List ℕ) (u : Thing) → IsNamedThing m q u → thing_found old q ≡ Some u → thing_found new q ≡ Some u
 names_kept m name t old new set fresh q u is h =
-    set q ∙ (chosen (bytes_eq q name) (Some t) (found old q) (new_apart m name q u fresh is) ∙ h)
+    set q ∙ (chosen (bytes_eq q name) (Some t) (thing_found old q) (new_apart m name q u fresh is) ∙ h)
 
-name_here : (name : List ℕ) (t : Thing) (old new : NameTable) → ((q : List ℕ) → found new q ≡ cond (bytes_eq q name) (Some t) (found old q)) → (q : List ℕ) → q ≡ name → found new q ≡ Some t
+name_here : (name : List ℕ) (t : Thing) (old new : NameTable) → ((q : List ℕ) → thing_found new q ≡ cond (bytes_eq q name) (Some t) (thing_found old q)) → (q : List ℕ) → q ≡ name → thing_found new q ≡ Some t
 name_here name t old new set q same =
-    set q ∙ ap (λ b. cond b (Some t) (found old q)) ((bytes_eq-Decides q name).1 same)
+    set q ∙ ap (λ b. cond b (Some t) (thing_found old q)) ((bytes_eq-Decides q name).1 same)
 
-pub AreFor-declared : (m : Lists) (name : List ℕ) (t : Thing) (old : Aids) (names : NameTable) → ((q : List ℕ) → found names q ≡ cond (bytes_eq q name) (Some t) (found old.names q)) → is_new m name ≡ true → AreFor m old → AreFor m (record old { names = names })
+pub AreFor-declared : (m : Lists) (name : List ℕ) (t : Thing) (old : Aids) (names : NameTable) → ((q : List ℕ) → thing_found names q ≡ cond (bytes_eq q name) (Some t) (thing_found old.names q)) → is_new m name ≡ true → AreFor m old → AreFor m (record old { names = names })
 AreFor-declared m name t old names set fresh h = record {
   names = λ q u is. names_kept m name t old.names names set fresh q u is (h.names q u is);
   graph = h.graph;
@@ -135,9 +135,9 @@ at_last f xs x k q e =
 
 -- what the new lists name is this thing, or it was named before
 abbrev pub NamesMore : Lists → Lists → List ℕ → Thing → Type 0
-NamesMore old new name t = (q : List ℕ) (u : Thing) → IsNamed new q u → IsNamed old q u ⊎ ((u ≡ t) × (q ≡ name))
+NamesMore old new name t = (q : List ℕ) (u : Thing) → IsNamedThing new q u → IsNamedThing old q u ⊎ ((u ≡ t) × (q ≡ name))
 
-pub named_more : (m new : Lists) (name : List ℕ) (t : Thing) (old names : NameTable) → ((q : List ℕ) → found names q ≡ cond (bytes_eq q name) (Some t) (found old q)) → is_new m name ≡ true → ((q : List ℕ) (u : Thing) → IsNamed m q u → found old q ≡ Some u) → NamesMore m new name t → (q : List ℕ) (u : Thing) → IsNamed new q u → found names q ≡ Some u
+pub named_more : (m new : Lists) (name : List ℕ) (t : Thing) (old names : NameTable) → ((q : List ℕ) → thing_found names q ≡ cond (bytes_eq q name) (Some t) (thing_found old q)) → is_new m name ≡ true → ((q : List ℕ) (u : Thing) → IsNamedThing m q u → thing_found old q ≡ Some u) → NamesMore m new name t → (q : List ℕ) (u : Thing) → IsNamedThing new q u → thing_found names q ≡ Some u
 named_more m new name t old names set fresh h more q u is =
     ⊎_elim
     (λ before. names_kept m name t old names set fresh q u before (h q u before))
@@ -172,7 +172,7 @@ sum_more m s q (things.Var k) is = inl is
 sum_more m s q (things.Sum k) is =
     ⊎_elim (λ before. inl before) (λ last. inr (ap (λ n. things.Sum n) last.0, last.1)) (at_last (λ (x : Sum). x.name) m.sums s k q is)
 
-pub AreFor-element : (m : Lists) (e : Element) (old : Aids) (names : NameTable) → ((q : List ℕ) → found names q ≡ cond (bytes_eq q e.name) (Some (things.Element (length m.elements))) (found old.names q)) → is_new m e.name ≡ true → HasRoom (length m.elements + 1) old → AreFor m old → AreFor (added m (statements.Element e)) (record old { names = names })
+pub AreFor-element : (m : Lists) (e : Element) (old : Aids) (names : NameTable) → ((q : List ℕ) → thing_found names q ≡ cond (bytes_eq q e.name) (Some (things.Element (length m.elements))) (thing_found old.names q)) → is_new m e.name ≡ true → HasGraphRoom (length m.elements + 1) old → AreFor m old → AreFor (added m (statements.Element e)) (record old { names = names })
 AreFor-element m e old names set fresh room h = record {
   names = named_more m (added m (statements.Element e)) e.name (things.Element (length m.elements)) old.names names set fresh h.names (element_more m e);
   graph = h.graph;
@@ -184,7 +184,7 @@ AreFor-element m e old names set fresh room h = record {
   interests = h.interests;
 }
 
-pub AreFor-refinement : (m : Lists) (r : Refinement) (old : Aids) (names : NameTable) → ((q : List ℕ) → found names q ≡ cond (bytes_eq q r.name) (Some (things.Refinement (length m.refinements))) (found old.names q)) → is_new m r.name ≡ true → IsIndexOf (m.refinements ++ r ∷ []) old.graph → AreFor m old → AreFor (added m (statements.Refine r)) (record old { names = names })
+pub AreFor-refinement : (m : Lists) (r : Refinement) (old : Aids) (names : NameTable) → ((q : List ℕ) → thing_found names q ≡ cond (bytes_eq q r.name) (Some (things.Refinement (length m.refinements))) (thing_found old.names q)) → is_new m r.name ≡ true → IsTargetIndexOf (m.refinements ++ r ∷ []) old.graph → AreFor m old → AreFor (added m (statements.Refine r)) (record old { names = names })
 AreFor-refinement m r old names set fresh linked h = record {
   names = named_more m (added m (statements.Refine r)) r.name (things.Refinement (length m.refinements)) old.names names set fresh h.names (refinement_more m r);
   graph = linked;
@@ -193,7 +193,7 @@ AreFor-refinement m r old names set fresh linked h = record {
   interests = h.interests;
 }
 
-pub AreFor-variable : (m : Lists) (v : Variable) (old : Aids) (names : NameTable) → ((q : List ℕ) → found names q ≡ cond (bytes_eq q v.name) (Some (things.Var (length m.vars))) (found old.names q)) → is_new m v.name ≡ true → AreFor m old → AreFor (added m (statements.Variable v)) (record old { names = names })
+pub AreFor-variable : (m : Lists) (v : Variable) (old : Aids) (names : NameTable) → ((q : List ℕ) → thing_found names q ≡ cond (bytes_eq q v.name) (Some (things.Var (length m.vars))) (thing_found old.names q)) → is_new m v.name ≡ true → AreFor m old → AreFor (added m (statements.Variable v)) (record old { names = names })
 AreFor-variable m v old names set fresh h = record {
   names = named_more m (added m (statements.Variable v)) v.name (things.Var (length m.vars)) old.names names set fresh h.names (variable_more m v);
   graph = h.graph;
@@ -202,7 +202,7 @@ AreFor-variable m v old names set fresh h = record {
   interests = h.interests;
 }
 
-pub AreFor-sum : (m : Lists) (s : Sum) (old : Aids) (names : NameTable) → ((q : List ℕ) → found names q ≡ cond (bytes_eq q s.name) (Some (things.Sum (length m.sums))) (found old.names q)) → is_new m s.name ≡ true → AreFor m old → AreFor (added m (statements.Sum s)) (record old { names = names })
+pub AreFor-sum : (m : Lists) (s : Sum) (old : Aids) (names : NameTable) → ((q : List ℕ) → thing_found names q ≡ cond (bytes_eq q s.name) (Some (things.Sum (length m.sums))) (thing_found old.names q)) → is_new m s.name ≡ true → AreFor m old → AreFor (added m (statements.Sum s)) (record old { names = names })
 AreFor-sum m s old names set fresh h = record {
   names = named_more m (added m (statements.Sum s)) s.name (things.Sum (length m.sums)) old.names names set fresh h.names (sum_more m s);
   graph = h.graph;
@@ -277,13 +277,13 @@ ok_clause P (Err x) e h = absurd (false≢true (sym e))
 
 -- ---- no statement yet
 
-nothing_named : (q : List ℕ) (t : Thing) → ¬ IsNamed no_lists q t
+nothing_named : (q : List ℕ) (t : Thing) → ¬ IsNamedThing no_lists q t
 nothing_named q (things.Element k) e = none-some q e
 nothing_named q (things.Refinement k) e = none-some q e
 nothing_named q (things.Var k) e = none-some q e
 nothing_named q (things.Sum k) e = none-some q e
 
-pub AreFor-none : (aids : Aids) → IsIndexOf [] aids.graph → HasRoomFor 0 aids.graph → aids.node_room ≡ limit_number limits.FormulaNodes → aids.interests.items ≡ [] → AreFor no_lists aids
+pub AreFor-none : (aids : Aids) → IsTargetIndexOf [] aids.graph → HasTargetRoomFor 0 aids.graph → aids.node_room ≡ limit_number limits.FormulaNodes → aids.interests.items ≡ [] → AreFor no_lists aids
 AreFor-none aids graph room nodes marks = record {
   names = λ q t e. absurd (nothing_named q t e);
   graph = graph;

@@ -29,13 +29,13 @@ use Rattle.cgm_model.specs.declared.lists.Thing.{Thing}
 use Rattle.cgm_model.specs.declared.lists.Thing.TheVariants as things
 use Rattle.cgm_model.specs.declared.lists.Variable.{Variable}
 use Rattle.cgm_model.specs.declared.lists.Weighing.{Weighing}
-use Rattle.cgm_model.specs.Canonical.{statements_of, after, StandInOrder}
+use Rattle.cgm_model.specs.Canonical.{statements_of, after, StatementsStandInOrder}
 use Rattle.cgm_model.specs.Formulas.{formula_of, is_small, node_total}
 use Rattle.cgm_model.specs.Lists.{added, lists, no_lists, statement_count}
 use Rattle.cgm_model.specs.Name.{is_name}
-use Rattle.cgm_model.specs.Named.{names, IsNamed, thing_named}
-use Rattle.cgm_model.specs.Statement.{IsProper, IsAllowed, IsEdgeOf, IsPreference, IsKnownQuantity, declared_names, source_list, target_kind, has_small_coefficients, has_small_bounds, has_ordered_bounds, has_distinct_terms_each, has_new_interest, is_distinct, is_within, is_new, is_short, is_task, is_assumption}
-use Rattle.cgm_model.specs.WellFormed.{IsElement, IsRefinement, IsVariable, IsAssertion, IsValue, IsWeighing, IsRule, IsWellFormed}
+use Rattle.cgm_model.specs.Named.{names, IsNamedThing, thing_named}
+use Rattle.cgm_model.specs.Statement.{IsProperStatement, IsAllowed, IsEdgeOf, IsProperPreference, IsKnownQuantity, declared_names, source_list, target_kind, has_small_coefficients, has_small_bounds, has_ordered_bounds, has_distinct_terms_each, has_new_interest, is_distinct, is_within, is_new, is_short, is_task, is_assumption}
+use Rattle.cgm_model.specs.WellFormed.{IsElement, IsRefinement, IsVariable, IsAssertion, IsValue, IsProperWeighing, IsRule, IsWellFormedModel}
 use Rattle.cgm_model.proofs.Distinct.{unmet}
 use Rattle.cgm_model.proofs.Lookups.{named_once, placed, place, named-from_thing_named, not_some-thing_named}
 use Rattle.cgm_model.proofs.Refusals.{Passes, IsAllowed-passes}
@@ -87,7 +87,7 @@ named_before {X} f xs y ys zs e k n is = (
 
 -- ---- the name of the next statement
 
-name_fact : (P : List ℕ → Type 0) (m : Lists) (n : List ℕ) (t : Thing) → IsNamed m n t → All P (names m) → P n
+name_fact : (P : List ℕ → Type 0) (m : Lists) (n : List ℕ) (t : Thing) → IsNamedThing m n t → All P (names m) → P n
 name_fact P m n t is h =
     let p = placed m n t is in
     subst P p.named (h (place m t) [] p.within)
@@ -98,9 +98,9 @@ not_some (Some y) h = absurd (h y refl)
 
 -- what the lists before it name is something else
 abbrev NamesOthers : Lists → Lists → List ℕ → Thing → Type 0
-NamesOthers m p n t = (u : Thing) → IsNamed p n u → IsNamed m n u × (u ≢ t)
+NamesOthers m p n t = (u : Thing) → IsNamedThing p n u → IsNamedThing m n u × (u ≢ t)
 
-new_name : (m p : Lists) → IsWellFormed m → (n : List ℕ) (t : Thing) → IsNamed m n t → NamesOthers m p n t → is_new p n ≡ true
+new_name : (m p : Lists) → IsWellFormedModel m → (n : List ℕ) (t : Thing) → IsNamedThing m n t → NamesOthers m p n t → is_new p n ≡ true
 new_name m p w n t is others =
     sym (not_some-thing_named p n)
     ∙ not_some (thing_named p n) (λ u e.
@@ -116,7 +116,7 @@ record NameTests (p : Lists) (ns : List (List ℕ)) : Type 0 where
 no_name : (p : Lists) → NameTests p []
 no_name p = record { short = refl; spelled = refl; new = refl }
 
-one_name : (m p : Lists) → IsWellFormed m → (n : List ℕ) (t : Thing) → IsNamed m n t → NamesOthers m p n t → NameTests p (n ∷ [])
+one_name : (m p : Lists) → IsWellFormedModel m → (n : List ℕ) (t : Thing) → IsNamedThing m n t → NamesOthers m p n t → NameTests p (n ∷ [])
 one_name m p w n t is others = record {
   short = and_from (is_short n) true (le-leb (length n) (limit_number limits.NameBytes) (name_fact (λ q. length q ≤ limit_number limits.NameBytes) m n t is w.names.short)) refl;
   spelled = and_from (is_name n) true (name_fact (λ q. IsTrue (is_name q)) m n t is w.names.spelled) refl;
@@ -132,7 +132,7 @@ record Counts (p : Lists) (s : Statement) : Type 0 where
   nodes : nat_le (node_total (added p s).rules) (limit_number limits.FormulaNodes) ≡ true
   objectives : nat_le (length (added p s).objectives) (limit_number limits.Objectives) ≡ true
 
-counts : (m p : Lists) (s : Statement) → IsWellFormed m → statement_count p + 1 ≤ statement_count m → length (added p s).elements ≤ length m.elements → length (added p s).refinements ≤ length m.refinements → node_total (added p s).rules ≤ node_total m.rules → length (added p s).objectives ≤ length m.objectives → Counts p s
+counts : (m p : Lists) (s : Statement) → IsWellFormedModel m → statement_count p + 1 ≤ statement_count m → length (added p s).elements ≤ length m.elements → length (added p s).refinements ≤ length m.refinements → node_total (added p s).rules ≤ node_total m.rules → length (added p s).objectives ≤ length m.objectives → Counts p s
 counts m p s w statements elements refinements nodes objectives = record {
   statements = lt-ltb (statement_count p) (limit_number limits.Statements) (omega (arith, w.limits.statements));
   elements = le-leb (length (added p s).elements) (limit_number limits.Elements) (omega (arith, w.limits.elements));
@@ -186,19 +186,19 @@ plain_passes p s none small bounds ordered sources terms interest target c =
 -- ---- one group after another
 
 abbrev IsNext : Lists → Statement → Type 0
-IsNext p s = IsProper p s × IsAllowed p s
+IsNext p s = IsProperStatement p s × IsAllowed p s
 
 module _ {X : Type 0} (make : X → Statement) (front : List X → Lists) (grows : (xs : List X) (x : X) → added (front xs) (make x) ≡ front (xs ++ x ∷ [])) where
-  stand_from : (all : List X) → ((xs : List X) (y : X) (ys : List X) → xs ++ y ∷ ys ≡ all → IsNext (front xs) (make y)) → (xs ys : List X) → xs ++ ys ≡ all → (rest : List Statement) → StandInOrder (front all) rest → StandInOrder (front xs) (map make ys ++ rest)
+  stand_from : (all : List X) → ((xs : List X) (y : X) (ys : List X) → xs ++ y ∷ ys ≡ all → IsNext (front xs) (make y)) → (xs ys : List X) → xs ++ ys ≡ all → (rest : List Statement) → StatementsStandInOrder (front all) rest → StatementsStandInOrder (front xs) (map make ys ++ rest)
   stand_from all each xs [] e rest k =
-      subst (λ (zs : List X). StandInOrder (front zs) rest) (sym e ∙ append-nil xs) k
+      subst (λ (zs : List X). StatementsStandInOrder (front zs) rest) (sym e ∙ append-nil xs) k
   stand_from all each xs (y ∷ ys) e rest k =
       let next = stand_from all each (xs ++ y ∷ []) ys (shift xs y ys all e) rest k in
       let here = each xs y ys e in
-      (here.0, here.1, subst (λ p. StandInOrder p (map make ys ++ rest)) (sym (grows xs y)) next)
+      (here.0, here.1, subst (λ p. StatementsStandInOrder p (map make ys ++ rest)) (sym (grows xs y)) next)
 
   -- the statements of a group, and then these
-  stand : (all : List X) → ((xs : List X) (y : X) (ys : List X) → xs ++ y ∷ ys ≡ all → IsNext (front xs) (make y)) → (rest : List Statement) → StandInOrder (front all) rest → StandInOrder (front []) (map make all ++ rest)
+  stand : (all : List X) → ((xs : List X) (y : X) (ys : List X) → xs ++ y ∷ ys ≡ all → IsNext (front xs) (make y)) → (rest : List Statement) → StatementsStandInOrder (front all) rest → StatementsStandInOrder (front []) (map make all ++ rest)
   stand all each rest k = stand_from all each [] all refl rest k
 
   give_from : (xs ys : List X) (rest : List Statement) → after (front xs) (map make ys ++ rest) ≡ after (front (xs ++ ys)) rest
@@ -292,7 +292,7 @@ others_sums m xs y ys e (things.Sum k) is =
     let before = named_before (λ (x : Sum). x.name) xs y ys m.sums e k y.name is in
     (before.0, λ same. let l = before.1 in let at : k ≡ length xs = cc in omega arith)
 
-next_elements : (m : Lists) → IsWellFormed m → (xs : List Element) (y : Element) (ys : List Element) → xs ++ y ∷ ys ≡ m.elements → IsNext (to_elements m xs) (statements.Element y)
+next_elements : (m : Lists) → IsWellFormedModel m → (xs : List Element) (y : Element) (ys : List Element) → xs ++ y ∷ ys ≡ m.elements → IsNext (to_elements m xs) (statements.Element y)
 next_elements m w xs y ys e =
     let p : Lists = to_elements m xs in
     let s : Statement = statements.Element y in
@@ -302,7 +302,7 @@ next_elements m w xs y ys e =
     let n = one_name m p w y.name t (named_here (λ (x : Element). x.name) xs y ys m.elements e) (others_elements m xs y ys e) in
     (one, IsAllowed-passes p s ((λ x. x), λ k d l. absurd (omega arith)) (other_passes p s n refl refl refl refl refl refl refl c))
 
-next_refinements : (m : Lists) → IsWellFormed m → (xs : List Refinement) (y : Refinement) (ys : List Refinement) → xs ++ y ∷ ys ≡ m.refinements → IsNext (to_refinements m xs) (statements.Refine y)
+next_refinements : (m : Lists) → IsWellFormedModel m → (xs : List Refinement) (y : Refinement) (ys : List Refinement) → xs ++ y ∷ ys ≡ m.refinements → IsNext (to_refinements m xs) (statements.Refine y)
 next_refinements m w xs y ys e =
     let p : Lists = to_refinements m xs in
     let s : Statement = statements.Refine y in
@@ -336,7 +336,7 @@ next_refinements m w xs y ys e =
     } in
     ((there, one.there, one.known), IsAllowed-passes p s (f, kept) (passes))
 
-next_vars : (m : Lists) → IsWellFormed m → (xs : List Variable) (y : Variable) (ys : List Variable) → xs ++ y ∷ ys ≡ m.vars → IsNext (to_vars m xs) (statements.Variable y)
+next_vars : (m : Lists) → IsWellFormedModel m → (xs : List Variable) (y : Variable) (ys : List Variable) → xs ++ y ∷ ys ≡ m.vars → IsNext (to_vars m xs) (statements.Variable y)
 next_vars m w xs y ys e =
     let p : Lists = to_vars m xs in
     let s : Statement = statements.Variable y in
@@ -349,7 +349,7 @@ next_vars m w xs y ys e =
     let small = and_from (nat_le (unsigned_abs y.lo) (limit_number limits.VariableBound)) (nat_le (unsigned_abs y.hi) (limit_number limits.VariableBound)) lo hi in
     (tt, IsAllowed-passes p s w.acyclic (other_passes p s n refl small (in_order y one.ordered) refl refl refl refl c))
 
-next_sums : (m : Lists) → IsWellFormed m → (xs : List Sum) (y : Sum) (ys : List Sum) → xs ++ y ∷ ys ≡ m.sums → IsNext (to_sums m xs) (statements.Sum y)
+next_sums : (m : Lists) → IsWellFormedModel m → (xs : List Sum) (y : Sum) (ys : List Sum) → xs ++ y ∷ ys ≡ m.sums → IsNext (to_sums m xs) (statements.Sum y)
 next_sums m w xs y ys e =
     let p : Lists = to_sums m xs in
     let s : Statement = statements.Sum y in
@@ -358,7 +358,7 @@ next_sums m w xs y ys e =
     let n = one_name m p w y.name t (named_here (λ (x : Sum). x.name) xs y ys m.sums e) (others_sums m xs y ys e) in
     (tt, IsAllowed-passes p s w.acyclic (other_passes p s n refl refl refl refl refl refl refl c))
 
-next_contribs : (m : Lists) → IsWellFormed m → (xs : List Edge) (y : Edge) (ys : List Edge) → xs ++ y ∷ ys ≡ m.contribs → IsNext (to_contribs m xs) (statements.Contrib y)
+next_contribs : (m : Lists) → IsWellFormedModel m → (xs : List Edge) (y : Edge) (ys : List Edge) → xs ++ y ∷ ys ≡ m.contribs → IsNext (to_contribs m xs) (statements.Contrib y)
 next_contribs m w xs y ys e =
     let p : Lists = to_contribs m xs in
     let s : Statement = statements.Contrib y in
@@ -366,7 +366,7 @@ next_contribs m w xs y ys e =
     let c = counts m p s w (omega (arith, middle_short xs y ys m.contribs e)) (omega arith) (omega arith) (front_total [] m.rules m.rules refl) (omega arith) in
     (one, IsAllowed-passes p s w.acyclic (plain_passes p s refl refl refl refl refl refl refl refl c))
 
-next_conflicts : (m : Lists) → IsWellFormed m → (xs : List Edge) (y : Edge) (ys : List Edge) → xs ++ y ∷ ys ≡ m.conflicts → IsNext (to_conflicts m xs) (statements.Conflict y)
+next_conflicts : (m : Lists) → IsWellFormedModel m → (xs : List Edge) (y : Edge) (ys : List Edge) → xs ++ y ∷ ys ≡ m.conflicts → IsNext (to_conflicts m xs) (statements.Conflict y)
 next_conflicts m w xs y ys e =
     let p : Lists = to_conflicts m xs in
     let s : Statement = statements.Conflict y in
@@ -374,7 +374,7 @@ next_conflicts m w xs y ys e =
     let c = counts m p s w (omega (arith, middle_short xs y ys m.conflicts e)) (omega arith) (omega arith) (front_total [] m.rules m.rules refl) (omega arith) in
     (one, IsAllowed-passes p s w.acyclic (plain_passes p s refl refl refl refl refl refl refl refl c))
 
-next_binds : (m : Lists) → IsWellFormed m → (xs : List Edge) (y : Edge) (ys : List Edge) → xs ++ y ∷ ys ≡ m.binds → IsNext (to_binds m xs) (statements.Bind y)
+next_binds : (m : Lists) → IsWellFormedModel m → (xs : List Edge) (y : Edge) (ys : List Edge) → xs ++ y ∷ ys ≡ m.binds → IsNext (to_binds m xs) (statements.Bind y)
 next_binds m w xs y ys e =
     let p : Lists = to_binds m xs in
     let s : Statement = statements.Bind y in
@@ -382,7 +382,7 @@ next_binds m w xs y ys e =
     let c = counts m p s w (omega (arith, middle_short xs y ys m.binds e)) (omega arith) (omega arith) (front_total [] m.rules m.rules refl) (omega arith) in
     (one, IsAllowed-passes p s w.acyclic (plain_passes p s refl refl refl refl refl refl refl refl c))
 
-next_asserts : (m : Lists) → IsWellFormed m → (xs : List Assertion) (y : Assertion) (ys : List Assertion) → xs ++ y ∷ ys ≡ m.asserts → IsNext (to_asserts m xs) (statements.Assert y)
+next_asserts : (m : Lists) → IsWellFormedModel m → (xs : List Assertion) (y : Assertion) (ys : List Assertion) → xs ++ y ∷ ys ≡ m.asserts → IsNext (to_asserts m xs) (statements.Assert y)
 next_asserts m w xs y ys e =
     let p : Lists = to_asserts m xs in
     let s : Statement = statements.Assert y in
@@ -390,7 +390,7 @@ next_asserts m w xs y ys e =
     let c = counts m p s w (omega (arith, middle_short xs y ys m.asserts e)) (omega arith) (omega arith) (front_total [] m.rules m.rules refl) (omega arith) in
     (one, IsAllowed-passes p s w.acyclic (plain_passes p s refl refl refl refl refl refl refl refl c))
 
-next_values : (m : Lists) → IsWellFormed m → (xs : List SumValue) (y : SumValue) (ys : List SumValue) → xs ++ y ∷ ys ≡ m.values → IsNext (to_values m xs) (statements.Value y)
+next_values : (m : Lists) → IsWellFormedModel m → (xs : List SumValue) (y : SumValue) (ys : List SumValue) → xs ++ y ∷ ys ≡ m.values → IsNext (to_values m xs) (statements.Value y)
 next_values m w xs y ys e =
     let p : Lists = to_values m xs in
     let s : Statement = statements.Value y in
@@ -398,37 +398,37 @@ next_values m w xs y ys e =
     let c = counts m p s w (omega (arith, middle_short xs y ys m.values e)) (omega arith) (omega arith) (front_total [] m.rules m.rules refl) (omega arith) in
     ((one.sum, one.of), IsAllowed-passes p s w.acyclic (plain_passes p s refl (small_number y.k one.small) refl refl refl refl refl refl c))
 
-next_rewards : (m : Lists) → IsWellFormed m → (xs : List Weighing) (y : Weighing) (ys : List Weighing) → xs ++ y ∷ ys ≡ m.rewards → IsNext (to_rewards m xs) (statements.Reward y)
+next_rewards : (m : Lists) → IsWellFormedModel m → (xs : List Weighing) (y : Weighing) (ys : List Weighing) → xs ++ y ∷ ys ≡ m.rewards → IsNext (to_rewards m xs) (statements.Reward y)
 next_rewards m w xs y ys e =
     let p : Lists = to_rewards m xs in
     let s : Statement = statements.Reward y in
-    let one : (IsWeighing m) y = item_of (IsWeighing m) xs ys m.rewards y e w.rewards in
+    let one : (IsProperWeighing m) y = item_of (IsProperWeighing m) xs ys m.rewards y e w.rewards in
     let c = counts m p s w (omega (arith, middle_short xs y ys m.rewards e)) (omega arith) (omega arith) (front_total [] m.rules m.rules refl) (omega arith) in
     (one.element, IsAllowed-passes p s w.acyclic (plain_passes p s refl (small_number y.k one.small) refl refl refl refl refl refl c))
 
-next_penalties : (m : Lists) → IsWellFormed m → (xs : List Weighing) (y : Weighing) (ys : List Weighing) → xs ++ y ∷ ys ≡ m.penalties → IsNext (to_penalties m xs) (statements.Penalty y)
+next_penalties : (m : Lists) → IsWellFormedModel m → (xs : List Weighing) (y : Weighing) (ys : List Weighing) → xs ++ y ∷ ys ≡ m.penalties → IsNext (to_penalties m xs) (statements.Penalty y)
 next_penalties m w xs y ys e =
     let p : Lists = to_penalties m xs in
     let s : Statement = statements.Penalty y in
-    let one : (IsWeighing m) y = item_of (IsWeighing m) xs ys m.penalties y e w.penalties in
+    let one : (IsProperWeighing m) y = item_of (IsProperWeighing m) xs ys m.penalties y e w.penalties in
     let c = counts m p s w (omega (arith, middle_short xs y ys m.penalties e)) (omega arith) (omega arith) (front_total [] m.rules m.rules refl) (omega arith) in
     (one.element, IsAllowed-passes p s w.acyclic (plain_passes p s refl (small_number y.k one.small) refl refl refl refl refl refl c))
 
-next_prefers : (m : Lists) → IsWellFormed m → (xs : List Preference) (y : Preference) (ys : List Preference) → xs ++ y ∷ ys ≡ m.prefers → IsNext (to_prefers m xs) (statements.Prefer y)
+next_prefers : (m : Lists) → IsWellFormedModel m → (xs : List Preference) (y : Preference) (ys : List Preference) → xs ++ y ∷ ys ≡ m.prefers → IsNext (to_prefers m xs) (statements.Prefer y)
 next_prefers m w xs y ys e =
     let p : Lists = to_prefers m xs in
     let s : Statement = statements.Prefer y in
-    let one : (IsPreference m) y = item_of (IsPreference m) xs ys m.prefers y e w.prefers in
+    let one : (IsProperPreference m) y = item_of (IsProperPreference m) xs ys m.prefers y e w.prefers in
     let c = counts m p s w (omega (arith, middle_short xs y ys m.prefers e)) (omega arith) (omega arith) (front_total [] m.rules m.rules refl) (omega arith) in
     (one, IsAllowed-passes p s w.acyclic (plain_passes p s refl refl refl refl refl refl refl refl c))
 
-next_rules : (m : Lists) → IsWellFormed m → (xs : List Rule) (y : Rule) (ys : List Rule) → xs ++ y ∷ ys ≡ m.rules → IsNext (to_rules m xs) (statements.Rule y)
+next_rules : (m : Lists) → IsWellFormedModel m → (xs : List Rule) (y : Rule) (ys : List Rule) → xs ++ y ∷ ys ≡ m.rules → IsNext (to_rules m xs) (statements.Rule y)
 next_rules m w xs y ys e =
     let p : Lists = to_rules m xs in
     let s : Statement = statements.Rule y in
     let one : (IsRule m) y = item_of (IsRule m) xs ys m.rules y e w.rules in
     let c = counts m p s w (omega (arith, middle_short xs y ys m.rules e)) (omega arith) (omega arith) (front_total (xs ++ y ∷ []) ys m.rules (shift xs y ys m.rules e)) (omega arith) in
-    let proper : IsProper p s = record {
+    let proper : IsProperStatement p s = record {
       condition = one.proper.condition;
       formula = record {
         names = one.proper.formula.names;
@@ -439,7 +439,7 @@ next_rules m w xs y ys e =
     } in
     (proper, IsAllowed-passes p s w.acyclic (plain_passes p s refl one.small refl refl refl one.distinct refl refl c))
 
-next_interests : (m : Lists) → IsWellFormed m → (xs : List ℕ) (y : ℕ) (ys : List ℕ) → xs ++ y ∷ ys ≡ m.interests → IsNext (to_interests m xs) (statements.Interest y)
+next_interests : (m : Lists) → IsWellFormedModel m → (xs : List ℕ) (y : ℕ) (ys : List ℕ) → xs ++ y ∷ ys ≡ m.interests → IsNext (to_interests m xs) (statements.Interest y)
 next_interests m w xs y ys e =
     let p : Lists = to_interests m xs in
     let s : Statement = statements.Interest y in
@@ -449,7 +449,7 @@ next_interests m w xs y ys e =
     let new = unmet (λ j k. j == k) eqb_swap xs ys y distinct in
     (one, IsAllowed-passes p s w.acyclic (plain_passes p s refl refl refl refl refl refl new refl c))
 
-next_objectives : (m : Lists) → IsWellFormed m → (xs : List Objective) (y : Objective) (ys : List Objective) → xs ++ y ∷ ys ≡ m.objectives → IsNext (to_objectives m xs) (statements.Objective y)
+next_objectives : (m : Lists) → IsWellFormedModel m → (xs : List Objective) (y : Objective) (ys : List Objective) → xs ++ y ∷ ys ≡ m.objectives → IsNext (to_objectives m xs) (statements.Objective y)
 next_objectives m w xs y ys e =
     let p : Lists = to_objectives m xs in
     let s : Statement = statements.Objective y in
@@ -504,22 +504,22 @@ from_refinements m = map (λ r. statements.Refine r) m.refinements ++ from_vars 
 abbrev from_elements : Lists → List Statement
 from_elements m = map (λ e. statements.Element e) m.elements ++ from_refinements m
 
-pub stands_in_order : (m : Lists) → IsWellFormed m → StandInOrder no_lists (statements_of m)
+pub stands_in_order : (m : Lists) → IsWellFormedModel m → StatementsStandInOrder no_lists (statements_of m)
 stands_in_order m w =
-    let objectives : StandInOrder (to_objectives m []) (from_objectives m) = subst (StandInOrder (to_objectives m [])) (append-nil (from_objectives m)) (stand (λ o. statements.Objective o) (to_objectives m) (λ xs x. refl) m.objectives (next_objectives m w) [] tt) in
-    let interests : StandInOrder (to_interests m []) (from_interests m) = stand (λ k. statements.Interest k) (to_interests m) (λ xs x. refl) m.interests (next_interests m w) (from_objectives m) objectives in
-    let rules : StandInOrder (to_rules m []) (from_rules m) = stand (λ r. statements.Rule r) (to_rules m) (λ xs x. refl) m.rules (next_rules m w) (from_interests m) interests in
-    let prefers : StandInOrder (to_prefers m []) (from_prefers m) = stand (λ p. statements.Prefer p) (to_prefers m) (λ xs x. refl) m.prefers (next_prefers m w) (from_rules m) rules in
-    let penalties : StandInOrder (to_penalties m []) (from_penalties m) = stand (λ w. statements.Penalty w) (to_penalties m) (λ xs x. refl) m.penalties (next_penalties m w) (from_prefers m) prefers in
-    let rewards : StandInOrder (to_rewards m []) (from_rewards m) = stand (λ w. statements.Reward w) (to_rewards m) (λ xs x. refl) m.rewards (next_rewards m w) (from_penalties m) penalties in
-    let values : StandInOrder (to_values m []) (from_values m) = stand (λ v. statements.Value v) (to_values m) (λ xs x. refl) m.values (next_values m w) (from_rewards m) rewards in
-    let asserts : StandInOrder (to_asserts m []) (from_asserts m) = stand (λ a. statements.Assert a) (to_asserts m) (λ xs x. refl) m.asserts (next_asserts m w) (from_values m) values in
-    let binds : StandInOrder (to_binds m []) (from_binds m) = stand (λ e. statements.Bind e) (to_binds m) (λ xs x. refl) m.binds (next_binds m w) (from_asserts m) asserts in
-    let conflicts : StandInOrder (to_conflicts m []) (from_conflicts m) = stand (λ e. statements.Conflict e) (to_conflicts m) (λ xs x. refl) m.conflicts (next_conflicts m w) (from_binds m) binds in
-    let contribs : StandInOrder (to_contribs m []) (from_contribs m) = stand (λ e. statements.Contrib e) (to_contribs m) (λ xs x. refl) m.contribs (next_contribs m w) (from_conflicts m) conflicts in
-    let sums : StandInOrder (to_sums m []) (from_sums m) = stand (λ x. statements.Sum x) (to_sums m) (λ xs x. refl) m.sums (next_sums m w) (from_contribs m) contribs in
-    let vars : StandInOrder (to_vars m []) (from_vars m) = stand (λ v. statements.Variable v) (to_vars m) (λ xs x. refl) m.vars (next_vars m w) (from_sums m) sums in
-    let refinements : StandInOrder (to_refinements m []) (from_refinements m) = stand (λ r. statements.Refine r) (to_refinements m) (λ xs x. refl) m.refinements (next_refinements m w) (from_vars m) vars in
+    let objectives : StatementsStandInOrder (to_objectives m []) (from_objectives m) = subst (StatementsStandInOrder (to_objectives m [])) (append-nil (from_objectives m)) (stand (λ o. statements.Objective o) (to_objectives m) (λ xs x. refl) m.objectives (next_objectives m w) [] tt) in
+    let interests : StatementsStandInOrder (to_interests m []) (from_interests m) = stand (λ k. statements.Interest k) (to_interests m) (λ xs x. refl) m.interests (next_interests m w) (from_objectives m) objectives in
+    let rules : StatementsStandInOrder (to_rules m []) (from_rules m) = stand (λ r. statements.Rule r) (to_rules m) (λ xs x. refl) m.rules (next_rules m w) (from_interests m) interests in
+    let prefers : StatementsStandInOrder (to_prefers m []) (from_prefers m) = stand (λ p. statements.Prefer p) (to_prefers m) (λ xs x. refl) m.prefers (next_prefers m w) (from_rules m) rules in
+    let penalties : StatementsStandInOrder (to_penalties m []) (from_penalties m) = stand (λ w. statements.Penalty w) (to_penalties m) (λ xs x. refl) m.penalties (next_penalties m w) (from_prefers m) prefers in
+    let rewards : StatementsStandInOrder (to_rewards m []) (from_rewards m) = stand (λ w. statements.Reward w) (to_rewards m) (λ xs x. refl) m.rewards (next_rewards m w) (from_penalties m) penalties in
+    let values : StatementsStandInOrder (to_values m []) (from_values m) = stand (λ v. statements.Value v) (to_values m) (λ xs x. refl) m.values (next_values m w) (from_rewards m) rewards in
+    let asserts : StatementsStandInOrder (to_asserts m []) (from_asserts m) = stand (λ a. statements.Assert a) (to_asserts m) (λ xs x. refl) m.asserts (next_asserts m w) (from_values m) values in
+    let binds : StatementsStandInOrder (to_binds m []) (from_binds m) = stand (λ e. statements.Bind e) (to_binds m) (λ xs x. refl) m.binds (next_binds m w) (from_asserts m) asserts in
+    let conflicts : StatementsStandInOrder (to_conflicts m []) (from_conflicts m) = stand (λ e. statements.Conflict e) (to_conflicts m) (λ xs x. refl) m.conflicts (next_conflicts m w) (from_binds m) binds in
+    let contribs : StatementsStandInOrder (to_contribs m []) (from_contribs m) = stand (λ e. statements.Contrib e) (to_contribs m) (λ xs x. refl) m.contribs (next_contribs m w) (from_conflicts m) conflicts in
+    let sums : StatementsStandInOrder (to_sums m []) (from_sums m) = stand (λ x. statements.Sum x) (to_sums m) (λ xs x. refl) m.sums (next_sums m w) (from_contribs m) contribs in
+    let vars : StatementsStandInOrder (to_vars m []) (from_vars m) = stand (λ v. statements.Variable v) (to_vars m) (λ xs x. refl) m.vars (next_vars m w) (from_sums m) sums in
+    let refinements : StatementsStandInOrder (to_refinements m []) (from_refinements m) = stand (λ r. statements.Refine r) (to_refinements m) (λ xs x. refl) m.refinements (next_refinements m w) (from_vars m) vars in
     stand (λ e. statements.Element e) (to_elements m) (λ xs x. refl) m.elements (next_elements m w) (from_refinements m) refinements
 
 -- the statements of lists give these lists

@@ -7,7 +7,7 @@ use Rattle.std.proofs.lemmas.List.Elements.{All-pop, All-push}
 use Rattle.std.proofs.lemmas.List.Sums.{get_or-le-sum_by}
 use Rattle.cgm_model.specs.declared.lists.Refinement.{Refinement}
 use Rattle.cgm_model.specs.Graph.{IsNumbering, IsAcyclic}
-use Rattle.cgm_model.specs.Search.{IsMarked, AreBelow, IsClosed}
+use Rattle.cgm_model.specs.Search.{IsMarked, AreBelow, IsClosedUnderSources}
 
 -- a numbering that lifts what is not marked above this many numbers
 abbrev lifted : (ℕ → ℕ) → List Bool → ℕ → ℕ → ℕ
@@ -25,7 +25,7 @@ lifted-new f above source target true false e n l = omega arith
 lifted-new f above source target false false e n l = absurd (false≢true e)
 
 -- the target isn't reached from the sources: the numbering goes on
-pub IsAcyclic-from_closed : (refinements : List Refinement) (r : Refinement) (marks : List Bool) → IsAcyclic refinements → All (IsClosed marks) refinements → All (IsMarked marks) r.sources → ¬ IsMarked marks r.target → IsAcyclic (refinements ++ r ∷ [])
+pub IsAcyclic-from_closed : (refinements : List Refinement) (r : Refinement) (marks : List Bool) → IsAcyclic refinements → All (IsClosedUnderSources marks) refinements → All (IsMarked marks) r.sources → ¬ IsMarked marks r.target → IsAcyclic (refinements ++ r ∷ [])
 IsAcyclic-from_closed refinements r marks acyclic closed marked unreached =
     let f = acyclic.0 in
     let above : ℕ = sum_by f r.sources + 1 in

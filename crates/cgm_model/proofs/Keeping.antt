@@ -39,8 +39,8 @@ use Rattle.cgm_model.specs.Graph.{IsAcyclic}
 use Rattle.cgm_model.specs.Lists.{added, statement_count, no_lists}
 use Rattle.cgm_model.specs.Name.{is_name}
 use Rattle.cgm_model.specs.Named.{names, element_names, refinement_names, variable_names, sum_names}
-use Rattle.cgm_model.specs.Statement.{IsProper, IsAllowed, IsEdgeOf, IsPreference, IsKnownQuantity, is_short, is_task, is_assumption, is_distinct}
-use Rattle.cgm_model.specs.WellFormed.{AreNames, IsElement, IsRefinement, IsVariable, IsAssertion, IsValue, IsWeighing, IsRule, AreWithinLimits, IsWellFormed}
+use Rattle.cgm_model.specs.Statement.{IsProperStatement, IsAllowed, IsEdgeOf, IsProperPreference, IsKnownQuantity, is_short, is_task, is_assumption, is_distinct}
+use Rattle.cgm_model.specs.WellFormed.{AreNames, IsElement, IsRefinement, IsVariable, IsAssertion, IsValue, IsProperWeighing, IsRule, AreWithinLimits, IsWellFormedModel}
 use Rattle.cgm_model.proofs.Distinct.{distinct_push}
 use Rattle.cgm_model.proofs.Refusals.{Passes, Passes-none}
 use Rattle.cgm_model.proofs.Swaps.{eqb_swap}
@@ -276,13 +276,13 @@ module _ (old new : Lists) (x : Extends (things_of old) (things_of new)) where
     small = h.small;
   }
 
-  IsWeighing-kept : (w : Weighing) → IsWeighing old w → IsWeighing new w
+  IsWeighing-kept : (w : Weighing) → IsProperWeighing old w → IsProperWeighing new w
   IsWeighing-kept w h = record {
     element = omega (arith, h.element, x.elements);
     small = h.small;
   }
 
-  IsPreference-kept : (p : Preference) → IsPreference old p → IsPreference new p
+  IsPreference-kept : (p : Preference) → IsProperPreference old p → IsProperPreference new p
   IsPreference-kept p h = (IsKnownTruth-kept p.better h.0, IsKnownTruth-kept p.worse h.1)
 
   IsRule-kept : (r : Rule) → IsRule old r → IsRule new r
@@ -290,7 +290,7 @@ module _ (old new : Lists) (x : Extends (things_of old) (things_of new)) where
     proper = record {
       condition = λ k d l. IsKnownTruth-kept (get_or (condition_names r) k d) (h.proper.condition k d l);
       formula = record {
-        names = λ k d l. IsKnownTruth-kept (get_or (nodes.names (formula_of r)) k d) (h.proper.formula.names k d l);
+        names = λ k d l. IsKnownTruth-kept (get_or (nodes.formula_names (formula_of r)) k d) (h.proper.formula.names k d l);
         numbers = λ k d l j e m. IsKnownNumber-kept (get_or (get_or (nodes.comparisons (formula_of r)) k d).0.terms j e).1 (h.proper.formula.numbers k d l j e m);
         full = h.proper.formula.full;
         depth = h.proper.formula.depth;
@@ -317,9 +317,9 @@ record AreGroups (ctx m : Lists) : Type 0 where
   binds : All (IsEdgeOf (length ctx.refinements)) m.binds
   asserts : All (IsAssertion ctx) m.asserts
   values : All (IsValue ctx) m.values
-  rewards : All (IsWeighing ctx) m.rewards
-  penalties : All (IsWeighing ctx) m.penalties
-  prefers : All (IsPreference ctx) m.prefers
+  rewards : All (IsProperWeighing ctx) m.rewards
+  penalties : All (IsProperWeighing ctx) m.penalties
+  prefers : All (IsProperPreference ctx) m.prefers
   rules : All (IsRule ctx) m.rules
   interests : All (λ k. k < length ctx.elements) m.interests
   distinct_interests : IsTrue (is_distinct m.interests)
@@ -355,14 +355,14 @@ IsNew ctx m (statements.Conflict e) = IsEdgeOf (length ctx.elements) e
 IsNew ctx m (statements.Bind e) = IsEdgeOf (length ctx.refinements) e
 IsNew ctx m (statements.Assert a) = IsAssertion ctx a
 IsNew ctx m (statements.Value v) = IsValue ctx v
-IsNew ctx m (statements.Reward w) = IsWeighing ctx w
-IsNew ctx m (statements.Penalty w) = IsWeighing ctx w
-IsNew ctx m (statements.Prefer p) = IsPreference ctx p
+IsNew ctx m (statements.Reward w) = IsProperWeighing ctx w
+IsNew ctx m (statements.Penalty w) = IsProperWeighing ctx w
+IsNew ctx m (statements.Prefer p) = IsProperPreference ctx p
 IsNew ctx m (statements.Rule r) = IsRule ctx r
 IsNew ctx m (statements.Interest k) = (k < length ctx.elements) × (list_any (λ j. j == k) m.interests ≡ false)
 IsNew ctx m (statements.Objective o) = IsKnownQuantity ctx o.of
 
-groups : (ctx m : Lists) → All (IsElement) m.elements → All (IsRefinement ctx) m.refinements → All (IsVariable) m.vars → All (IsEdgeOf (length ctx.elements)) m.contribs → All (IsEdgeOf (length ctx.elements)) m.conflicts → All (IsEdgeOf (length ctx.refinements)) m.binds → All (IsAssertion ctx) m.asserts → All (IsValue ctx) m.values → All (IsWeighing ctx) m.rewards → All (IsWeighing ctx) m.penalties → All (IsPreference ctx) m.prefers → All (IsRule ctx) m.rules → All (λ k. k < length ctx.elements) m.interests → IsTrue (is_distinct m.interests) → All (λ o. IsKnownQuantity ctx o.of) m.objectives → AreGroups ctx m
+groups : (ctx m : Lists) → All (IsElement) m.elements → All (IsRefinement ctx) m.refinements → All (IsVariable) m.vars → All (IsEdgeOf (length ctx.elements)) m.contribs → All (IsEdgeOf (length ctx.elements)) m.conflicts → All (IsEdgeOf (length ctx.refinements)) m.binds → All (IsAssertion ctx) m.asserts → All (IsValue ctx) m.values → All (IsProperWeighing ctx) m.rewards → All (IsProperWeighing ctx) m.penalties → All (IsProperPreference ctx) m.prefers → All (IsRule ctx) m.rules → All (λ k. k < length ctx.elements) m.interests → IsTrue (is_distinct m.interests) → All (λ o. IsKnownQuantity ctx o.of) m.objectives → AreGroups ctx m
 groups ctx m elements refinements vars contribs conflicts binds asserts values rewards penalties prefers rules interests distinct_interests objectives = record {
   elements = elements;
   refinements = refinements;
@@ -401,11 +401,11 @@ AreGroups-added ctx m (statements.Assert a) g n =
 AreGroups-added ctx m (statements.Value v) g n =
     groups ctx (added m (statements.Value v)) g.elements g.refinements g.vars g.contribs g.conflicts g.binds g.asserts (All-push (IsValue ctx) m.values v g.values n) g.rewards g.penalties g.prefers g.rules g.interests g.distinct_interests g.objectives
 AreGroups-added ctx m (statements.Reward w) g n =
-    groups ctx (added m (statements.Reward w)) g.elements g.refinements g.vars g.contribs g.conflicts g.binds g.asserts g.values (All-push (IsWeighing ctx) m.rewards w g.rewards n) g.penalties g.prefers g.rules g.interests g.distinct_interests g.objectives
+    groups ctx (added m (statements.Reward w)) g.elements g.refinements g.vars g.contribs g.conflicts g.binds g.asserts g.values (All-push (IsProperWeighing ctx) m.rewards w g.rewards n) g.penalties g.prefers g.rules g.interests g.distinct_interests g.objectives
 AreGroups-added ctx m (statements.Penalty w) g n =
-    groups ctx (added m (statements.Penalty w)) g.elements g.refinements g.vars g.contribs g.conflicts g.binds g.asserts g.values g.rewards (All-push (IsWeighing ctx) m.penalties w g.penalties n) g.prefers g.rules g.interests g.distinct_interests g.objectives
+    groups ctx (added m (statements.Penalty w)) g.elements g.refinements g.vars g.contribs g.conflicts g.binds g.asserts g.values g.rewards (All-push (IsProperWeighing ctx) m.penalties w g.penalties n) g.prefers g.rules g.interests g.distinct_interests g.objectives
 AreGroups-added ctx m (statements.Prefer p) g n =
-    groups ctx (added m (statements.Prefer p)) g.elements g.refinements g.vars g.contribs g.conflicts g.binds g.asserts g.values g.rewards g.penalties (All-push (IsPreference ctx) m.prefers p g.prefers n) g.rules g.interests g.distinct_interests g.objectives
+    groups ctx (added m (statements.Prefer p)) g.elements g.refinements g.vars g.contribs g.conflicts g.binds g.asserts g.values g.rewards g.penalties (All-push (IsProperPreference ctx) m.prefers p g.prefers n) g.rules g.interests g.distinct_interests g.objectives
 AreGroups-added ctx m (statements.Rule r) g n =
     groups ctx (added m (statements.Rule r)) g.elements g.refinements g.vars g.contribs g.conflicts g.binds g.asserts g.values g.rewards g.penalties g.prefers (All-push (IsRule ctx) m.rules r g.rules n) g.interests g.distinct_interests g.objectives
 AreGroups-added ctx m (statements.Interest k) g n =
@@ -428,7 +428,7 @@ target_goal m r l p =
 small_number : (k : ℤ) → is_small k ≡ true → unsigned_abs k ≤ limit_number limits.Coefficient
 small_number k e = leb-true (unsigned_abs k) (limit_number limits.Coefficient) e
 
-IsNew-passed : (m : Lists) (s : Statement) → IsProper m s → Passes m s true → IsNew m m s
+IsNew-passed : (m : Lists) (s : Statement) → IsProperStatement m s → Passes m s true → IsNew m m s
 IsNew-passed m (statements.Element e) proper p = proper
 IsNew-passed m (statements.Refine r) proper p = record {
   target = target_goal m r proper.0 p;
@@ -486,7 +486,7 @@ statement_count-added m (statements.Rule r) = omega (arith, length_push m.rules 
 statement_count-added m (statements.Interest k) = omega (arith, length_push m.interests k)
 statement_count-added m (statements.Objective o) = omega (arith, length_push m.objectives o)
 
-AreGroups-of : (m : Lists) → IsWellFormed m → AreGroups m m
+AreGroups-of : (m : Lists) → IsWellFormedModel m → AreGroups m m
 AreGroups-of m w = record {
   elements = w.elements;
   refinements = w.refinements;
@@ -505,7 +505,7 @@ AreGroups-of m w = record {
   objectives = w.objectives;
 }
 
-IsWellFormed-groups : (m : Lists) → AreGroups m m → AreNames (names m) → IsAcyclic m.refinements → AreWithinLimits m → IsWellFormed m
+IsWellFormed-groups : (m : Lists) → AreGroups m m → AreNames (names m) → IsAcyclic m.refinements → AreWithinLimits m → IsWellFormedModel m
 IsWellFormed-groups m g n acyclic within = record {
   names = n;
   elements = g.elements;
@@ -527,7 +527,7 @@ IsWellFormed-groups m g n acyclic within = record {
   limits = within;
 }
 
-pub IsWellFormed-added : (m : Lists) (s : Statement) → IsWellFormed m → IsProper m s → IsAllowed m s → IsWellFormed (added m s)
+pub IsWellFormed-added : (m : Lists) (s : Statement) → IsWellFormedModel m → IsProperStatement m s → IsAllowed m s → IsWellFormedModel (added m s)
 IsWellFormed-added m s w proper allowed =
     let p = Passes-none m s true allowed.passes in
     let new = added m s in
@@ -541,7 +541,7 @@ IsWellFormed-added m s w proper allowed =
       objectives = leb-true (length new.objectives) (limit_number limits.Objectives) p.objectives;
     })
 
-pub IsWellFormed-none : IsWellFormed no_lists
+pub IsWellFormed-none : IsWellFormedModel no_lists
 IsWellFormed-none = record {
   names = record {
     spelled = All-nil (λ n. IsTrue (is_name n));
@@ -574,7 +574,7 @@ IsWellFormed-none = record {
 }
 
 -- the lists with the statement, or as they were
-pub IsWellFormed-after : (stands : Bool) (m : Lists) (s : Statement) (new : Lists) → new ≡ cond stands (added m s) m → IsWellFormed m → IsProper m s → IsAllowed m s → IsWellFormed new
+pub IsWellFormed-after : (stands : Bool) (m : Lists) (s : Statement) (new : Lists) → new ≡ cond stands (added m s) m → IsWellFormedModel m → IsProperStatement m s → IsAllowed m s → IsWellFormedModel new
 IsWellFormed-after true m s new e w proper allowed =
-    subst IsWellFormed (sym e) (IsWellFormed-added m s w proper allowed)
-IsWellFormed-after false m s new e w proper allowed = subst IsWellFormed (sym e) w
+    subst IsWellFormedModel (sym e) (IsWellFormed-added m s w proper allowed)
+IsWellFormed-after false m s new e w proper allowed = subst IsWellFormedModel (sym e) w

@@ -5,14 +5,14 @@ use Rattle.std.proofs.lemmas.List.Folds.{list_all-append}
 use Rattle.cgm_formula.specs.declared.formula.Formula.{Formula}
 use Rattle.cgm_formula.specs.declared.formula.Formula.TheVariants.{And, Or, Implies, Iff}
 use Rattle.cgm_formula.specs.declared.formula.Linear.{Linear}
-use Rattle.cgm_formula.specs.Nodes.{comparisons, comparisons_step, joined}
+use Rattle.cgm_formula.specs.Nodes.{comparisons, comparisons_step, lists_joined}
 use Rattle.cgm_formula.proofs.Folds.{fold-And, fold-Or, fold-Implies, fold-Iff}
 use Rattle.cgm_model.specs.Formulas.{every_linear}
 
-all_joined : {X Y : Type 0} (p : X → Bool) (f : Y → List X) (ys : List Y) → list_all p (joined (map f ys)) ≡ list_all (λ y. list_all p (f y)) ys
+all_joined : {X Y : Type 0} (p : X → Bool) (f : Y → List X) (ys : List Y) → list_all p (lists_joined (map f ys)) ≡ list_all (λ y. list_all p (f y)) ys
 all_joined p f [] = refl
 all_joined p f (y ∷ ys) =
-    list_all-append p (f y) (joined (map f ys)) ∙ ap (λ b. list_all p (f y) && b) (all_joined p f ys)
+    list_all-append p (f y) (lists_joined (map f ys)) ∙ ap (λ b. list_all p (f y) && b) (all_joined p f ys)
 
 module _ (test : Linear → Bool) where
   pub every-And : (parts : List Formula) → every_linear test (And parts) ≡ list_all (every_linear test) parts

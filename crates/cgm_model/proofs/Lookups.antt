@@ -11,9 +11,9 @@ use Rattle.std.proofs.lemmas.Slice.Eq.{bytes_eq-Decides}
 use Rattle.cgm_model.specs.declared.lists.Lists.{Lists}
 use Rattle.cgm_model.specs.declared.lists.Thing.{Thing}
 use Rattle.cgm_model.specs.declared.lists.Thing.TheVariants as things
-use Rattle.cgm_model.specs.Named.{names, element_names, refinement_names, variable_names, sum_names, IsNamed, place_of, thing_named}
+use Rattle.cgm_model.specs.Named.{names, element_names, refinement_names, variable_names, sum_names, IsNamedThing, place_of, thing_named}
 use Rattle.cgm_model.specs.Statement.{is_new}
-use Rattle.cgm_model.specs.WellFormed.{IsWellFormed}
+use Rattle.cgm_model.specs.WellFormed.{IsWellFormedModel}
 
 -- ---- one place
 
@@ -56,7 +56,7 @@ place m (things.Refinement k) = length (element_names m) + k
 place m (things.Var k) = length (element_names m) + (length (refinement_names m) + k)
 place m (things.Sum k) = length (element_names m) + (length (refinement_names m) + (length (variable_names m) + k))
 
-pub placed : (m : Lists) (name : List ℕ) (t : Thing) → IsNamed m name t → Placed (names m) (place m t) name
+pub placed : (m : Lists) (name : List ℕ) (t : Thing) → IsNamedThing m name t → Placed (names m) (place m t) name
 placed m name (things.Element k) at =
     placed_first (element_names m) (refinement_names m ++ (variable_names m ++ sum_names m)) k name (placed_here (element_names m) k name at)
 placed m name (things.Refinement k) at =
@@ -71,7 +71,7 @@ placed m name (things.Sum k) at =
     (placed_second (refinement_names m) (variable_names m ++ sum_names m) (length (variable_names m) + k) name
     (placed_second (variable_names m) (sum_names m) k name (placed_here (sum_names m) k name at)))
 
-same_thing : (m : Lists) (name : List ℕ) (one other : Thing) → IsNamed m name one → IsNamed m name other → place m one ≡ place m other → one ≡ other
+same_thing : (m : Lists) (name : List ℕ) (one other : Thing) → IsNamedThing m name one → IsNamedThing m name other → place m one ≡ place m other → one ≡ other
 same_thing m name (things.Element i) (things.Element j) a b e = ap (λ k. things.Element k) e
 same_thing m name (things.Element i) (things.Refinement j) a b e =
     let l = slice_get_within (element_names m) i name a in absurd (omega arith)
@@ -104,7 +104,7 @@ same_thing m name (things.Sum i) (things.Var j) a b e =
 same_thing m name (things.Sum i) (things.Sum j) a b e =
     let same : i ≡ j = omega arith in ap (λ k. things.Sum k) same
 
-pub named_once : (m : Lists) → IsWellFormed m → (name : List ℕ) (one other : Thing) → IsNamed m name one → IsNamed m name other → one ≡ other
+pub named_once : (m : Lists) → IsWellFormedModel m → (name : List ℕ) (one other : Thing) → IsNamedThing m name one → IsNamedThing m name other → one ≡ other
 named_once m w name one other a b =
     let p = placed m name one a in
     let q = placed m name other b in
@@ -173,19 +173,19 @@ record ArePlaces (m : Lists) (name : List ℕ) (a b c d : Option ℕ) : Type 0 w
 places_of : (m : Lists) (name : List ℕ) → ArePlaces m name (place_of name (element_names m)) (place_of name (refinement_names m)) (place_of name (variable_names m)) (place_of name (sum_names m))
 places_of m name = record { elements = refl; refinements = refl; vars = refl; sums = refl }
 
-first_named : (m : Lists) (name : List ℕ) (a b c d : Option ℕ) → ArePlaces m name a b c d → (t : Thing) → first_thing a b c d ≡ Some t → IsNamed m name t
-first_named m name (Some k) b c d p t e = subst (IsNamed m name) (same_Some (things.Element k) t e) (place_named (element_names m) name k p.elements)
-first_named m name None (Some k) c d p t e = subst (IsNamed m name) (same_Some (things.Refinement k) t e) (place_named (refinement_names m) name k p.refinements)
-first_named m name None None (Some k) d p t e = subst (IsNamed m name) (same_Some (things.Var k) t e) (place_named (variable_names m) name k p.vars)
-first_named m name None None None (Some k) p t e = subst (IsNamed m name) (same_Some (things.Sum k) t e) (place_named (sum_names m) name k p.sums)
+first_named : (m : Lists) (name : List ℕ) (a b c d : Option ℕ) → ArePlaces m name a b c d → (t : Thing) → first_thing a b c d ≡ Some t → IsNamedThing m name t
+first_named m name (Some k) b c d p t e = subst (IsNamedThing m name) (same_Some (things.Element k) t e) (place_named (element_names m) name k p.elements)
+first_named m name None (Some k) c d p t e = subst (IsNamedThing m name) (same_Some (things.Refinement k) t e) (place_named (refinement_names m) name k p.refinements)
+first_named m name None None (Some k) d p t e = subst (IsNamedThing m name) (same_Some (things.Var k) t e) (place_named (variable_names m) name k p.vars)
+first_named m name None None None (Some k) p t e = subst (IsNamedThing m name) (same_Some (things.Sum k) t e) (place_named (sum_names m) name k p.sums)
 first_named m name None None None None p t e = absurd (none-some t e)
 
-pub named-from_thing_named : (m : Lists) (name : List ℕ) (t : Thing) → thing_named m name ≡ Some t → IsNamed m name t
+pub named-from_thing_named : (m : Lists) (name : List ℕ) (t : Thing) → thing_named m name ≡ Some t → IsNamedThing m name t
 unfolding thing_named
 named-from_thing_named m name t e =
     first_named m name (place_of name (element_names m)) (place_of name (refinement_names m)) (place_of name (variable_names m)) (place_of name (sum_names m)) (places_of m name) t e
 
-first_is_some : (m : Lists) (name : List ℕ) (a b c d : Option ℕ) → ArePlaces m name a b c d → (t : Thing) → IsNamed m name t → first_thing a b c d ≢ None
+first_is_some : (m : Lists) (name : List ℕ) (a b c d : Option ℕ) → ArePlaces m name a b c d → (t : Thing) → IsNamedThing m name t → first_thing a b c d ≢ None
 first_is_some m name (Some k) b c d p t h none = none-some (things.Element k) (sym none)
 first_is_some m name None (Some k) c d p t h none = none-some (things.Refinement k) (sym none)
 first_is_some m name None None (Some k) d p t h none = none-some (things.Var k) (sym none)
@@ -195,24 +195,24 @@ first_is_some m name None None None None p (things.Refinement k) h none = found_
 first_is_some m name None None None None p (things.Var k) h none = found_there (variable_names m) name 0 k h p.vars
 first_is_some m name None None None None p (things.Sum k) h none = found_there (sum_names m) name 0 k h p.sums
 
-pub thing_named-is_some : (m : Lists) (name : List ℕ) (t : Thing) → IsNamed m name t → thing_named m name ≢ None
+pub thing_named-is_some : (m : Lists) (name : List ℕ) (t : Thing) → IsNamedThing m name t → thing_named m name ≢ None
 unfolding thing_named
 thing_named-is_some m name t h =
     first_is_some m name (place_of name (element_names m)) (place_of name (refinement_names m)) (place_of name (variable_names m)) (place_of name (sum_names m)) (places_of m name) t h
 
-by_answer : (m : Lists) → IsWellFormed m → (name : List ℕ) (t : Thing) → IsNamed m name t → (answer : Option Thing) → thing_named m name ≡ answer → thing_named m name ≡ Some t
+by_answer : (m : Lists) → IsWellFormedModel m → (name : List ℕ) (t : Thing) → IsNamedThing m name t → (answer : Option Thing) → thing_named m name ≡ answer → thing_named m name ≡ Some t
 by_answer m w name t h None e = absurd (thing_named-is_some m name t h e)
 by_answer m w name t h (Some u) e =
     e ∙ ap (λ x. Some x) (named_once m w name u t (named-from_thing_named m name u e) h)
 
-pub thing_named-from_named : (m : Lists) → IsWellFormed m → (name : List ℕ) (t : Thing) → IsNamed m name t → thing_named m name ≡ Some t
+pub thing_named-from_named : (m : Lists) → IsWellFormedModel m → (name : List ℕ) (t : Thing) → IsNamedThing m name t → thing_named m name ≡ Some t
 thing_named-from_named m w name t h = by_answer m w name t h (thing_named m name) refl
 
-none_by_answer : (m : Lists) (name : List ℕ) → ((t : Thing) → ¬ IsNamed m name t) → (answer : Option Thing) → thing_named m name ≡ answer → thing_named m name ≡ None
+none_by_answer : (m : Lists) (name : List ℕ) → ((t : Thing) → ¬ IsNamedThing m name t) → (answer : Option Thing) → thing_named m name ≡ answer → thing_named m name ≡ None
 none_by_answer m name h None e = e
 none_by_answer m name h (Some t) e = absurd (h t (named-from_thing_named m name t e))
 
-pub thing_named-none : (m : Lists) (name : List ℕ) → ((t : Thing) → ¬ IsNamed m name t) → thing_named m name ≡ None
+pub thing_named-none : (m : Lists) (name : List ℕ) → ((t : Thing) → ¬ IsNamedThing m name t) → thing_named m name ≡ None
 thing_named-none m name h = none_by_answer m name h (thing_named m name) refl
 
 -- ---- the test for a new name

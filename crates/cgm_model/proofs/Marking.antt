@@ -6,7 +6,7 @@ use Rattle.std.proofs.lemmas.List.Elements.{All-append, All-cons, All-nil, All-h
 use Rattle.std.proofs.lemmas.List.Sums.{sum_by-set, sum_by-cons}
 use Rattle.std.proofs.lemmas.Option.{none-some, same_Some, slice_get-get_or, get_or_from_slice_get, slice_get_within}
 use Rattle.cgm_model.specs.declared.lists.Refinement.{Refinement}
-use Rattle.cgm_model.specs.Graph.{IsNumbering, IsKnown}
+use Rattle.cgm_model.specs.Graph.{IsNumbering, HasKnownElements}
 use Rattle.cgm_model.specs.Search.{IsMarked, unmarked_count, AreBelow, State, state, IsSearch, Continues, MarksEach, IsVisited, Visits, Fills, IsCovered}
 
 pub Continues-same : (s : State) → IsSearch s → Continues s s
@@ -139,8 +139,8 @@ MarksEach-push elements at a b c g h = record {
 pub item_at : {X : Type 0} (P : X → Type 0) (xs : List X) (k : ℕ) (x : X) → All P xs → slice_get xs k ≡ Some x → P x
 item_at P xs k x h at = subst P (get_or_from_slice_get xs k x x at) (h k x (slice_get_within xs k x at))
 
-pub IsKnown-wider : (count more : ℕ) → more ≡ count → (refinements : List Refinement) → All (IsKnown count) refinements → All (IsKnown more) refinements
-IsKnown-wider count more e refinements h = subst (λ n. All (IsKnown n) refinements) (sym e) h
+pub IsKnown-wider : (count more : ℕ) → more ≡ count → (refinements : List Refinement) → All (HasKnownElements count) refinements → All (HasKnownElements more) refinements
+IsKnown-wider count more e refinements h = subst (λ n. All (HasKnownElements n) refinements) (sym e) h
 
 pub Visits-none : (refinements : List Refinement) (element : ℕ) (s : State) → IsSearch s → Visits refinements element [] s s
 Visits-none refinements element s search = record {

@@ -15,7 +15,7 @@ use Rattle.cgm_formula.specs.declared.formula.Formula.TheVariants.{Name, Not, An
 use Rattle.cgm_formula.specs.declared.formula.Linear.{Linear}
 use Rattle.cgm_formula.specs.declared.formula.Number.{Number}
 use Rattle.cgm_formula.specs.declared.formula.Number.TheVariants as number
-use Rattle.cgm_formula.specs.Nodes.{comparisons, comparisons_step, node_count, node_step, joined}
+use Rattle.cgm_formula.specs.Nodes.{comparisons, comparisons_step, node_count, node_step, lists_joined}
 use Rattle.cgm_formula.specs.Reading.{number_in}
 use Rattle.cgm_formula.specs.Sizes.{size, IsSmall, AreSmallIn}
 use Rattle.cgm_formula.proofs.Folds.{fold-Name, fold-Not, fold-And, fold-Or, fold-Implies, fold-Iff, fold-AtMost, fold-AtLeast, fold-Equal}
@@ -24,12 +24,12 @@ use Rattle.cgm_model.specs.declared.lists.Lists.{Lists}
 use Rattle.cgm_model.specs.declared.lists.Rule.{Rule}
 use Rattle.cgm_model.specs.declared.lists.Rule.TheVariants as rules
 use Rattle.cgm_model.specs.declared.lists.Variable.{Variable}
-use Rattle.cgm_model.specs.Assignment.{Fits, IsWithin}
+use Rattle.cgm_model.specs.Assignment.{Fits, IsWithinBounds}
 use Rattle.cgm_model.specs.Formulas.{formula_of, every_linear, has_small_terms, node_total}
 use Rattle.cgm_model.specs.Place.{EachFrom}
 use Rattle.cgm_model.specs.Realization.{KeepsRule}
 use Rattle.cgm_model.specs.Sums.{sums_of}
-use Rattle.cgm_model.specs.WellFormed.{IsVariable, IsWellFormed}
+use Rattle.cgm_model.specs.WellFormed.{IsVariable, IsWellFormedModel}
 use Rattle.cgm_model.proofs.Sizes.{sums_size}
 
 pub keeps_anywhere : (a : Assignment) (sums : List ℤ) (i j : ℕ) (r : Rule) → KeepsRule a sums i r → KeepsRule a sums j r
@@ -46,7 +46,7 @@ most_number = 1000000000000
 between : (lo hi z : ℤ) → unsigned_abs lo ≤ limit_number limits.VariableBound → unsigned_abs hi ≤ limit_number limits.VariableBound → lo ≤ℤ z → z ≤ℤ hi → unsigned_abs z ≤ limit_number limits.VariableBound
 between lo hi z a b low high = grind (arith, ints)
 
-within_from : (vars : List Variable) (values all : List ℤ) (place k : ℕ) → ((j : ℕ) → get_or all (place + j) (pos 0) ≡ get_or values j (pos 0)) → length values ≡ length vars → All IsVariable vars → EachFrom place (IsWithin all) vars → unsigned_abs (get_or values k (pos 0)) ≤ limit_number limits.VariableBound
+within_from : (vars : List Variable) (values all : List ℤ) (place k : ℕ) → ((j : ℕ) → get_or all (place + j) (pos 0) ≡ get_or values j (pos 0)) → length values ≡ length vars → All IsVariable vars → EachFrom place (IsWithinBounds all) vars → unsigned_abs (get_or values k (pos 0)) ≤ limit_number limits.VariableBound
 within_from vars [] all place k same long good each = omega arith
 within_from [] (z ∷ values) all place k same long good each = absurd (omega arith)
 within_from (v ∷ vars) (z ∷ values) all place zero same long good each =
@@ -59,7 +59,7 @@ within_from (v ∷ vars) (z ∷ values) all place zero same long good each =
 within_from (v ∷ vars) (z ∷ values) all place (suc k) same long good each =
     within_from vars values all (place + 1) k (λ j. ap (λ i. get_or all i (pos 0)) (let e : place + 1 + j ≡ place + suc j = omega arith in e) ∙ same (suc j)) (omega arith) (λ i d l. good (suc i) d (omega arith)) each.1
 
-number_small : (m : Lists) (a : Assignment) (sums : List ℤ) → IsWellFormed m → Fits m a → sums ≡ sums_of m a → (x : Number) → unsigned_abs (number_in a sums x) ≤ most_number
+number_small : (m : Lists) (a : Assignment) (sums : List ℤ) → IsWellFormedModel m → Fits m a → sums ≡ sums_of m a → (x : Number) → unsigned_abs (number_in a sums x) ≤ most_number
 number_small m a sums w fits is (number.Var k) =
     let small = within_from m.vars a.vars a.vars 0 k (λ j. ap (λ i. get_or a.vars i (pos 0)) (let e : 0 + j ≡ j = omega arith in e)) fits.vars w.vars fits.bounds in
     omega (arith, small)
@@ -98,15 +98,15 @@ join count (c ∷ cs) ds h k = (h.0, join count cs ds h.1 k)
 sum_first : (n : ℕ) (ns : List ℕ) → sum (n ∷ ns) ≡ n + sum ns
 sum_first n ns = sum_by-cons (λ x. x) n ns
 
-joined_counted : (count : ℕ) (fs : List Formula) → sum (map node_count fs) ≤ count → AllByRecursion AreCounted fs → AllByRecursion (IsCounted count) (joined (map comparisons fs))
+joined_counted : (count : ℕ) (fs : List Formula) → sum (map node_count fs) ≤ count → AllByRecursion AreCounted fs → AllByRecursion (IsCounted count) (lists_joined (map comparisons fs))
 joined_counted count [] l h = tt
 joined_counted count (f ∷ fs) l h =
     let total : sum (map node_count (f ∷ fs)) ≡ node_count f + sum (map node_count fs) = sum_first (node_count f) (map node_count fs) in
-    join count (comparisons f) (joined (map comparisons fs))
+    join count (comparisons f) (lists_joined (map comparisons fs))
     (each_counted (node_count f) count (omega (arith, total)) (comparisons f) h.0)
     (joined_counted count fs (omega (arith, total)) h.1)
 
-parts_counted : (f : Formula) (fs : List Formula) → comparisons f ≡ joined (map comparisons fs) → node_count f ≡ 1 + sum (map node_count fs) → AllByRecursion AreCounted fs → AreCounted f
+parts_counted : (f : Formula) (fs : List Formula) → comparisons f ≡ lists_joined (map comparisons fs) → node_count f ≡ 1 + sum (map node_count fs) → AllByRecursion AreCounted fs → AreCounted f
 parts_counted f fs cs ns h =
     subst (AllByRecursion (IsCounted (node_count f))) (sym cs) (joined_counted (node_count f) fs (omega (arith, ns)) h)
 
@@ -154,7 +154,7 @@ formula_small numbers f small l e =
 nodes_of_one : (rs : List Rule) (k : ℕ) (d : Rule) → k < length rs → node_count (formula_of (get_or rs k d)) ≤ node_total rs
 nodes_of_one rs k d l = get_or-le-sum_by (λ r. node_count (formula_of r)) rs k d l
 
-pub rules_small : (m : Lists) → IsWellFormed m → (a : Assignment) (sums : List ℤ) → Fits m a → sums ≡ sums_of m a → All (λ r. AreSmallIn (number_in a sums) (formula_of r)) m.rules
+pub rules_small : (m : Lists) → IsWellFormedModel m → (a : Assignment) (sums : List ℤ) → Fits m a → sums ≡ sums_of m a → All (λ r. AreSmallIn (number_in a sums) (formula_of r)) m.rules
 rules_small m w a sums fits is k d l =
     formula_small (number_in a sums) (formula_of (get_or m.rules k d)) (number_small m a sums w fits is)
     (omega (arith, nodes_of_one m.rules k d l, w.limits.formula_nodes)) (w.rules k d l).small

@@ -12,7 +12,7 @@ use Rattle.cgm_model.specs.declared.lists.Lists.{Lists}
 use Rattle.cgm_model.specs.declared.lists.SumValue.{SumValue}
 use Rattle.cgm_model.specs.declared.lists.Weighing.{Weighing}
 use Rattle.cgm_model.specs.Sums.{total_by, value_for, sum_value, sums_of, weight_for, weight}
-use Rattle.cgm_model.specs.WellFormed.{IsWellFormed}
+use Rattle.cgm_model.specs.WellFormed.{IsWellFormedModel}
 
 -- ---- signed steps
 
@@ -40,7 +40,7 @@ total_size number (x ∷ xs) small =
 pub value_number_size : (a : Assignment) (sum : ℕ) (v : SumValue) → unsigned_abs v.k ≤ 1000000 → unsigned_abs (value_for a sum v) ≤ 1000000
 value_number_size a sum v small = picked_size ((v.sum == sum) && name_in a v.of) v.k 1000000 small
 
-pub sum_size : (m : Lists) → IsWellFormed m → (a : Assignment) (sum : ℕ) → unsigned_abs (sum_value m a sum) ≤ 1000000000000
+pub sum_size : (m : Lists) → IsWellFormedModel m → (a : Assignment) (sum : ℕ) → unsigned_abs (sum_value m a sum) ≤ 1000000000000
 sum_size m w a sum =
     let whole = total_size (value_for a sum) m.values (λ k d l. value_number_size a sum (get_or m.values k d) (w.values k d l).small) in
     omega (arith, whole, w.limits.statements)
@@ -49,7 +49,7 @@ sum_size m w a sum =
 pub sum_at : (m : Lists) (a : Assignment) (k : ℕ) → k < length m.sums → get_or (sums_of m a) k (pos 0) ≡ sum_value m a k
 sum_at m a k l = get_or-map-range_with_len (sum_value m a) 0 (length m.sums) k k (pos 0) l (omega arith)
 
-pub sums_size : (m : Lists) → IsWellFormed m → (a : Assignment) (k : ℕ) → unsigned_abs (get_or (sums_of m a) k (pos 0)) ≤ 1000000000000
+pub sums_size : (m : Lists) → IsWellFormedModel m → (a : Assignment) (k : ℕ) → unsigned_abs (get_or (sums_of m a) k (pos 0)) ≤ 1000000000000
 sums_size m w a k =
     ⊎_elim
     (λ there. let at = ap unsigned_abs (sum_at m a k there) in omega (arith, at, sum_size m w a k))
@@ -64,7 +64,7 @@ sums_size m w a k =
 pub weight_number_size : (a : Assignment) (w : Weighing) → unsigned_abs w.k ≤ 1000000 → unsigned_abs (weight_for a w) ≤ 1000000
 weight_number_size a w small = picked_size (name_in a (Element w.element)) w.k 1000000 small
 
-pub weight_size : (m : Lists) → IsWellFormed m → (a : Assignment) → unsigned_abs (weight m a) ≤ 1000000000000
+pub weight_size : (m : Lists) → IsWellFormedModel m → (a : Assignment) → unsigned_abs (weight m a) ≤ 1000000000000
 weight_size m w a =
     let penalties = total_size (weight_for a) m.penalties (λ k d l. weight_number_size a (get_or m.penalties k d) (w.penalties k d l).small) in
     let rewards = total_size (weight_for a) m.rewards (λ k d l. weight_number_size a (get_or m.rewards k d) (w.rewards k d l).small) in

@@ -7,7 +7,7 @@ use Rattle.std.proofs.lemmas.Option.{none-some, same_Some}
 use Rattle.cgm_model.specs.declared.lists.Refinement.{Refinement}
 use Rattle.cgm_model.specs.declared.graph.Graph.{Graph}
 use Rattle.cgm_model.specs.Search.{IsMarked}
-use Rattle.cgm_model.specs.TargetIndex.{IsIndexOf}
+use Rattle.cgm_model.specs.TargetIndex.{IsTargetIndexOf}
 
 Contains-front : (xs ys : List ℕ) (n : ℕ) → Contains xs n → Contains (xs ++ ys) n
 Contains-front xs ys n h = (h.0, omega (arith, h.1, length-append xs ys), get_or_append_left xs ys n h.0 h.1 ∙ h.2)
@@ -56,7 +56,7 @@ marked_front (x ∷ xs) ys zero m = m
 marked_front (x ∷ xs) ys (suc k) m = marked_front xs ys k m
 
 -- the index after a change that loses nothing
-pub IsIndexOf-kept : (rs : List Refinement) (old new : Graph) → Grows old.by_target.items new.by_target.items → ((element : ℕ) → IsMarked old.is_source.items element → IsMarked new.is_source.items element) → length new.marks.items ≤ length new.by_target.items → length new.marks.items ≤ length new.is_source.items → length new.marks.items ≤ length new.queue.items → IsIndexOf rs old → IsIndexOf rs new
+pub IsIndexOf-kept : (rs : List Refinement) (old new : Graph) → Grows old.by_target.items new.by_target.items → ((element : ℕ) → IsMarked old.is_source.items element → IsMarked new.is_source.items element) → length new.marks.items ≤ length new.by_target.items → length new.marks.items ≤ length new.is_source.items → length new.marks.items ≤ length new.queue.items → IsTargetIndexOf rs old → IsTargetIndexOf rs new
 IsIndexOf-kept rs old new grows flags targets sources queue h = record {
   covered = λ k r at. grows.kept r.target k (h.covered k r at);
   flagged = λ k d l j e m. flags (get_or (get_or rs k d).sources j e) (h.flagged k d l j e m);
@@ -65,7 +65,7 @@ IsIndexOf-kept rs old new grows flags targets sources queue h = record {
   queue = queue;
 }
 
-pub IsIndexOf-linked : (rs : List Refinement) (r : Refinement) (number : ℕ) (new : Graph) → number ≡ length rs → Contains (get_or new.by_target.items r.target []) number → All (IsMarked new.is_source.items) r.sources → IsIndexOf rs new → IsIndexOf (rs ++ r ∷ []) new
+pub IsIndexOf-linked : (rs : List Refinement) (r : Refinement) (number : ℕ) (new : Graph) → number ≡ length rs → Contains (get_or new.by_target.items r.target []) number → All (IsMarked new.is_source.items) r.sources → IsTargetIndexOf rs new → IsTargetIndexOf (rs ++ r ∷ []) new
 IsIndexOf-linked rs r number new is stands flagged h = record {
   covered = λ k q at.
       ⊎_elim

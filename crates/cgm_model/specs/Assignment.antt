@@ -7,7 +7,7 @@ use Rattle.cgm_model.specs.declared.lists.Variable.{Variable}
 use Rattle.cgm_model.specs.Place.{Each}
 
 -- the value at the variable's place is within its bounds
-pub record IsWithin (values : List ℤ) (place : ℕ) (v : Variable) : Type 0 where
+pub record IsWithinBounds (values : List ℤ) (place : ℕ) (v : Variable) : Type 0 where
   pub low : v.lo ≤ℤ slice_index_or values place (pos 0)
   pub high : slice_index_or values place (pos 0) ≤ℤ v.hi
 
@@ -15,7 +15,7 @@ pub record Fits (m : Lists) (a : Assignment) : Type 0 where
   pub elements : length a.elements ≡ length m.elements
   pub refinements : length a.refinements ≡ length m.refinements
   pub vars : length a.vars ≡ length m.vars
-  pub bounds : Each (IsWithin a.vars) m.vars
+  pub bounds : Each (IsWithinBounds a.vars) m.vars
 
 abbrev pub ElementIsTrue : Assignment → ℕ → Type 0
 ElementIsTrue a element = IsTrue (slice_index_or a.elements element false)

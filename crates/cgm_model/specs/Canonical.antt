@@ -4,7 +4,7 @@ use Rattle.cgm_model.specs.declared.lists.Lists.{Lists}
 use Rattle.cgm_model.specs.declared.lists.Statement.{Statement}
 use Rattle.cgm_model.specs.declared.lists.Statement.TheVariants as statements
 use Rattle.cgm_model.specs.Lists.{added}
-use Rattle.cgm_model.specs.Statement.{IsProper, IsAllowed}
+use Rattle.cgm_model.specs.Statement.{IsProperStatement, IsAllowed}
 
 -- by group, each group in its order
 abbrev pub statements_of : Lists → List Statement
@@ -31,6 +31,6 @@ after m [] = m
 after m (s ∷ ss) = after (added m s) ss
 
 -- each statement is proper and allowed after those before it
-abbrev pub StandInOrder : Lists → List Statement → Type 0
-StandInOrder m [] = Unit {0}
-StandInOrder m (s ∷ ss) = IsProper m s × IsAllowed m s × StandInOrder (added m s) ss
+abbrev pub StatementsStandInOrder : Lists → List Statement → Type 0
+StatementsStandInOrder m [] = Unit {0}
+StatementsStandInOrder m (s ∷ ss) = IsProperStatement m s × IsAllowed m s × StatementsStandInOrder (added m s) ss

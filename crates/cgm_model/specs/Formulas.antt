@@ -42,7 +42,7 @@ IsKnownNumber m (number.Sum k) = k < length m.sums
 
 -- every name and number is there, nothing is empty, and at most 200 brackets are open at once
 pub record IsProperFormula (m : Lists) (f : Formula) : Type 0 where
-  pub names : All (IsKnownTruth m) (nodes.names f)
+  pub names : All (IsKnownTruth m) (nodes.formula_names f)
   pub numbers : All (λ c. All (λ t. IsKnownNumber m t.1) c.0.terms) (nodes.comparisons f)
   pub full : IsTrue (nodes.is_full f)
   pub depth : nodes.depth f ≤ limit_number limits.FormulaDepth

@@ -10,6 +10,6 @@ abbrev pub IsAcyclic : List Refinement → Type 0
 IsAcyclic refinements = (f : ℕ → ℕ) × IsNumbering f refinements
 
 -- the refinement names only elements among so many
-pub record IsKnown (count : ℕ) (r : Refinement) : Type 0 where
+pub record HasKnownElements (count : ℕ) (r : Refinement) : Type 0 where
   pub target : r.target < count
   pub sources : All (λ source. source < count) r.sources

@@ -7,18 +7,18 @@ use Rattle.cgm_model.specs.declared.aids.Aids.{Aids}
 use Rattle.cgm_model.specs.declared.lists.Lists.{Lists}
 use Rattle.cgm_model.specs.declared.lists.Thing.{Thing}
 use Rattle.cgm_model.specs.Formulas.{node_total}
-use Rattle.cgm_model.specs.Named.{IsNamed}
-use Rattle.cgm_model.specs.NameTable.{found}
-use Rattle.cgm_model.specs.TargetIndex.{IsIndexOf, HasRoomFor}
+use Rattle.cgm_model.specs.Named.{IsNamedThing}
+use Rattle.cgm_model.specs.NameTable.{thing_found}
+use Rattle.cgm_model.specs.TargetIndex.{IsTargetIndexOf, HasTargetRoomFor}
 
 -- there is room to take this many elements into the graph and to mark them
-pub record HasRoom (count : ℕ) (aids : Aids) : Type 0 where
-  pub graph : HasRoomFor count aids.graph
+pub record HasGraphRoom (count : ℕ) (aids : Aids) : Type 0 where
+  pub graph : HasTargetRoomFor count aids.graph
   pub interests : count ≤ length aids.interests.items
 
 pub record AreFor (m : Lists) (aids : Aids) : Type 0 where
-  pub names : (name : List ℕ) (thing : Thing) → IsNamed m name thing → found aids.names name ≡ Some thing
-  pub graph : IsIndexOf m.refinements aids.graph
-  pub room : HasRoom (length m.elements) aids
+  pub names : (name : List ℕ) (thing : Thing) → IsNamedThing m name thing → thing_found aids.names name ≡ Some thing
+  pub graph : IsTargetIndexOf m.refinements aids.graph
+  pub room : HasGraphRoom (length m.elements) aids
   pub nodes : aids.node_room + node_total m.rules ≡ limit_number limits.FormulaNodes
   pub interests : (k : ℕ) → slice_index_or aids.interests.items k false ≡ list_any (λ j. j == k) m.interests

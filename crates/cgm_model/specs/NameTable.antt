@@ -5,5 +5,5 @@ use Rattle.indexmap.specs.IndexMap.{get_by}
 use Rattle.cgm_model.specs.declared.lists.Thing.{Thing}
 use Rattle.cgm_model.specs.declared.names.NameTable.{NameTable}
 
-abbrev pub found : NameTable → List ℕ → Option Thing
-found t name = get_by (λ key. bytes_eq name key.items) t.entries
+abbrev pub thing_found : NameTable → List ℕ → Option Thing
+thing_found t name = get_by (λ key. bytes_eq name key.items) t.entries

@@ -24,11 +24,11 @@ abbrev pub names : Lists → List (List ℕ)
 names m = element_names m ++ (refinement_names m ++ (variable_names m ++ sum_names m))
 
 -- the thing has this name
-abbrev pub IsNamed : Lists → List ℕ → Thing → Type 0
-IsNamed m name (things.Element k) = slice_get (element_names m) k ≡ Some name
-IsNamed m name (things.Refinement k) = slice_get (refinement_names m) k ≡ Some name
-IsNamed m name (things.Var k) = slice_get (variable_names m) k ≡ Some name
-IsNamed m name (things.Sum k) = slice_get (sum_names m) k ≡ Some name
+abbrev pub IsNamedThing : Lists → List ℕ → Thing → Type 0
+IsNamedThing m name (things.Element k) = slice_get (element_names m) k ≡ Some name
+IsNamedThing m name (things.Refinement k) = slice_get (refinement_names m) k ≡ Some name
+IsNamedThing m name (things.Var k) = slice_get (variable_names m) k ≡ Some name
+IsNamedThing m name (things.Sum k) = slice_get (sum_names m) k ≡ Some name
 
 -- the place of a name in a list of names
 abbrev pub place_of : List ℕ → List (List ℕ) → Option ℕ

@@ -60,14 +60,14 @@ pub record Visits (refinements : List Refinement) (element : ℕ) (numbers : Lis
   pub below : (f : ℕ → ℕ) (bound : ℕ) → IsNumbering f refinements → f element < bound → AreBelow f bound old.marks → AreBelow f bound new.marks
 
 -- where the target is marked, so is each source
-abbrev pub IsClosed : List Bool → Refinement → Type 0
-IsClosed marks r = IsMarked marks r.target → All (IsMarked marks) r.sources
+abbrev pub IsClosedUnderSources : List Bool → Refinement → Type 0
+IsClosedUnderSources marks r = IsMarked marks r.target → All (IsMarked marks) r.sources
 
 -- marks have gone from targets to their sources alone, until they were closed
 pub record Fills (refinements : List Refinement) (old new : List Bool) : Type 0 where
   pub kept : (element : ℕ) → IsMarked old element → IsMarked new element
   pub below : (f : ℕ → ℕ) (bound : ℕ) → IsNumbering f refinements → AreBelow f bound old → AreBelow f bound new
-  pub closed : All (IsClosed new) refinements
+  pub closed : All (IsClosedUnderSources new) refinements
 
 -- each refinement's number stands in the list of its target
 abbrev pub IsCovered : List (List ℕ) → List Refinement → Type 0

@@ -29,8 +29,8 @@ abbrev pub IsEdgeOf : ℕ → Edge → Type 0
 IsEdgeOf count e = (e.from < count) × (e.to < count)
 
 -- both sides are there
-abbrev pub IsPreference : Lists → Preference → Type 0
-IsPreference m p = IsKnownTruth m p.better × IsKnownTruth m p.worse
+abbrev pub IsProperPreference : Lists → Preference → Type 0
+IsProperPreference m p = IsKnownTruth m p.better × IsKnownTruth m p.worse
 
 -- the variable or sum of an objective is there
 abbrev pub IsKnownQuantity : Lists → Quantity → Type 0
@@ -39,23 +39,23 @@ IsKnownQuantity m (quantities.Sum k) = k < length m.sums
 IsKnownQuantity m built_in = Unit {0}
 
 -- every number names something that is there, nothing is empty, and a goal alone has `must`
-abbrev pub IsProper : Lists → Statement → Type 0
-IsProper m (statements.Element e) = IsTrue e.must → e.kind ≡ kinds.Goal
-IsProper m (statements.Refine r) =
+abbrev pub IsProperStatement : Lists → Statement → Type 0
+IsProperStatement m (statements.Element e) = IsTrue e.must → e.kind ≡ kinds.Goal
+IsProperStatement m (statements.Refine r) =
     (r.target < length m.elements) × (0 < length r.sources) × All (λ source. source < length m.elements) r.sources
-IsProper m (statements.Variable v) = Unit {0}
-IsProper m (statements.Sum x) = Unit {0}
-IsProper m (statements.Contrib e) = IsEdgeOf (length m.elements) e
-IsProper m (statements.Conflict e) = IsEdgeOf (length m.elements) e
-IsProper m (statements.Bind e) = IsEdgeOf (length m.refinements) e
-IsProper m (statements.Assert a) = a.element < length m.elements
-IsProper m (statements.Value v) = (v.sum < length m.sums) × IsKnownTruth m v.of
-IsProper m (statements.Reward w) = w.element < length m.elements
-IsProper m (statements.Penalty w) = w.element < length m.elements
-IsProper m (statements.Prefer p) = IsPreference m p
-IsProper m (statements.Rule r) = IsProperRule m r
-IsProper m (statements.Interest k) = k < length m.elements
-IsProper m (statements.Objective o) = IsKnownQuantity m o.of
+IsProperStatement m (statements.Variable v) = Unit {0}
+IsProperStatement m (statements.Sum x) = Unit {0}
+IsProperStatement m (statements.Contrib e) = IsEdgeOf (length m.elements) e
+IsProperStatement m (statements.Conflict e) = IsEdgeOf (length m.elements) e
+IsProperStatement m (statements.Bind e) = IsEdgeOf (length m.refinements) e
+IsProperStatement m (statements.Assert a) = a.element < length m.elements
+IsProperStatement m (statements.Value v) = (v.sum < length m.sums) × IsKnownTruth m v.of
+IsProperStatement m (statements.Reward w) = w.element < length m.elements
+IsProperStatement m (statements.Penalty w) = w.element < length m.elements
+IsProperStatement m (statements.Prefer p) = IsProperPreference m p
+IsProperStatement m (statements.Rule r) = IsProperRule m r
+IsProperStatement m (statements.Interest k) = k < length m.elements
+IsProperStatement m (statements.Objective o) = IsKnownQuantity m o.of
 
 -- the names that a statement declares: one or none
 abbrev pub declared_names : Statement → List (List ℕ)

@@ -16,7 +16,7 @@ use Rattle.cgm_model.specs.Graph.{IsAcyclic}
 use Rattle.cgm_model.specs.Lists.{statement_count}
 use Rattle.cgm_model.specs.Name.{is_name}
 use Rattle.cgm_model.specs.Named.{names}
-use Rattle.cgm_model.specs.Statement.{IsEdgeOf, IsPreference, IsKnownQuantity, is_distinct}
+use Rattle.cgm_model.specs.Statement.{IsEdgeOf, IsProperPreference, IsKnownQuantity, is_distinct}
 
 pub record AreNames (ns : List (List ℕ)) : Type 0 where
   pub spelled : All (λ n. IsTrue (is_name n)) ns
@@ -47,7 +47,7 @@ pub record IsValue (m : Lists) (v : SumValue) : Type 0 where
   pub of : IsKnownTruth m v.of
   pub small : unsigned_abs v.k ≤ limit_number limits.Coefficient
 
-pub record IsWeighing (m : Lists) (w : Weighing) : Type 0 where
+pub record IsProperWeighing (m : Lists) (w : Weighing) : Type 0 where
   pub element : w.element < length m.elements
   pub small : unsigned_abs w.k ≤ limit_number limits.Coefficient
 
@@ -63,7 +63,7 @@ pub record AreWithinLimits (m : Lists) : Type 0 where
   pub formula_nodes : node_total m.rules ≤ limit_number limits.FormulaNodes
   pub objectives : length m.objectives ≤ limit_number limits.Objectives
 
-pub record IsWellFormed (m : Lists) : Type 0 where
+pub record IsWellFormedModel (m : Lists) : Type 0 where
   pub names : AreNames (names m)
   pub elements : All IsElement m.elements
   pub refinements : All (IsRefinement m) m.refinements
@@ -74,9 +74,9 @@ pub record IsWellFormed (m : Lists) : Type 0 where
   pub binds : All (IsEdgeOf (length m.refinements)) m.binds
   pub asserts : All (IsAssertion m) m.asserts
   pub values : All (IsValue m) m.values
-  pub rewards : All (IsWeighing m) m.rewards
-  pub penalties : All (IsWeighing m) m.penalties
-  pub prefers : All (IsPreference m) m.prefers
+  pub rewards : All (IsProperWeighing m) m.rewards
+  pub penalties : All (IsProperWeighing m) m.penalties
+  pub prefers : All (IsProperPreference m) m.prefers
   pub rules : All (IsRule m) m.rules
   pub interests : All (λ k. k < length m.elements) m.interests
   pub distinct_interests : IsTrue (is_distinct m.interests)

@@ -7,7 +7,7 @@ ghost use Rattle.cgm_model.specs.Formulas.{is_small, node_total};
 ghost use Rattle.cgm_model.specs.Lists.{added, statement_count};
 ghost use Rattle.cgm_model.specs.Name as spelling;
 ghost use Rattle.cgm_model.specs.Statement as tests;
-ghost use Rattle.cgm_model.specs.WellFormed.{IsWellFormed};
+ghost use Rattle.cgm_model.specs.WellFormed.{IsWellFormedModel};
 ghost use Rattle.cgm_model.specs.Keeping.{AreFor};
 
 use crate::aids::Aids;
@@ -26,9 +26,9 @@ pub(crate) fn refusal(
     statement: &Statement,
     acyclic: bool,
 ) -> Option<AddStop>
-    requires well_formed { IsWellFormed lists.now }
+    requires well_formed { IsWellFormedModel lists.now }
     requires aids { AreFor lists.now aids.now }
-    requires proper { tests.IsProper lists.now statement.now }
+    requires proper { tests.IsProperStatement lists.now statement.now }
     ensures { result ≡ tests.refusal lists.now statement.now acyclic }
 {
     first_failing(&[
@@ -140,7 +140,7 @@ fn has_spelled_name(statement: &Statement) -> bool
 }
 
 fn has_new_name(lists: &Lists, aids: &Aids, statement: &Statement) -> bool
-    requires well_formed { IsWellFormed lists.now }
+    requires well_formed { IsWellFormedModel lists.now }
     requires aids { AreFor lists.now aids.now }
     ensures { result ≡ list_all (tests.is_new lists.now) (tests.declared_names statement.now) }
 {
@@ -258,7 +258,7 @@ fn refines_assumption(lists: &Lists, statement: &Statement) -> bool
 }
 
 fn statement_count(lists: &Lists) -> usize
-    requires { IsWellFormed lists.now }
+    requires { IsWellFormedModel lists.now }
     ensures { result ≡ statement_count lists.now }
 {
     lists.elements.as_slice().len()
@@ -279,7 +279,7 @@ fn statement_count(lists: &Lists) -> usize
 }
 
 fn element_count(lists: &Lists, statement: &Statement) -> usize
-    requires { IsWellFormed lists.now }
+    requires { IsWellFormedModel lists.now }
     ensures { result ≡ length (added lists.now statement.now).elements }
 {
     let count = lists.elements.as_slice().len();
@@ -290,7 +290,7 @@ fn element_count(lists: &Lists, statement: &Statement) -> usize
 }
 
 fn refinement_count(lists: &Lists, statement: &Statement) -> usize
-    requires { IsWellFormed lists.now }
+    requires { IsWellFormedModel lists.now }
     ensures { result ≡ length (added lists.now statement.now).refinements }
 {
     let count = lists.refinements.as_slice().len();
@@ -301,7 +301,7 @@ fn refinement_count(lists: &Lists, statement: &Statement) -> usize
 }
 
 fn objective_count(lists: &Lists, statement: &Statement) -> usize
-    requires { IsWellFormed lists.now }
+    requires { IsWellFormedModel lists.now }
     ensures { result ≡ length (added lists.now statement.now).objectives }
 {
     let count = lists.objectives.as_slice().len();

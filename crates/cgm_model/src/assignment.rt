@@ -1,6 +1,6 @@
 //! Whether an assignment fits a model.
 ghost use Rattle.std.specs.Prelude.{◌↔◌, ◌≡◌, ◌<◌, length, IsTrue};
-ghost use Rattle.cgm_model.specs.Assignment.{Fits, IsWithin};
+ghost use Rattle.cgm_model.specs.Assignment.{Fits, IsWithinBounds};
 ghost use Rattle.cgm_model.specs.Model.{lists_of};
 ghost use Rattle.cgm_model.specs.Place.{Each};
 
@@ -21,7 +21,7 @@ pub fn fits(model: &Model, assignment: &Assignment) -> bool
 
 fn are_within(vars: &[Variable], values: &[i64]) -> bool
     requires { length values.now ≡ length vars.now }
-    ensures { IsTrue result ↔ Each (IsWithin values.now) vars.now }
+    ensures { IsTrue result ↔ Each (IsWithinBounds values.now) vars.now }
 {
     for (place, v) in vars.iter().enumerate() {
         if !is_within(values, place, v) {
@@ -33,7 +33,7 @@ fn are_within(vars: &[Variable], values: &[i64]) -> bool
 
 fn is_within(values: &[i64], place: usize, variable: &Variable) -> bool
     requires { place < length values.now }
-    ensures { IsTrue result ↔ IsWithin values.now place variable.now }
+    ensures { IsTrue result ↔ IsWithinBounds values.now place variable.now }
 {
     variable.lo <= values[place] && values[place] <= variable.hi
 }

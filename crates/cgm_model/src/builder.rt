@@ -3,12 +3,12 @@ ghost use Rattle.std.specs.Prelude.{◌≡◌, ◌↔◌, ◌+◌, if◌then◌e
 ghost use Rattle.cgm_model.specs.Facts.{AreFacts};
 ghost use Rattle.cgm_model.specs.Graph.{IsAcyclic};
 ghost use Rattle.cgm_model.specs.declared.lists.Lists.{Lists};
-ghost use Rattle.cgm_model.specs.Keeping.{AreFor, HasRoom};
+ghost use Rattle.cgm_model.specs.Keeping.{AreFor, HasGraphRoom};
 ghost use Rattle.cgm_model.specs.Lists.{no_lists, added};
 ghost use Rattle.cgm_model.specs.Model.{lists_of};
 ghost use Rattle.cgm_model.specs.Named.{thing_named};
-ghost use Rattle.cgm_model.specs.Statement.{IsProper, IsAllowed, IsNotAdded};
-ghost use Rattle.cgm_model.specs.WellFormed.{IsWellFormed};
+ghost use Rattle.cgm_model.specs.Statement.{IsProperStatement, IsAllowed, IsNotAdded};
+ghost use Rattle.cgm_model.specs.WellFormed.{IsWellFormedModel};
 
 use crate::aids::Aids;
 use crate::facts::Facts;
@@ -33,7 +33,7 @@ impl marker::Model for ModelBuilder {
     ghost use Rattle.cgm_model.specs.contracts.lists.Lists as values;
     ghost use Rattle.cgm_model.specs.declared.lists.Lists.{Lists};
     ghost use Rattle.cgm_model.specs.Keeping.{AreFor};
-    ghost use Rattle.cgm_model.specs.WellFormed.{IsWellFormed};
+    ghost use Rattle.cgm_model.specs.WellFormed.{IsWellFormedModel};
 
     ghost Value = { Lists };
 
@@ -41,14 +41,14 @@ impl marker::Model for ModelBuilder {
 
     ghost view = { λ b. b.lists };
 
-    ghost invariant = { λ b. IsWellFormed b.lists × AreFor b.lists b.aids };
+    ghost invariant = { λ b. IsWellFormedModel b.lists × AreFor b.lists b.aids };
 }
 
 impl ModelBuilder {
     /// The empty model. It takes no memory.
     pub fn new(alloc: Global) -> ModelBuilder
         ensures empty { result ≡ no_lists }
-        ensures known { IsWellFormed result }
+        ensures known { IsWellFormedModel result }
     {
         ModelBuilder {
             lists: empty_lists(alloc),
@@ -64,7 +64,7 @@ impl ModelBuilder {
 
     /// Answers what this name was declared as by a statement so far, if it was. It takes no memory.
     pub fn find(&self, name: &[u8]) -> Option<Thing>
-        ensures known { IsWellFormed self.now }
+        ensures known { IsWellFormedModel self.now }
         ensures found { result ≡ thing_named self.now name.now }
     {
         names::find(&self.lists, &self.aids, name)
@@ -76,12 +76,12 @@ impl ModelBuilder {
     /// comes for the first test that fails, and only what is allowed can lack memory. Each leaves
     /// the builder as it was.
     pub fn add(&mut self, statement: Statement) -> Result<(), AddStop>
-        requires { IsProper self.old statement }
+        requires { IsProperStatement self.old statement }
         ensures added { OnOk result (self.new ≡ added self.old statement) }
         ensures allowed { OnOk result (IsAllowed self.old statement) }
         ensures refused { IfErr result (IsNotAdded self.old statement) }
         ensures unchanged { OnErr result (self.new ≡ self.old) }
-        ensures known { IsWellFormed self.new }
+        ensures known { IsWellFormedModel self.new }
     {
         add(&mut self.lists, &mut self.aids, statement)
     }
@@ -132,7 +132,7 @@ impl ModelBuilder {
 
 /// The facts of the graph, by what was kept to find cycles.
 fn facts_of(lists: &Lists, aids: Aids) -> Facts
-    requires well_formed { IsWellFormed lists.now }
+    requires well_formed { IsWellFormedModel lists.now }
     requires aids { AreFor lists.now aids }
     ensures { AreFacts lists.now.refinements result }
 {
@@ -170,14 +170,14 @@ fn empty_lists(alloc: Global) -> Lists
 
 /// Adds a statement that passes each test, or answers the first that it fails.
 fn add(lists: &mut Lists, aids: &mut Aids, statement: Statement) -> Result<(), AddStop>
-    requires well_formed { IsWellFormed lists.old }
+    requires well_formed { IsWellFormedModel lists.old }
     requires aids { AreFor lists.old aids.old }
-    requires proper { IsProper lists.old statement }
+    requires proper { IsProperStatement lists.old statement }
     ensures added { OnOk result (lists.new ≡ added lists.old statement) }
     ensures allowed { OnOk result (IsAllowed lists.old statement) }
     ensures refused { IfErr result (IsNotAdded lists.old statement) }
     ensures unchanged { OnErr result (lists.new ≡ lists.old) }
-    ensures known { IsWellFormed lists.new }
+    ensures known { IsWellFormedModel lists.new }
     ensures aids { AreFor lists.new aids.new }
 {
     let acyclic = stays_acyclic(lists, aids, &statement);
@@ -189,9 +189,9 @@ fn add(lists: &mut Lists, aids: &mut Aids, statement: Statement) -> Result<(), A
 
 /// Says whether the graph has no cycle with the statement.
 fn stays_acyclic(lists: &Lists, aids: &mut Aids, statement: &Statement) -> bool
-    requires well_formed { IsWellFormed lists.now }
+    requires well_formed { IsWellFormedModel lists.now }
     requires aids { AreFor lists.now aids.old }
-    requires proper { IsProper lists.now statement.now }
+    requires proper { IsProperStatement lists.now statement.now }
     ensures answer { IsTrue result ↔ IsAcyclic (added lists.now statement.now).refinements }
     ensures aids { AreFor lists.now aids.new }
 {
@@ -205,9 +205,9 @@ fn stays_acyclic(lists: &Lists, aids: &mut Aids, statement: &Statement) -> bool
 
 /// Adds a statement as it is, or leaves the lists for want of memory.
 fn push(lists: &mut Lists, aids: &mut Aids, statement: Statement) -> Result<(), AddStop>
-    requires well_formed { IsWellFormed lists.old }
+    requires well_formed { IsWellFormedModel lists.old }
     requires aids { AreFor lists.old aids.old }
-    requires proper { IsProper lists.old statement }
+    requires proper { IsProperStatement lists.old statement }
     requires allowed { IsAllowed lists.old statement }
     ensures lists { lists.new ≡ (if is_ok result then added lists.old statement else lists.old) }
     ensures aids { AreFor lists.new aids.new }
@@ -233,7 +233,7 @@ fn push(lists: &mut Lists, aids: &mut Aids, statement: Statement) -> Result<(), 
 }
 
 fn push_element(lists: &mut Lists, aids: &mut Aids, element: Element) -> Result<(), AddStop>
-    requires well_formed { IsWellFormed lists.old }
+    requires well_formed { IsWellFormedModel lists.old }
     requires aids { AreFor lists.old aids.old }
     requires allowed { IsAllowed lists.old (Statement.Element element) }
     ensures lists { lists.new ≡ (if is_ok result then added lists.old (Statement.Element element) else lists.old) }
@@ -249,7 +249,7 @@ fn push_element(lists: &mut Lists, aids: &mut Aids, element: Element) -> Result<
 /// Makes room for one more element.
 fn make_room(aids: &mut Aids) -> Result<(), AddStop>
     ensures kept { (m : Lists) → AreFor m aids.old → AreFor m aids.new }
-    ensures more { OnOk result ((m : Lists) → AreFor m aids.old → HasRoom (length m.elements + 1) aids.new) }
+    ensures more { OnOk result ((m : Lists) → AreFor m aids.old → HasGraphRoom (length m.elements + 1) aids.new) }
     ensures memory { IfErr result (λ stop. stop ≡ AddStop.Memory) }
 {
     graph::grow(aids.alloc, &mut aids.graph).map_err(|_| AddStop::Memory)?;
@@ -261,9 +261,9 @@ fn push_refinement(
     aids: &mut Aids,
     refinement: Refinement,
 ) -> Result<(), AddStop>
-    requires well_formed { IsWellFormed lists.old }
+    requires well_formed { IsWellFormedModel lists.old }
     requires aids { AreFor lists.old aids.old }
-    requires proper { IsProper lists.old (Statement.Refine refinement) }
+    requires proper { IsProperStatement lists.old (Statement.Refine refinement) }
     requires allowed { IsAllowed lists.old (Statement.Refine refinement) }
     ensures lists { lists.new ≡ (if is_ok result then added lists.old (Statement.Refine refinement) else lists.old) }
     ensures aids { AreFor lists.new aids.new }
@@ -285,7 +285,7 @@ fn push_refinement(
 }
 
 fn push_variable(lists: &mut Lists, aids: &mut Aids, variable: Variable) -> Result<(), AddStop>
-    requires well_formed { IsWellFormed lists.old }
+    requires well_formed { IsWellFormedModel lists.old }
     requires aids { AreFor lists.old aids.old }
     requires allowed { IsAllowed lists.old (Statement.Variable variable) }
     ensures lists { lists.new ≡ (if is_ok result then added lists.old (Statement.Variable variable) else lists.old) }
@@ -298,7 +298,7 @@ fn push_variable(lists: &mut Lists, aids: &mut Aids, variable: Variable) -> Resu
 }
 
 fn push_sum(lists: &mut Lists, aids: &mut Aids, sum: Sum) -> Result<(), AddStop>
-    requires well_formed { IsWellFormed lists.old }
+    requires well_formed { IsWellFormedModel lists.old }
     requires aids { AreFor lists.old aids.old }
     requires allowed { IsAllowed lists.old (Statement.Sum sum) }
     ensures lists { lists.new ≡ (if is_ok result then added lists.old (Statement.Sum sum) else lists.old) }
@@ -312,7 +312,7 @@ fn push_sum(lists: &mut Lists, aids: &mut Aids, sum: Sum) -> Result<(), AddStop>
 
 fn push_interest(lists: &mut Lists, aids: &mut Aids, element: u32) -> Result<(), AddStop>
     requires aids { AreFor lists.old aids.old }
-    requires proper { IsProper lists.old (Statement.Interest element) }
+    requires proper { IsProperStatement lists.old (Statement.Interest element) }
     ensures lists { lists.new ≡ (if is_ok result then added lists.old (Statement.Interest element) else lists.old) }
     ensures aids { AreFor lists.new aids.new }
     ensures memory { IfErr result (λ stop. stop ≡ AddStop.Memory) }

@@ -2,11 +2,11 @@
 ghost use Rattle.std.specs.Prelude.{◌≡◌, ◌==◌, ◌||◌, ◌<◌, ℕ, [], false, All, length, map, slice_get, slice_index_or};
 ghost use Rattle.std.specs.List.{list_any};
 ghost use Rattle.cgm_model.specs.Facts.{AreFacts, AreSources, AreTargets};
-ghost use Rattle.cgm_model.specs.Graph.{IsKnown};
+ghost use Rattle.cgm_model.specs.Graph.{HasKnownElements};
 ghost use Rattle.cgm_model.specs.Leaves as leaves;
 ghost use Rattle.cgm_model.specs.Model.{lists_of};
 ghost use Rattle.cgm_model.specs.Statement.{is_assumption};
-ghost use Rattle.cgm_model.specs.TargetIndex.{IsIndexOf};
+ghost use Rattle.cgm_model.specs.TargetIndex.{IsTargetIndexOf};
 
 use crate::graph::{Graph, unmark_all};
 use crate::lists::{Element, ElementKind, Refinement};
@@ -27,8 +27,8 @@ pub(crate) struct Facts {
 impl Facts {
     /// The facts of a graph of these refinements. It takes no memory.
     pub(crate) fn of(graph: Graph, refinements: &[Refinement]) -> Facts
-        requires index { IsIndexOf refinements.now graph }
-        requires known { All (IsKnown (length graph.marks.items)) refinements.now }
+        requires index { IsTargetIndexOf refinements.now graph }
+        requires known { All (HasKnownElements (length graph.marks.items)) refinements.now }
         ensures { AreFacts refinements.now result }
     {
         let Graph {

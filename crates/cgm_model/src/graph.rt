@@ -2,9 +2,9 @@
 ghost use Rattle.std.specs.Prelude.{◌≡◌, ◌+◌, ◌<◌, ◌≤◌, ◌++◌, ◌∷◌, [], ◌==◌, ◌↔◌, ℕ, false, List, IsTrue, All, length, slice_index_or, OnOk};
 ghost use Rattle.std.specs.List.{list_any};
 ghost use Rattle.cgm_model.specs.declared.lists.Refinement.{Refinement};
-ghost use Rattle.cgm_model.specs.Graph.{IsAcyclic, IsKnown};
+ghost use Rattle.cgm_model.specs.Graph.{IsAcyclic, HasKnownElements};
 ghost use Rattle.cgm_model.specs.Search.{IsMarked, IsSearch, MarksEach, Visits, Fills, IsCovered, state};
-ghost use Rattle.cgm_model.specs.TargetIndex.{IsIndexOf, HasRoomFor};
+ghost use Rattle.cgm_model.specs.TargetIndex.{IsTargetIndexOf, HasTargetRoomFor};
 
 use crate::lists::Refinement;
 use cgm_formula::OutOfMemory;
@@ -24,8 +24,8 @@ pub(crate) struct Graph {
 
 impl Graph {
     pub(crate) fn new(alloc: Global) -> Graph
-        ensures index { IsIndexOf [] result }
-        ensures room { HasRoomFor 0 result }
+        ensures index { IsTargetIndexOf [] result }
+        ensures room { HasTargetRoomFor 0 result }
     {
         Graph {
             by_target: Vec::new(alloc),
@@ -38,9 +38,9 @@ impl Graph {
 
 /// Makes room for one more element.
 pub(crate) fn grow(alloc: Global, graph: &mut Graph) -> Result<(), OutOfMemory>
-    ensures kept { (rs : List Refinement) → IsIndexOf rs graph.old → IsIndexOf rs graph.new }
-    ensures room { (count : ℕ) → HasRoomFor count graph.old → HasRoomFor count graph.new }
-    ensures more { OnOk result ((count : ℕ) → HasRoomFor count graph.old → HasRoomFor (count + 1) graph.new) }
+    ensures kept { (rs : List Refinement) → IsTargetIndexOf rs graph.old → IsTargetIndexOf rs graph.new }
+    ensures room { (count : ℕ) → HasTargetRoomFor count graph.old → HasTargetRoomFor count graph.new }
+    ensures more { OnOk result ((count : ℕ) → HasTargetRoomFor count graph.old → HasTargetRoomFor (count + 1) graph.new) }
 {
     graph.by_target.push(Items::new(alloc))?;
     graph.is_source.push(false)?;
@@ -55,11 +55,11 @@ pub(crate) fn link(
     number: u32,
     refinement: &Refinement,
 ) -> Result<(), OutOfMemory>
-    requires known { IsKnown (length graph.old.marks.items) refinement.now }
-    requires index { IsIndexOf [] graph.old }
-    ensures kept { (rs : List Refinement) → IsIndexOf rs graph.old → IsIndexOf rs graph.new }
-    ensures room { (count : ℕ) → HasRoomFor count graph.old → HasRoomFor count graph.new }
-    ensures linked { OnOk result ((rs : List Refinement) → number ≡ length rs → IsIndexOf rs graph.old → IsIndexOf (rs ++ refinement.now ∷ []) graph.new) }
+    requires known { HasKnownElements (length graph.old.marks.items) refinement.now }
+    requires index { IsTargetIndexOf [] graph.old }
+    ensures kept { (rs : List Refinement) → IsTargetIndexOf rs graph.old → IsTargetIndexOf rs graph.new }
+    ensures room { (count : ℕ) → HasTargetRoomFor count graph.old → HasTargetRoomFor count graph.new }
+    ensures linked { OnOk result ((rs : List Refinement) → number ≡ length rs → IsTargetIndexOf rs graph.old → IsTargetIndexOf (rs ++ refinement.now ∷ []) graph.new) }
 {
     graph.by_target[refinement.target as usize].push(number)?;
     flag_each(&mut graph.is_source, refinement.sources.as_slice());
@@ -84,12 +84,12 @@ pub(crate) fn stays_acyclic(
     refinement: &Refinement,
 ) -> bool
     requires acyclic { IsAcyclic refinements.now }
-    requires index { IsIndexOf refinements.now graph.old }
-    requires known { All (IsKnown (length graph.old.marks.items)) refinements.now }
-    requires new_known { IsKnown (length graph.old.marks.items) refinement.now }
+    requires index { IsTargetIndexOf refinements.now graph.old }
+    requires known { All (HasKnownElements (length graph.old.marks.items)) refinements.now }
+    requires new_known { HasKnownElements (length graph.old.marks.items) refinement.now }
     ensures answer { IsTrue result ↔ IsAcyclic (refinements.now ++ refinement.now ∷ []) }
-    ensures kept { (rs : List Refinement) → IsIndexOf rs graph.old → IsIndexOf rs graph.new }
-    ensures room { (count : ℕ) → HasRoomFor count graph.old → HasRoomFor count graph.new }
+    ensures kept { (rs : List Refinement) → IsTargetIndexOf rs graph.old → IsTargetIndexOf rs graph.new }
+    ensures room { (count : ℕ) → HasTargetRoomFor count graph.old → HasTargetRoomFor count graph.new }
 {
     if is_on_top(graph.is_source.as_slice(), refinement) {
         return true;
@@ -125,8 +125,8 @@ fn is_unreached(
     requires covered { IsCovered by_target.now refinements.now }
     requires targets { length marks.old ≤ length by_target.now }
     requires queue { length marks.old ≤ length queue.old }
-    requires known { All (IsKnown (length marks.old)) refinements.now }
-    requires new_known { IsKnown (length marks.old) refinement.now }
+    requires known { All (HasKnownElements (length marks.old)) refinements.now }
+    requires new_known { HasKnownElements (length marks.old) refinement.now }
     ensures { IsTrue result ↔ IsAcyclic (refinements.now ++ refinement.now ∷ []) }
 {
     unmark_all(marks);
@@ -154,7 +154,7 @@ fn fill(
     requires search { IsSearch (state marks.old queue.old count) }
     requires covered { IsCovered by_target.now refinements.now }
     requires targets { length marks.old ≤ length by_target.now }
-    requires known { All (IsKnown (length marks.old)) refinements.now }
+    requires known { All (HasKnownElements (length marks.old)) refinements.now }
     ensures { Fills refinements.now marks.old marks.new }
 {
     let mut count = count;
@@ -177,7 +177,7 @@ fn visit(
     numbers: &[u32],
 ) -> usize
     requires search { IsSearch (state marks.old queue.old count) }
-    requires known { All (IsKnown (length marks.old)) refinements.now }
+    requires known { All (HasKnownElements (length marks.old)) refinements.now }
     ensures { Visits refinements.now element numbers.now (state marks.old queue.old count) (state marks.new queue.new result) }
 {
     let mut count = count;
@@ -196,7 +196,7 @@ fn visit_one(
     number: u32,
 ) -> usize
     requires search { IsSearch (state marks.old queue.old count) }
-    requires known { All (IsKnown (length marks.old)) refinements.now }
+    requires known { All (HasKnownElements (length marks.old)) refinements.now }
     ensures { Visits refinements.now element (number ∷ []) (state marks.old queue.old count) (state marks.new queue.new result) }
 {
     match at(refinements, number as usize) {

@@ -1,7 +1,7 @@
 //! A well-formed model.
 ghost use Rattle.cgm_model.specs.Facts.{AreFacts};
 ghost use Rattle.cgm_model.specs.Lists.{lists};
-ghost use Rattle.cgm_model.specs.WellFormed.{IsWellFormed};
+ghost use Rattle.cgm_model.specs.WellFormed.{IsWellFormedModel};
 
 use crate::facts::Facts;
 use crate::lists::{
@@ -30,6 +30,6 @@ pub struct Model {
     pub objectives: Parts<Objective>,
     /// What its goal graph's elements are, each found in one look.
     pub(crate) facts: Facts,
-    pub ghost well_formed: { ∥ IsWellFormed (lists elements refinements vars sums contribs conflicts binds asserts values rewards penalties prefers rules interests objectives) ∥₁ },
+    pub ghost well_formed: { ∥ IsWellFormedModel (lists elements refinements vars sums contribs conflicts binds asserts values rewards penalties prefers rules interests objectives) ∥₁ },
     pub ghost known: { ∥ AreFacts refinements facts ∥₁ },
 }

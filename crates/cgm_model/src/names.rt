@@ -1,11 +1,11 @@
-//! Names, found by their bytes.
+//! Names, thing_found by their bytes.
 ghost use Rattle.std.specs.Prelude.{◌≡◌, ◌↔◌, List, ℕ, IsTrue, IfErr, OnOk, OnErr, if◌then◌else◌};
 ghost use Rattle.std.specs.Str.{bytes_eq};
 ghost use Rattle.cgm_model.specs.Keeping.{AreFor};
-ghost use Rattle.cgm_model.specs.NameTable.{found};
-ghost use Rattle.cgm_model.specs.Named.{IsNamed, thing_named};
+ghost use Rattle.cgm_model.specs.NameTable.{thing_found};
+ghost use Rattle.cgm_model.specs.Named.{IsNamedThing, thing_named};
 ghost use Rattle.cgm_model.specs.Statement.{is_new};
-ghost use Rattle.cgm_model.specs.WellFormed.{IsWellFormed};
+ghost use Rattle.cgm_model.specs.WellFormed.{IsWellFormedModel};
 
 use crate::aids::Aids;
 use crate::lists::{Lists, Thing};
@@ -23,7 +23,7 @@ pub(crate) struct NameTable {
 
 impl NameTable {
     pub(crate) fn new(alloc: Global) -> NameTable
-        ensures { (name : List ℕ) → found result name ≡ None }
+        ensures { (name : List ℕ) → thing_found result name ≡ None }
     {
         NameTable {
             entries: IndexMap::new(alloc),
@@ -31,7 +31,7 @@ impl NameTable {
     }
 
     pub(crate) fn get(&self, name: &[u8]) -> Option<Thing>
-        ensures { result ≡ found self.now name.now }
+        ensures { result ≡ thing_found self.now name.now }
     {
         self.entries.get(name).copied()
     }
@@ -43,8 +43,8 @@ impl NameTable {
         name: &[u8],
         thing: Thing,
     ) -> Result<(), OutOfMemory>
-        ensures set { OnOk result ((q : List ℕ) → found self.new q ≡ (if bytes_eq q name.now then Some thing else found self.old q)) }
-        ensures unchanged { OnErr result ((q : List ℕ) → found self.new q ≡ found self.old q) }
+        ensures set { OnOk result ((q : List ℕ) → thing_found self.new q ≡ (if bytes_eq q name.now then Some thing else thing_found self.old q)) }
+        ensures unchanged { OnErr result ((q : List ℕ) → thing_found self.new q ≡ thing_found self.old q) }
     {
         let key = Vec::from_slice(alloc, name)?;
         self.entries.insert(key, thing)?;
@@ -54,7 +54,7 @@ impl NameTable {
 
 /// Says what the name stands for by the lists.
 pub(crate) fn find(lists: &Lists, aids: &Aids, name: &[u8]) -> Option<Thing>
-    requires well_formed { IsWellFormed lists.now }
+    requires well_formed { IsWellFormedModel lists.now }
     requires aids { AreFor lists.now aids.now }
     ensures { result ≡ thing_named lists.now name.now }
 {
@@ -70,7 +70,7 @@ pub(crate) fn find(lists: &Lists, aids: &Aids, name: &[u8]) -> Option<Thing>
 }
 
 pub(crate) fn is_new(lists: &Lists, aids: &Aids, name: &[u8]) -> bool
-    requires well_formed { IsWellFormed lists.now }
+    requires well_formed { IsWellFormedModel lists.now }
     requires aids { AreFor lists.now aids.now }
     ensures { result ≡ is_new lists.now name.now }
 {
@@ -79,7 +79,7 @@ pub(crate) fn is_new(lists: &Lists, aids: &Aids, name: &[u8]) -> bool
 
 /// Says whether the thing has this name by the lists.
 fn is_named(lists: &Lists, name: &[u8], thing: Thing) -> bool
-    ensures { IsTrue result ↔ IsNamed lists.now name.now thing }
+    ensures { IsTrue result ↔ IsNamedThing lists.now name.now thing }
 {
     match thing {
         Thing::Element(k) => match at(lists.elements.as_slice(), k as usize) {
@@ -108,8 +108,8 @@ pub(crate) fn declare(
     name: &[u8],
     thing: Thing,
 ) -> Result<(), AddStop>
-    ensures set { OnOk result ((q : List ℕ) → found names.new q ≡ (if bytes_eq q name.now then Some thing else found names.old q)) }
-    ensures others { OnErr result ((q : List ℕ) → found names.new q ≡ found names.old q) }
+    ensures set { OnOk result ((q : List ℕ) → thing_found names.new q ≡ (if bytes_eq q name.now then Some thing else thing_found names.old q)) }
+    ensures others { OnErr result ((q : List ℕ) → thing_found names.new q ≡ thing_found names.old q) }
     ensures memory { IfErr result (λ stop. stop ≡ AddStop.Memory) }
 {
     names.set(alloc, name, thing).map_err(|_| AddStop::Memory)

@@ -11,9 +11,9 @@ use Rattle.cgm_model.specs.declared.lists.Lists.{Lists}
 use Rattle.cgm_model.specs.declared.lists.Preference.{Preference}
 use Rattle.cgm_model.specs.declared.lists.Quantity.{Quantity}
 use Rattle.cgm_model.specs.declared.lists.Quantity.TheVariants as quantities
-use Rattle.cgm_model.specs.Assignment.{Fits, IsWithin}
+use Rattle.cgm_model.specs.Assignment.{Fits, IsWithinBounds}
 use Rattle.cgm_model.specs.Place.{EachFrom}
-use Rattle.cgm_model.specs.WellFormed.{IsVariable, IsWellFormed}
+use Rattle.cgm_model.specs.WellFormed.{IsVariable, IsWellFormedModel}
 use Rattle.cgm_model.proofs.Sizes.{sums_size, weight_size}
 use Rattle.cgm_evolve.specs.Costs.{is_changed, is_new_work, is_true}
 use Rattle.cgm_evolve.specs.Pairs.{Pair}
@@ -33,15 +33,15 @@ each_at place P (x ∷ xs) (suc k) d each l =
     let same : place + 1 + k ≡ place + suc k = omega arith in
     subst (λ n. P n (get_or xs k d)) same (each_at (place + 1) P xs k d each.1 (omega arith))
 
-var_there : (m : Lists) (a : Assignment) (k : ℕ) → IsWellFormed m → Fits m a → k < length m.vars → unsigned_abs (get_or a.vars k (pos 0)) ≤ 1000000000
+var_there : (m : Lists) (a : Assignment) (k : ℕ) → IsWellFormedModel m → Fits m a → k < length m.vars → unsigned_abs (get_or a.vars k (pos 0)) ≤ 1000000000
 var_there m a k w fits l =
     let v = get_or m.vars k (record { name = []; lo = pos 0; hi = pos 0 }) in
     let is : IsVariable v = w.vars k (record { name = []; lo = pos 0; hi = pos 0 }) l in
     let same : 0 + k ≡ k = omega arith in
-    let within : IsWithin a.vars k v = subst (λ n. IsWithin a.vars n v) same (each_at 0 (IsWithin a.vars) m.vars k (record { name = []; lo = pos 0; hi = pos 0 }) fits.bounds l) in
+    let within : IsWithinBounds a.vars k v = subst (λ n. IsWithinBounds a.vars n v) same (each_at 0 (IsWithinBounds a.vars) m.vars k (record { name = []; lo = pos 0; hi = pos 0 }) fits.bounds l) in
     within_size v.lo v.hi (get_or a.vars k (pos 0)) 1000000000 is.low is.high within.low within.high
 
-var_size : (m : Lists) (a : Assignment) (k : ℕ) → IsWellFormed m → Fits m a → unsigned_abs (get_or a.vars k (pos 0)) ≤ 1000000000000
+var_size : (m : Lists) (a : Assignment) (k : ℕ) → IsWellFormedModel m → Fits m a → unsigned_abs (get_or a.vars k (pos 0)) ≤ 1000000000000
 var_size m a k w fits =
     ⊎_elim
     (λ there. let small = var_there m a k w fits there in omega (arith, small))
@@ -53,7 +53,7 @@ var_size m a k w fits =
 
 -- ---- counts
 
-prefers_few : (m : Lists) → IsWellFormed m → (a : Assignment) → unsat_prefs m a ≤ 1000000
+prefers_few : (m : Lists) → IsWellFormedModel m → (a : Assignment) → unsat_prefs m a ≤ 1000000
 prefers_few m w a =
     let few = w.limits.statements in
     let most = count_by-le-length (λ (p : Preference). not (is_met a p)) m.prefers in
@@ -62,7 +62,7 @@ prefers_few m w a =
 count_size : (n : ℕ) → n ≤ 1000000 → unsigned_abs (pos n) ≤ 1000000000000
 count_size n few = omega arith
 
-pub quantity_size : (m : Lists) → IsWellFormed m → (pairs : List Pair) (a : Assignment) → Fits m a → (q : Quantity) → unsigned_abs (quantity m pairs a q) ≤ 1000000000000
+pub quantity_size : (m : Lists) → IsWellFormedModel m → (pairs : List Pair) (a : Assignment) → Fits m a → (q : Quantity) → unsigned_abs (quantity m pairs a q) ≤ 1000000000000
 quantity_size m w pairs a fits (quantities.Var k) = var_size m a k w fits
 quantity_size m w pairs a fits (quantities.Sum k) = sums_size m w a k
 quantity_size m w pairs a fits quantities.Weight = weight_size m w a
@@ -78,7 +78,7 @@ signed_size : (max : Bool) (x : ℤ) → unsigned_abs x ≤ 1000000000000 → un
 signed_size true x small = omega (arith, ints)
 signed_size false x small = small
 
-pub vector_small : (m : Lists) (pairs : List Pair) (a : Assignment) → IsWellFormed m → Fits m a → All (λ number. unsigned_abs number ≤ 1000000000000) (vector_of m pairs a)
+pub vector_small : (m : Lists) (pairs : List Pair) (a : Assignment) → IsWellFormedModel m → Fits m a → All (λ number. unsigned_abs number ≤ 1000000000000) (vector_of m pairs a)
 unfolding vector_of
 vector_small m pairs a w fits =
     All-map (λ number. unsigned_abs number ≤ 1000000000000) (objective_number m pairs a) m.objectives

@@ -19,7 +19,7 @@ use Rattle.cgm_print.specs.declared.words.Joint.TheVariants as joints
 use Rattle.cgm_print.specs.declared.words.Pairing.{Pairing}
 use Rattle.cgm_print.specs.declared.words.Pairing.TheVariants as pairings
 use Rattle.cgm_print.specs.Canonical.{joined_with, name_at, number_name, written_formula, written_linear, written_step, written_term}
-use Rattle.cgm_print.specs.Printing.{Writes, followed}
+use Rattle.cgm_print.specs.Printing.{Writes, text_followed}
 use Rattle.cgm_print.specs.Written.{WrittenFormula, plain, scaled, paired, compared, joint_word, pairing_word, spelled, spelled_each, spelled_linear, spelled_term, spelled_terms, formulas_of}
 
 -- names
@@ -47,11 +47,11 @@ then_ a b c f g first second after = second after ∙ first (g after)
 
 pub finish : {E : Type 0} (r : Result (Unit {0}) E) (a b c : Printer) (f g whole : List Lexeme → List Lexeme) → ((after : List Lexeme) → f (g after) ≡ whole after) → Writes a b f → OnOk r (Writes b c g) → OnOk r (Writes a c whole)
 finish r a b c f g whole same first last =
-    on_ok_weaker r (λ (second : Writes b c g). λ after. second after ∙ first (g after) ∙ ap (followed a) (same after)) last
+    on_ok_weaker r (λ (second : Writes b c g). λ after. second after ∙ first (g after) ∙ ap (text_followed a) (same after)) last
 
 pub alike : {E : Type 0} (r : Result (Unit {0}) E) (a b : Printer) (f whole : List Lexeme → List Lexeme) → ((after : List Lexeme) → f after ≡ whole after) → OnOk r (Writes a b f) → OnOk r (Writes a b whole)
 alike r a b f whole same last =
-    on_ok_weaker r (λ (only : Writes a b f). λ after. only after ∙ ap (followed a) (same after)) last
+    on_ok_weaker r (λ (only : Writes a b f). λ after. only after ∙ ap (text_followed a) (same after)) last
 
 -- terms
 
@@ -121,19 +121,19 @@ pair_printed r m pairing f one other one_got other_got a b c d e is got got_othe
     on_ok_weaker r (λ (closed : Writes d e (λ after. closing ∷ after)). λ after.
     closed after ∙ second (closing ∷ after) ∙ first (spelled (written_formula m other_got) (closing ∷ after))
     ∙ open_ (spelled (written_formula m one_got) (spelled (written_formula m other_got) (closing ∷ after)))
-    ∙ ap (λ (x : Formula). followed a (opening ∷ word (pairing_word pairing) ∷ spelled (written_formula m x) (spelled (written_formula m other_got) (closing ∷ after)))) got
-    ∙ ap (λ (x : Formula). followed a (opening ∷ word (pairing_word pairing) ∷ spelled (written_formula m one) (spelled (written_formula m x) (closing ∷ after)))) got_other
-    ∙ ap (λ (w : WrittenFormula). followed a (spelled w after)) is) last
+    ∙ ap (λ (x : Formula). text_followed a (opening ∷ word (pairing_word pairing) ∷ spelled (written_formula m x) (spelled (written_formula m other_got) (closing ∷ after)))) got
+    ∙ ap (λ (x : Formula). text_followed a (opening ∷ word (pairing_word pairing) ∷ spelled (written_formula m one) (spelled (written_formula m x) (closing ∷ after)))) got_other
+    ∙ ap (λ (w : WrittenFormula). text_followed a (spelled w after)) is) last
 
 pub each_more : (m : Lists) (parts : List Formula) (i : ℕ) (x : Formula) (a b c : Printer) → i < length parts → x ≡ get_or parts i x
-    → ((after : List Lexeme) → followed b (spelled_each (formulas_of (map (written_formula m) (drop i parts))) after) ≡ followed a (spelled_each (formulas_of (map (written_formula m) parts)) after))
+    → ((after : List Lexeme) → text_followed b (spelled_each (formulas_of (map (written_formula m) (drop i parts))) after) ≡ text_followed a (spelled_each (formulas_of (map (written_formula m) parts)) after))
     → Writes b c (spelled (written_formula m x))
-    → (after : List Lexeme) → followed c (spelled_each (formulas_of (map (written_formula m) (drop (i + 1) parts))) after) ≡ followed a (spelled_each (formulas_of (map (written_formula m) parts)) after)
+    → (after : List Lexeme) → text_followed c (spelled_each (formulas_of (map (written_formula m) (drop (i + 1) parts))) after) ≡ text_followed a (spelled_each (formulas_of (map (written_formula m) parts)) after)
 each_more m parts i x a b c h item so_far one after =
     let rest = spelled_each (formulas_of (map (written_formula m) (drop (i + 1) parts))) after in
     one rest
-    ∙ ap (λ (y : Formula). followed b (spelled (written_formula m y) rest)) item
-    ∙ ap (λ (ys : List Formula). followed b (spelled_each (formulas_of (map (written_formula m) ys)) after)) (sym (drop_more parts i x h))
+    ∙ ap (λ (y : Formula). text_followed b (spelled (written_formula m y) rest)) item
+    ∙ ap (λ (ys : List Formula). text_followed b (spelled_each (formulas_of (map (written_formula m) ys)) after)) (sym (drop_more parts i x h))
     ∙ so_far after
 
 drop_past : {X : Type 0} (xs : List X) (i : ℕ) → length xs ≤ i → drop i xs ≡ []
@@ -143,7 +143,7 @@ drop_past (x ∷ xs) zero h = absurd (omega arith)
 drop_past (x ∷ xs) (suc i) h = drop_past xs i (omega arith)
 
 pub each_done : (m : Lists) (parts : List Formula) (i : ℕ) (a b : Printer) → length parts ≤ i
-    → ((after : List Lexeme) → followed b (spelled_each (formulas_of (map (written_formula m) (drop i parts))) after) ≡ followed a (spelled_each (formulas_of (map (written_formula m) parts)) after))
+    → ((after : List Lexeme) → text_followed b (spelled_each (formulas_of (map (written_formula m) (drop i parts))) after) ≡ text_followed a (spelled_each (formulas_of (map (written_formula m) parts)) after))
     → Writes a b (spelled_each (formulas_of (map (written_formula m) parts)))
 each_done m parts i a b h so_far after =
-    ap (λ (ys : List Formula). followed b (spelled_each (formulas_of (map (written_formula m) ys)) after)) (sym (drop_past parts i h)) ∙ so_far after
+    ap (λ (ys : List Formula). text_followed b (spelled_each (formulas_of (map (written_formula m) ys)) after)) (sym (drop_past parts i h)) ∙ so_far after

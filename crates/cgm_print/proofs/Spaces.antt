@@ -2,7 +2,7 @@
 use Rattle.std.proofs.Common.{◌≡◌, ℕ, zero, suc, ◌+◌, ◌<◌, ◌≤◌, arith, Bool, true, false, not, ◌&&◌, ◌||◌, if◌then◌else◌, List, [], ◌∷◌, ◌++◌, drop, get_or, length, map, codes, refl, ap, sym, ◌∙◌, append_assoc, append-nil}
 use Rattle.std.proofs.lemmas.List.{drop_more}
 use Rattle.cgm_lex.specs.Lexemes.{Lexeme, colon, word}
-use Rattle.cgm_lex.specs.Spelling.{is_closing, is_opening, spelled_line, text_of}
+use Rattle.cgm_lex.specs.Spelling.{is_closing_bracket, is_opening, spelled_line, text_of}
 use Rattle.cgm_model.specs.declared.lists.Lists.{Lists}
 use Rattle.cgm_model.specs.declared.lists.Statement.{Statement}
 use Rattle.cgm_model.specs.declared.lists.Assertion.{Assertion}
@@ -28,7 +28,7 @@ gaps false false = refl
 line_is : (t : Lexeme) (ts : List Lexeme) → spelled_line (t ∷ ts) ≡ text_of t ++ rest_of_line (not (is_opening t)) ts
 line_is t [] = sym (append-nil (text_of t))
 line_is t (next ∷ more) =
-    ap (λ (bs : List ℕ). text_of t ++ (bs ++ spelled_line (next ∷ more))) (gaps (is_opening t) (is_closing next))
+    ap (λ (bs : List ℕ). text_of t ++ (bs ++ spelled_line (next ∷ more))) (gaps (is_opening t) (is_closing_bracket next))
     ∙ ap (λ (bs : List ℕ). text_of t ++ (space_before (not (is_opening t)) next ++ bs)) (line_is next more)
 
 pub line_begun : (old : List ℕ) (t : Lexeme) (ts : List Lexeme) → (old ++ text_of t) ++ rest_of_line (not (is_opening t)) ts ≡ old ++ spelled_line (t ∷ ts)

@@ -1,14 +1,14 @@
 -- What a text that is being written comes to when more tokens follow.
 use Rattle.std.specs.Prelude.{◌≡◌, ℕ, Bool, ◌&&◌, not, if◌then◌else◌, List, [], ◌∷◌, ◌++◌, codes, map}
 use Rattle.cgm_lex.specs.Lexemes.{Lexeme, word}
-use Rattle.cgm_lex.specs.Spelling.{is_closing, is_opening, spelled_line, text_of}
+use Rattle.cgm_lex.specs.Spelling.{is_closing_bracket, is_opening, spelled_line, text_of}
 use Rattle.cgm_model.specs.declared.lists.Lists.{Lists}
 use Rattle.cgm_model.specs.declared.lists.Statement.{Statement}
 use Rattle.cgm_model.specs.declared.lists.Statement.TheVariants as statements
 use Rattle.cgm_print.specs.declared.printer.Printer.{Printer}
 
 abbrev pub space_before : Bool → Lexeme → List ℕ
-space_before due token = if due && not (is_closing token) then codes " " else []
+space_before due token = if due && not (is_closing_bracket token) then codes " " else []
 
 -- the bytes of tokens in the rest of a line, where a space is due before the first or not
 abbrev pub rest_of_line : Bool → List Lexeme → List ℕ
@@ -16,20 +16,20 @@ rest_of_line due [] = []
 rest_of_line due (token ∷ tokens) = space_before due token ++ (text_of token ++ rest_of_line (not (is_opening token)) tokens)
 
 -- the text when these tokens follow in its last line
-abbrev pub followed : Printer → List Lexeme → List ℕ
-followed p tokens = p.text.items ++ rest_of_line p.is_due tokens
+abbrev pub text_followed : Printer → List Lexeme → List ℕ
+text_followed p tokens = p.text.items ++ rest_of_line p.is_due tokens
 
 -- what is written of a line, whatever tokens follow
 abbrev pub Writes : Printer → Printer → (List Lexeme → List Lexeme) → Type 0
-Writes old new spell = (after : List Lexeme) → followed new after ≡ followed old (spell after)
+Writes old new spell = (after : List Lexeme) → text_followed new after ≡ text_followed old (spell after)
 
 -- a line that is begun, whatever tokens follow
 abbrev pub Begins : Printer → Printer → (List Lexeme → List Lexeme) → Type 0
-Begins old new spell = (after : List Lexeme) → followed new after ≡ old.text.items ++ spelled_line (spell after)
+Begins old new spell = (after : List Lexeme) → text_followed new after ≡ old.text.items ++ spelled_line (spell after)
 
 -- a line of these tokens, without its line feed
 abbrev pub IsLine : Printer → Printer → List Lexeme → Type 0
-IsLine old new tokens = followed new [] ≡ old.text.items ++ spelled_line tokens
+IsLine old new tokens = text_followed new [] ≡ old.text.items ++ spelled_line tokens
 
 -- words, before the tokens that follow them
 abbrev pub words_before : List (List ℕ) → List Lexeme → List Lexeme

@@ -2,7 +2,7 @@
 ghost use Rattle.std.specs.Prelude.{◌≡◌, ◌∷◌, [], ◌++◌, if◌then◌else◌, codes, List, OnOk};
 ghost use Rattle.cgm_lex.specs.Lexemes.{Lexeme, opening, closing, colon, number, word};
 ghost use Rattle.cgm_lex.specs.Spelling.{spelled_line};
-ghost use Rattle.cgm_print.specs.Printing.{Writes, followed};
+ghost use Rattle.cgm_print.specs.Printing.{Writes, text_followed};
 
 use itoa::Buffer;
 use std::alloc::{AllocError as OutOfMemory, Global};
@@ -27,7 +27,7 @@ impl Printer {
 
     /// Begins a line with this word.
     pub(crate) fn begin_line(&mut self, first: &[u8]) -> Result<(), OutOfMemory>
-        ensures { OnOk result ((after : List Lexeme) → followed self.new after
+        ensures { OnOk result ((after : List Lexeme) → text_followed self.new after
             ≡ self.old.text.items ++ spelled_line (word first.now ∷ after)) }
     {
         self.text.extend_from_slice(first)?;
@@ -37,7 +37,7 @@ impl Printer {
 
     /// Ends the line.
     pub(crate) fn end_line(&mut self) -> Result<(), OutOfMemory>
-        ensures { OnOk result (self.new.text.items ≡ followed self.old [] ++ 10 ∷ []) }
+        ensures { OnOk result (self.new.text.items ≡ text_followed self.old [] ++ 10 ∷ []) }
     {
         self.text.push(b'\n')?;
         Ok(())

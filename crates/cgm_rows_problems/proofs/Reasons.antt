@@ -13,11 +13,11 @@ use Rattle.cgm_atom.specs.Relaxing.{bound_of}
 use Rattle.cgm_learn.specs.Learning.{IsConflictIn, IsNameAfter}
 use Rattle.cgm_trail.specs.declared.changes.Reason.TheVariants.{By}
 use Rattle.cgm_trail.specs.Steps.{AreReasoned}
-use Rattle.cgm_trail.specs.TrailState.{TrailState, box_of, change_of, decided, started, tightened}
+use Rattle.cgm_trail.specs.TrailState.{TrailState, box_of, change_of, decided, trail_started, tightened}
 use Rattle.cgm_trail.proofs.Propagating.{AreReasoned-append, reasoned_decided}
 use Rattle.cgm_rows_problems.specs.Driving.{HasName, IsDriven, IsGivenBy, IsOfProblem}
 
-pub driven_at_first : (p : Instance) (s : LogState) (t : TrailState) → t ≡ started p → IsDriven p s t
+pub driven_at_first : (p : Instance) (s : LogState) (t : TrailState) → t ≡ trail_started p → IsDriven p s t
 driven_at_first p s t e = rw e (record { problem = refl; reasons = tt })
 
 -- the reasons, over the bounds of the trail's own problem

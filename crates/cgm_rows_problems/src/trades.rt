@@ -5,7 +5,7 @@
 ghost use Rattle.std.specs.Prelude.{◌≡◌, None, IsTrue, IfOk};
 ghost use Rattle.cgm_atom.specs.Acceptance.{first_fault};
 ghost use Rattle.cgm_atom.specs.LogState.{state_of};
-ghost use Rattle.cgm_log.specs.Landing.{IsProper};
+ghost use Rattle.cgm_log.specs.Landing.{IsProperBatch};
 
 use crate::problems::problem_of;
 use crate::words::{are_numbers, count, is_count, numbers, parted, place};
@@ -134,7 +134,7 @@ fn is_accepted(alloc: Global, log: &Log, next: &Entry) -> Result<bool, Fail>
 }
 
 fn trade(log: &mut Log, batch: Batch) -> Result<Traded, Fail>
-    requires { IsProper log.old.problem log.old.entries batch }
+    requires { IsProperBatch log.old.problem log.old.entries batch }
 {
     let seen = log.entries().len() as u64;
     match log.trade(seen, batch) {

@@ -19,16 +19,16 @@ use Rattle.cgm_atom.specs.Acceptance.{IsAcceptedAfter, IsAcceptedState, fault_of
 use Rattle.cgm_atom.specs.ClauseAtoms.{AreKnown}
 use Rattle.cgm_atom.specs.Constraints.{of_clause}
 use Rattle.cgm_atom.specs.Instance.{Instance, first_violation, var_count}
-use Rattle.cgm_atom.specs.Limits.{AreValuesOf, IsWellFormed}
+use Rattle.cgm_atom.specs.Limits.{AreValuesOf, IsWellFormedProblem}
 use Rattle.cgm_atom.specs.LogState.{LogState, item_at, last_best, lemma_clause, state_of, state_with}
 use Rattle.cgm_atom.proofs.StateLemmas.{IsAccepted-nil, IsAccepted-push, last_best_of_log, state_of-push}
 use Rattle.cgm_clauses.specs.declared.named.Named.{Named}
-use Rattle.cgm_clauses.specs.StoreState.{IsForgotten, started}
-use Rattle.cgm_step.specs.Indexing.{IsIndexOf}
+use Rattle.cgm_clauses.specs.StoreState.{IsForgotten, store_started}
+use Rattle.cgm_step.specs.Indexing.{IsLogIndexOf}
 use Rattle.cgm_step.proofs.Accepted.{AreKnown-from_none, AreNone-from_first, AreValuesOf-from_none}
 use Rattle.cgm_search.specs.declared.knowledge.Known.{Known}
 use Rattle.cgm_search.specs.Cutting.{IsOfParts, parts_of}
-use Rattle.cgm_search.specs.Knowing.{IsKnown, seen, seen_state}
+use Rattle.cgm_search.specs.Knowing.{IsKnowledge, seen, seen_state}
 use Rattle.cgm_search.specs.Storing.{IsLongLemma, IsSeenName, IsStoreFor, is_of_cut, last_cut, store_after}
 use Rattle.cgm_search.proofs.CutNames.{names_of_last}
 use Rattle.cgm_search.proofs.Forgetting.{forgotten_store}
@@ -43,7 +43,7 @@ nothing_at (suc i) c h = cc
 no_cut_at_first : (p : Instance) → last_cut p (state_of []) ≡ []
 no_cut_at_first p = let none : last_best (state_of []) ≡ None = last_best_of_log [] in rw none refl
 
-first_store : (p : Instance) → IsStoreFor p [] (started p)
+first_store : (p : Instance) → IsStoreFor p [] (store_started p)
 first_store p = record {
   of_problem = record { vars = refl; clauses = refl };
   names = All-nil (λ n. IsSeenName p (state_of []) n.name (of_clause n.clause));
@@ -51,7 +51,7 @@ first_store p = record {
   lemmas = λ place c named short. absurd (nothing_at place c named);
 }
 
-pub known_at_first : (k : Known) (p : Instance) (entries : List Entry) → k.problem ≡ p → IsWellFormed p → k.entries.items ≡ entries → entries ≡ [] → IsIndexOf k.index [] → k.store ≡ started p → IsKnown k
+pub known_at_first : (k : Known) (p : Instance) (entries : List Entry) → k.problem ≡ p → IsWellFormedProblem p → k.entries.items ≡ entries → entries ≡ [] → IsLogIndexOf k.index [] → k.store ≡ store_started p → IsKnowledge k
 known_at_first k p entries same wf items none own store = record {
   problem = rw same wf;
   own = rw (items ∙ none) own;
@@ -75,7 +75,7 @@ next_atoms_known p s by bound clause hints h =
     (no_fault_mapped (λ (i : ℕ). fault.Atom (i + 1)) (position_from (λ (a : Atom). not (nat_lt a.var.0 (var_count p))) 0 clause.atoms) none.1.0)
 
 -- the values of a best are those of the problem's variables
-pub next_values_fit : (p : Instance) (s : LogState) (by : ℕ) (values : List ℤ) → IsWellFormed p → first_fault p s (Best by values) ≡ None → AreValuesOf p values
+pub next_values_fit : (p : Instance) (s : LogState) (by : ℕ) (values : List ℤ) → IsWellFormedProblem p → first_fault p s (Best by values) ≡ None → AreValuesOf p values
 unfolding first_fault
 next_values_fit p s by values wf h =
     let none = AreNone-from_first (faults p s (Best by values)) h in
@@ -88,7 +88,7 @@ names_before p s added before there e h =
 
 -- ---- the next entry
 
-pub known_next : (old new : Known) (e : Entry) → IsKnown old → first_fault old.problem (seen_state old) e ≡ None → length (seen old) + 1 < 2 ^ 63 → new.problem ≡ old.problem → seen new ≡ seen old ++ e ∷ [] → IsIndexOf new.index (seen old ++ e ∷ []) → new.store ≡ store_after old.problem (seen_state old) old.store e → IsKnown new
+pub known_next : (old new : Known) (e : Entry) → IsKnowledge old → first_fault old.problem (seen_state old) e ≡ None → length (seen old) + 1 < 2 ^ 63 → new.problem ≡ old.problem → seen new ≡ seen old ++ e ∷ [] → IsLogIndexOf new.index (seen old ++ e ∷ []) → new.store ≡ store_after old.problem (seen_state old) old.store e → IsKnowledge new
 known_next old new e h accepted room problem entries own store = record {
   problem = rw problem h.problem;
   own = rw entries own;
@@ -125,7 +125,7 @@ place_of log i e short here =
     let next : i + 1 ≡ suc i = omega arith in
     rw next (slice_get-get_or log i e short ∙ ap Some (sym here))
 
-pub known_forgets : (old new : Known) (i : ℕ) (e : Entry) → IsKnown old → i < length (seen old) → e ≡ get_or (seen old) i e → IsLongLemma e → new.problem ≡ old.problem → new.entries ≡ old.entries → new.index ≡ old.index → IsForgotten (hint.Entry (i + 1)) old.store.added new.store.added → new.store.clauses ≡ old.store.clauses → new.store.vars ≡ old.store.vars → IsKnown new
+pub known_forgets : (old new : Known) (i : ℕ) (e : Entry) → IsKnowledge old → i < length (seen old) → e ≡ get_or (seen old) i e → IsLongLemma e → new.problem ≡ old.problem → new.entries ≡ old.entries → new.index ≡ old.index → IsForgotten (hint.Entry (i + 1)) old.store.added new.store.added → new.store.clauses ≡ old.store.clauses → new.store.vars ≡ old.store.vars → IsKnowledge new
 known_forgets old new i e h short here long problem entries index gone clauses vars = record {
   problem = rw problem h.problem;
   own = rw (index, entries) h.own;

@@ -13,7 +13,7 @@ use Rattle.cgm_log.specs.declared.batches.Batch.{Batch}
 use Rattle.cgm_log.specs.declared.batches.Fate.{Fate}
 use Rattle.cgm_log.specs.Landing.{fate_of, kept_candidate, landed, with_landed}
 use Rattle.cgm_log.proofs.Adding.{closed_stays}
-use Rattle.cgm_search.specs.Trading.{HasLanded, IsLonger, kept_of}
+use Rattle.cgm_search.specs.Trading.{HasLanded, IsLongerLog, kept_of}
 
 -- ---- parts of an accepted log
 
@@ -86,7 +86,7 @@ landing_fits p log mid landing b limit e f h =
 
 -- ---- a longer log
 
-pub longer : (p : Instance) (old new : List Entry) (b : Batch) → HasLanded p old b new → IsLonger old new
+pub longer : (p : Instance) (old new : List Entry) (b : Batch) → HasLanded p old b new → IsLongerLog old new
 longer p old new b h = (
   h.0 ++ landed p (old ++ h.0) b,
   h.1 ∙ append_assoc old h.0 (landed p (old ++ h.0) b),

@@ -18,10 +18,10 @@ use Rattle.cgm_clauses.specs.StoreState.{all_clauses}
 use Rattle.cgm_log.specs.declared.batches.Batch.{Batch}
 use Rattle.cgm_log.specs.declared.batches.Fate.{Fate}
 use Rattle.cgm_log.specs.declared.batches.Fate.TheVariants.{Behind, Kept}
-use Rattle.cgm_log.specs.Landing.{IsLemmaOf, IsProper, fate_after, kept_candidate, kept_entry, with_landed}
+use Rattle.cgm_log.specs.Landing.{IsLemmaOf, IsProperBatch, fate_after, kept_candidate, kept_entry, with_landed}
 use Rattle.cgm_log.proofs.Adding.{closed_stays, open_grows}
 use Rattle.cgm_search.specs.declared.searches.Search.{Search}
-use Rattle.cgm_search.specs.Knowing.{IsKnown, seen}
+use Rattle.cgm_search.specs.Knowing.{IsKnowledge, seen}
 use Rattle.cgm_search.specs.Searching.{IsReady, IsTradedIn}
 use Rattle.cgm_search.specs.Stepping.{IsOffered}
 use Rattle.cgm_search.specs.Storing.{IsStoreFor}
@@ -36,7 +36,7 @@ use Rattle.cgm_trail.specs.TrailState.{TrailState, box_of}
 abbrev pub candidate_batch : ℕ → List ℤ → Batch
 candidate_batch by values = record { by = by; lemmas = []; candidate = Some values }
 
-pub proper_candidate : (p : Instance) (log : List Entry) (by : ℕ) (values : List ℤ) → by < max_workers → IsSolution p values → IsProper p log (candidate_batch by values)
+pub proper_candidate : (p : Instance) (log : List Entry) (by : ℕ) (values : List ℤ) → by < max_workers → IsSolution p values → IsProperBatch p log (candidate_batch by values)
 proper_candidate p log by values below solves =
     record { worker = below; count = omega arith; lemmas = All-nil (IsLemmaOf by (length log)); accepted = tt; closing = tt; candidate = solves }
 
@@ -71,7 +71,7 @@ by_closed p log new by values false still_open h =
 pub offered : (p : Instance) (old new : List Entry) (by : ℕ) (values : List ℤ) → HasLanded p old (candidate_batch by values) new → IsClosed new ⊎ IsBehind p values new
 offered p old new by values h = by_closed p (old ++ h.0) new by values (state_of (old ++ h.0)).closed refl h.1
 
-pub offered_on_ok : {T E : Type 0} (r : Result T E) (old new : Search) (b : Batch) → IsReady old → IsTradedIn old new → IsBoxOf old.known.problem.bounds (box_of old.trail) → IsPoint (box_of old.trail) → b ≡ candidate_batch old.worker (box_of old.trail).lower → OnOk r (IsKnown new.known) → OnOk r (HasLanded old.known.problem (seen old.known) b (seen new.known)) → OnOk r (IsOffered old new)
+pub offered_on_ok : {T E : Type 0} (r : Result T E) (old new : Search) (b : Batch) → IsReady old → IsTradedIn old new → IsBoxOf old.known.problem.bounds (box_of old.trail) → IsPoint (box_of old.trail) → b ≡ candidate_batch old.worker (box_of old.trail).lower → OnOk r (IsKnowledge new.known) → OnOk r (HasLanded old.known.problem (seen old.known) b (seen new.known)) → OnOk r (IsOffered old new)
 offered_on_ok (Err x) old new b h same box point e known landed = tt
 offered_on_ok (Ok x) old new b h same box point e known landed =
     let p : Instance = old.known.problem in

@@ -18,7 +18,7 @@ use Rattle.cgm_atom.specs.LogState.{state_of}
 use Rattle.cgm_atom.specs.Narrowing.{left_by_clause, made_true}
 use Rattle.cgm_atom.proofs.Shrinking.{IsSmaller-same, IsSmaller-trans, clause_narrows_smaller, made_true_shrinks}
 use Rattle.cgm_clauses.specs.Standing.{IsFalseIn, IsQuietIn}
-use Rattle.cgm_clauses.specs.StoreState.{IsNamedIn, all_clauses}
+use Rattle.cgm_clauses.specs.StoreState.{IsPairIn, all_clauses}
 use Rattle.cgm_clauses.specs.Sweeping.{AreQuiet, IsSwept}
 use Rattle.cgm_clauses.proofs.Naming.{quiet_store}
 use Rattle.cgm_search.specs.declared.decisions.Choice.{Choice}
@@ -28,12 +28,12 @@ use Rattle.cgm_search.specs.declared.plans.Stopped.{Stopped}
 use Rattle.cgm_search.specs.declared.plans.Stopped.TheVariants as stopped
 use Rattle.cgm_search.specs.declared.searches.Search.{Search}
 use Rattle.cgm_search.specs.Choosing.{IsChoiceOf}
-use Rattle.cgm_search.specs.Knowing.{IsKnown, seen, seen_state}
-use Rattle.cgm_search.specs.Searching.{AreSeenReasons, IsKept, IsOutcome, IsPlan, IsReady, IsTradedIn, IsTrailOf, IsUnit, Sits, need}
+use Rattle.cgm_search.specs.Knowing.{IsKnowledge, seen, seen_state}
+use Rattle.cgm_search.specs.Searching.{AreSeenReasons, IsKeptSearch, IsSearchOutcome, IsPlan, IsReady, IsTradedIn, IsTrailOf, IsUnit, Sits, need}
 use Rattle.cgm_search.specs.Settling.{IsRoundName, IsSettled}
 use Rattle.cgm_search.specs.Stepping.{HasFalseClause, IsCutOutcome}
 use Rattle.cgm_search.specs.Storing.{IsSeenName}
-use Rattle.cgm_search.specs.Trading.{IsLonger}
+use Rattle.cgm_search.specs.Trading.{IsLongerLog}
 use Rattle.cgm_search.proofs.Keeping.{round_seen}
 use Rattle.cgm_search.proofs.Reasons.{level_of-steps, reasons_longer}
 use Rattle.cgm_trail.specs.declared.changes.Change.{Change}
@@ -41,7 +41,7 @@ use Rattle.cgm_trail.specs.declared.changes.Swept.{Swept}
 use Rattle.cgm_trail.specs.declared.changes.Swept.TheVariants as swept
 use Rattle.cgm_trail.specs.declared.changes.Reason.TheVariants.{Decision, By}
 use Rattle.cgm_trail.specs.Steps.{AreReasoned, IsGiven, IsPropagated}
-use Rattle.cgm_trail.specs.TrailState.{TrailState, box_after, box_of, change_of, cut_to, cut_trail, decided, decision_places, is_decision, jumped, level_of, restarted, started}
+use Rattle.cgm_trail.specs.TrailState.{TrailState, box_after, box_of, change_of, cut_to, cut_trail, decided, decision_places, is_decision, jumped, level_of, restarted, trail_started}
 use Rattle.cgm_trail.proofs.Cuts.{cut_places, length-places}
 use Rattle.cgm_trail.proofs.Propagating.{box_grown, more_names, reasoned_after, reasoned_cut, reasoned_decided, reasoned_jumped}
 
@@ -69,14 +69,14 @@ ready_moved old new h same trail reasons =
       worker = rw same.worker h.worker;
     }
 
-pub kept_moved : (old new : Search) → IsMoved old new → IsTrailOf old.known.problem old.plan new.trail → IsKept old new
+pub kept_moved : (old new : Search) → IsMoved old new → IsTrailOf old.known.problem old.plan new.trail → IsKeptSearch old new
 kept_moved old new same trail =
     record { problem = ap (λ k. k.problem) same.known; plan = same.plan; worker = same.worker; trail = trail }
 
 pub ready_same : (old new : Search) → IsReady old → IsMoved old new → new.trail ≡ old.trail → IsReady new
 ready_same old new h same trail = ready_moved old new h same (rw trail h.trail) (rw trail h.reasons)
 
-pub kept_same : (old new : Search) → IsReady old → IsMoved old new → new.trail ≡ old.trail → IsKept old new
+pub kept_same : (old new : Search) → IsReady old → IsMoved old new → new.trail ≡ old.trail → IsKeptSearch old new
 kept_same old new h same trail = kept_moved old new same (rw trail h.trail)
 
 -- the weights of variables have changed
@@ -148,7 +148,7 @@ ready_propagated old new left left' h round =
     ready_moved old new h round.same (round_trail old new left left' h round)
     (reasons_propagated old new.trail left left' h (made_seen old new.trail left left' h round.made))
 
-pub kept_propagated : (old new : Search) (left left' : ℕ) → IsReady old → IsRoundOf old new left left' → IsKept old new
+pub kept_propagated : (old new : Search) (left left' : ℕ) → IsReady old → IsRoundOf old new left left' → IsKeptSearch old new
 kept_propagated old new left left' h round = kept_moved old new round.same (round_trail old new left left' h round)
 
 all_spent : (old new : Search) (left left' : ℕ) → IsReady old → IsRoundOf old new left left' → left' ≡ 0 → new.trail.moves ≡ new.plan.budget
@@ -161,7 +161,7 @@ all_spent old new left left' h round none =
     omega arith
 
 -- how it ended, for the search
-pub outcome_settled : {E : Type 0} (old new : Search) (left left' : ℕ) (answer : Result Swept E) → IsReady old → IsRoundOf old new left left' → IsSettled old.known.problem (all_clauses old.known.store) (box_of new.trail) left' answer → IsOutcome new answer
+pub outcome_settled : {E : Type 0} (old new : Search) (left left' : ℕ) (answer : Result Swept E) → IsReady old → IsRoundOf old new left left' → IsSettled old.known.problem (all_clauses old.known.store) (box_of new.trail) left' answer → IsSearchOutcome new answer
 outcome_settled old new left left' (Ok swept.Quiet) h round quiet =
     rw round.same.known
     (record { clauses = quiet_store old.known.problem old.known.store (box_of new.trail) h.known.store.of_problem quiet.0; rows = quiet.1 })
@@ -172,11 +172,11 @@ outcome_settled old new left left' (Ok swept.Spent) h round none = all_spent old
 outcome_settled old new left left' (Err e) h round any = tt
 
 -- where a clause was false, propagation by the store isn't quiet
-store_round : (s : Search) (new : TrailState) (left left' : ℕ) → IsPropagated (IsNamedIn (all_clauses s.known.store)) s.trail new left left' → IsPropagated (RoundNames s) s.trail new left left'
+store_round : (s : Search) (new : TrailState) (left left' : ℕ) → IsPropagated (IsPairIn (all_clauses s.known.store)) s.trail new left left' → IsPropagated (RoundNames s) s.trail new left left'
 store_round s new left left' made =
-    more_names (IsNamedIn (all_clauses s.known.store)) (RoundNames s) s.trail new left left' (λ (by : Hint) (k : Constraint) (name : IsNamedIn (all_clauses s.known.store) by k). inl name) made
+    more_names (IsPairIn (all_clauses s.known.store)) (RoundNames s) s.trail new left left' (λ (by : Hint) (k : Constraint) (name : IsPairIn (all_clauses s.known.store) by k). inl name) made
 
-pub round_of_store : (old new : Search) (left left' : ℕ) → IsMoved old new → left ≡ old.plan.budget - old.trail.moves → IsPropagated (IsNamedIn (all_clauses old.known.store)) old.trail new.trail left left' → IsRoundOf old new left left'
+pub round_of_store : (old new : Search) (left left' : ℕ) → IsMoved old new → left ≡ old.plan.budget - old.trail.moves → IsPropagated (IsPairIn (all_clauses old.known.store)) old.trail new.trail left left' → IsRoundOf old new left left'
 round_of_store old new left left' same e made =
     record { same = same; budget = e; made = store_round old new.trail left left' made }
 
@@ -255,7 +255,7 @@ ready_decided old new a h same room made =
     (rw made (trail_decided old.known.problem old.plan old.trail a h.trail room))
     (rw made (reasons_decided old a h))
 
-pub kept_decided : (old new : Search) (a : Atom) → IsReady old → IsMoved old new → old.trail.moves < old.plan.budget → new.trail ≡ decided old.trail a → IsKept old new
+pub kept_decided : (old new : Search) (a : Atom) → IsReady old → IsMoved old new → old.trail.moves < old.plan.budget → new.trail ≡ decided old.trail a → IsKeptSearch old new
 kept_decided old new a h same room made =
     kept_moved old new same (rw made (trail_decided old.known.problem old.plan old.trail a h.trail room))
 
@@ -276,7 +276,7 @@ ready_restarted old new h same room times made =
     (rw made (trail_restarted old.known.problem old.plan old.trail h.trail room times))
     (rw made (reasoned_cut (Names old) old.known.problem.bounds 0 old.trail.changes h.reasons))
 
-pub kept_restarted : (old new : Search) → IsReady old → IsMoved old new → old.trail.moves < old.plan.budget → old.trail.restarts < old.plan.restarts → new.trail ≡ restarted old.trail → IsKept old new
+pub kept_restarted : (old new : Search) → IsReady old → IsMoved old new → old.trail.moves < old.plan.budget → old.trail.restarts < old.plan.restarts → new.trail ≡ restarted old.trail → IsKeptSearch old new
 kept_restarted old new h same room times made =
     kept_moved old new same (rw made (trail_restarted old.known.problem old.plan old.trail h.trail room times))
 
@@ -302,7 +302,7 @@ ready_jumped old new level a by k h same room named given made =
     (rw made (trail_jumped old.known.problem old.plan old.trail level a by h.trail room))
     (rw made (reasons_jumped old level a by k h named given))
 
-pub kept_jumped : (old new : Search) (level : ℕ) (a : Atom) (by : Hint) → IsReady old → IsMoved old new → old.trail.moves < old.plan.budget → new.trail ≡ jumped old.trail level a by → IsKept old new
+pub kept_jumped : (old new : Search) (level : ℕ) (a : Atom) (by : Hint) → IsReady old → IsMoved old new → old.trail.moves < old.plan.budget → new.trail ≡ jumped old.trail level a by → IsKeptSearch old new
 kept_jumped old new level a by h same room made =
     kept_moved old new same (rw made (trail_jumped old.known.problem old.plan old.trail level a by h.trail room))
 
@@ -318,14 +318,14 @@ need_jumped old new level a by same room earlier made =
 
 -- ---- trades
 
-reasons_traded : (old new : Search) → IsReady old → IsTradedIn old new → IsLonger (seen old.known) (seen new.known) → AreSeenReasons new
+reasons_traded : (old new : Search) → IsReady old → IsTradedIn old new → IsLongerLog (seen old.known) (seen new.known) → AreSeenReasons new
 reasons_traded old new h same longer =
     let p : Instance = old.known.problem in
     rw (same.problem, same.trail)
     (subst (λ (xs : List Entry). AreReasoned (IsSeenName p (state_of xs)) p.bounds old.trail.changes) (sym longer.1)
     (reasons_longer p (seen old.known) longer.0 p.bounds old.trail.changes h.reasons))
 
-pub ready_traded : (old new : Search) → IsReady old → IsTradedIn old new → IsKnown new.known → (seen_state new.known).closed ≡ false → IsLonger (seen old.known) (seen new.known) → IsReady new
+pub ready_traded : (old new : Search) → IsReady old → IsTradedIn old new → IsKnowledge new.known → (seen_state new.known).closed ≡ false → IsLongerLog (seen old.known) (seen new.known) → IsReady new
 ready_traded old new h same known still_open longer =
     record {
       known = known;
@@ -337,7 +337,7 @@ ready_traded old new h same known still_open longer =
       worker = rw same.worker h.worker;
     }
 
-pub kept_traded : (old new : Search) → IsReady old → IsTradedIn old new → IsKept old new
+pub kept_traded : (old new : Search) → IsReady old → IsTradedIn old new → IsKeptSearch old new
 kept_traded old new h same =
     record { problem = same.problem; plan = same.plan; worker = same.worker; trail = rw same.trail h.trail }
 
@@ -381,7 +381,7 @@ nothing_open : (log : List Entry) → log ≡ [] → (state_of log).closed ≡ f
 unfolding state_of
 nothing_open log e = rw e refl
 
-pub ready_new : (p : Instance) (s : Search) → IsKnown s.known → s.known.problem ≡ p → seen s.known ≡ [] → s.trail ≡ started p → IsChoiceOf (var_count p) s.choice → IsPlan s.plan → s.worker < max_workers → IsReady s
+pub ready_new : (p : Instance) (s : Search) → IsKnowledge s.known → s.known.problem ≡ p → seen s.known ≡ [] → s.trail ≡ trail_started p → IsChoiceOf (var_count p) s.choice → IsPlan s.plan → s.worker < max_workers → IsReady s
 ready_new p s known problem nothing trail choice plan worker =
     record {
       known = known;

@@ -11,7 +11,7 @@ use Rattle.cgm_atom.specs.Constraints.{Constraint, left_by, of_clause, of_row}
 use Rattle.cgm_atom.specs.Instance.{Instance}
 use Rattle.cgm_atom.specs.Narrowing.{left_by_row}
 use Rattle.cgm_clauses.specs.declared.named.Named.{Named}
-use Rattle.cgm_clauses.specs.StoreState.{IsNamedIn}
+use Rattle.cgm_clauses.specs.StoreState.{IsPairIn}
 use Rattle.cgm_clauses.specs.Standing.{IsFalseIn}
 use Rattle.cgm_clauses.specs.Sweeping.{AreQuiet}
 use Rattle.cgm_clauses.proofs.Steps.{left_is_less, trail_stays}
@@ -65,25 +65,25 @@ row_conflict p n old new h (Some r) e c = (of_row r, (n, (r, e, (c.0, refl))), r
 
 -- ---- a round
 
-pub store_named : (p : Instance) (clauses : List Named) (h : Hint) (k : Constraint) → IsNamedIn clauses h k → IsRoundName p clauses h k
+pub store_named : (p : Instance) (clauses : List Named) (h : Hint) (k : Constraint) → IsPairIn clauses h k → IsRoundName p clauses h k
 store_named p clauses h k named = inl named
 
 pub row_named : (p : Instance) (clauses : List Named) (h : Hint) (k : Constraint) → IsRowName p h k → IsRoundName p clauses h k
 row_named p clauses h k named = inr named
 
-pub made_by_store : (p : Instance) (clauses : List Named) (old new : TrailState) (left left' : ℕ) → IsPropagated (IsNamedIn clauses) old new left left' → IsPropagated (IsRoundName p clauses) old new left left'
+pub made_by_store : (p : Instance) (clauses : List Named) (old new : TrailState) (left left' : ℕ) → IsPropagated (IsPairIn clauses) old new left left' → IsPropagated (IsRoundName p clauses) old new left left'
 made_by_store p clauses old new left left' h =
-    more_names (IsNamedIn clauses) (IsRoundName p clauses) old new left left' (store_named p clauses) h
+    more_names (IsPairIn clauses) (IsRoundName p clauses) old new left left' (store_named p clauses) h
 
-pub made_by_round : (p : Instance) (clauses : List Named) (old mid new : TrailState) (left left' left'' : ℕ) → IsPropagated (IsNamedIn clauses) old mid left left' → IsPropagated (IsRowName p) mid new left' left'' → IsPropagated (IsRoundName p clauses) old new left left''
+pub made_by_round : (p : Instance) (clauses : List Named) (old mid new : TrailState) (left left' left'' : ℕ) → IsPropagated (IsPairIn clauses) old mid left left' → IsPropagated (IsRowName p) mid new left' left'' → IsPropagated (IsRoundName p clauses) old new left left''
 made_by_round p clauses old mid new left left' left'' h k =
     one_after_another (IsRoundName p clauses) old mid new left left' left'' (made_by_store p clauses old mid left left' h)
     (more_names (IsRowName p) (IsRoundName p clauses) mid new left' left'' (row_named p clauses) k)
 
-pub round_end : {E : Type 0} (p : Instance) (clauses : List Named) (old mid new : TrailState) (left left' left'' : ℕ) (answer : Result Swept E) → IsPropagated (IsNamedIn clauses) old mid left left' → IsPropagated (IsRowName p) mid new left' left'' → AreQuiet (box_of mid) clauses → IsRowRound p (box_of new) left' left'' answer → IsOneRound p clauses (box_of new) left left'' answer
+pub round_end : {E : Type 0} (p : Instance) (clauses : List Named) (old mid new : TrailState) (left left' left'' : ℕ) (answer : Result Swept E) → IsPropagated (IsPairIn clauses) old mid left left' → IsPropagated (IsRowName p) mid new left' left'' → AreQuiet (box_of mid) clauses → IsRowRound p (box_of new) left' left'' answer → IsOneRound p clauses (box_of new) left left'' answer
 round_end p clauses old mid new left left' left'' (Ok swept.Quiet) h k quiet rows =
     λ (e : left'' ≡ left).
-    let less = left_is_less (IsNamedIn clauses) old mid left left' h in
+    let less = left_is_less (IsPairIn clauses) old mid left left' h in
     let less' = left_is_less (IsRowName p) mid new left' left'' k in
     let second : left'' ≡ left' = omega arith in
     let same : new ≡ mid = trail_stays (IsRowName p) mid new left' left'' k second in

@@ -25,7 +25,7 @@ use Rattle.cgm_clauses.proofs.Standings.{left_as, made_is_true}
 use Rattle.cgm_learn.specs.declared.learned.Learned.{Learned}
 use Rattle.cgm_learn.specs.Learning.{IsAcceptedLemma, IsKnownHint, IsLemmaInRange, IsUnitAfterCut, IsUnitAtLast, lemma_by, state_with_pending}
 use Rattle.cgm_log.specs.declared.batches.Batch.{Batch}
-use Rattle.cgm_log.specs.Landing.{IsLemmaOf, IsProper, with_landed}
+use Rattle.cgm_log.specs.Landing.{IsLemmaOf, IsProperBatch, with_landed}
 use Rattle.cgm_log.proofs.Adding.{closed_stays, open_grows}
 use Rattle.cgm_search.specs.declared.knowledge.Known.{Known}
 use Rattle.cgm_search.specs.Knowing.{seen, seen_state}
@@ -52,7 +52,7 @@ known_before n (hint.Cut ordinal part) known = tt
 abbrev pub lemma_batch : ℕ → Entry → Batch
 lemma_batch by e = record { by = by; lemmas = e ∷ []; candidate = None }
 
-pub proper_lemma : (k : Known) (worker : ℕ) (l : Learned) → worker < max_workers → IsTradable k l → IsProper k.problem (seen k) (lemma_batch worker (lemma_by worker l))
+pub proper_lemma : (k : Known) (worker : ℕ) (l : Learned) → worker < max_workers → IsTradable k l → IsProperBatch k.problem (seen k) (lemma_batch worker (lemma_by worker l))
 proper_lemma k worker l below tradable =
     let p : Instance = k.problem in
     let log : List Entry = seen k in
@@ -71,7 +71,7 @@ proper_lemma k worker l below tradable =
       candidate = tt;
     }
 
-pub proper_empty : (p : Instance) (log : List Entry) (by : ℕ) → by < max_workers → IsProper p log (record { by = by; lemmas = []; candidate = None })
+pub proper_empty : (p : Instance) (log : List Entry) (by : ℕ) → by < max_workers → IsProperBatch p log (record { by = by; lemmas = []; candidate = None })
 proper_empty p log by below =
     record { worker = below; count = omega arith; lemmas = All-nil (IsLemmaOf by (length log)); accepted = tt; closing = tt; candidate = tt }
 

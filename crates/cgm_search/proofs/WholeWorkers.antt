@@ -10,7 +10,7 @@ use Rattle.cgm_search.specs.declared.plans.Plan.{Plan}
 use Rattle.cgm_search.specs.declared.plans.Stopped.{Stopped}
 use Rattle.cgm_search.specs.declared.plans.Stopped.TheVariants as stopped
 use Rattle.cgm_search.specs.declared.searches.Search.{Search}
-use Rattle.cgm_search.specs.Searching.{IsKept, IsReady, IsTrailOf, Sits}
+use Rattle.cgm_search.specs.Searching.{IsKeptSearch, IsReady, IsTrailOf, Sits}
 use Rattle.cgm_search.specs.WorkerParts.{IsEndedAs, IsWhole, worker_state}
 use Rattle.cgm_search.specs.Working.{IsAt, IsSearching, IsWorker, WorkerState}
 use Rattle.cgm_search.proofs.UsedBounds.{all_low}
@@ -83,10 +83,10 @@ final_exactly w answer h e = final_by w answer (at_answer w answer h e)
 
 -- ---- what stays
 
-pub kept_itself : (s : Search) → IsReady s → IsKept s s
+pub kept_itself : (s : Search) → IsReady s → IsKeptSearch s s
 kept_itself s h = record { problem = refl; plan = refl; worker = refl; trail = h.trail }
 
-pub kept_twice : (old mid new : Search) → IsKept old mid → IsKept mid new → IsKept old new
+pub kept_twice : (old mid new : Search) → IsKeptSearch old mid → IsKeptSearch mid new → IsKeptSearch old new
 kept_twice old mid new h k =
     record {
       problem = k.problem ∙ h.problem;
@@ -95,7 +95,7 @@ kept_twice old mid new h k =
       trail = subst (λ (plan : Plan). IsTrailOf old.known.problem plan new.trail) h.plan (subst (λ (p : Instance). IsTrailOf p mid.plan new.trail) h.problem k.trail);
     }
 
-pub whole_kept : (seat seat' : Seat) (old new : Search) (answer : Stopped) → IsReady old → seat.problem ≡ old.known.problem → seat'.problem ≡ seat.problem → IsKept old new → IsEndedAs new seat' (Some answer) → IsWhole new seat' (Some answer)
+pub whole_kept : (seat seat' : Seat) (old new : Search) (answer : Stopped) → IsReady old → seat.problem ≡ old.known.problem → seat'.problem ≡ seat.problem → IsKeptSearch old new → IsEndedAs new seat' (Some answer) → IsWhole new seat' (Some answer)
 whole_kept seat seat' old new answer h e f kept ended =
     record {
       plan = rw kept.plan h.plan;

@@ -11,7 +11,7 @@ use Rattle.cgm_search.specs.declared.plans.Stopped.{Stopped}
 use Rattle.cgm_search.specs.declared.plans.Stopped.TheVariants as stopped
 use Rattle.cgm_search.specs.declared.searches.Search.{Search}
 use Rattle.cgm_search.specs.Choosing.{IsChoiceOf}
-use Rattle.cgm_search.specs.Knowing.{IsKnown, seen, seen_state}
+use Rattle.cgm_search.specs.Knowing.{IsKnowledge, seen, seen_state}
 use Rattle.cgm_search.specs.Storing.{IsSeenName}
 use Rattle.cgm_trail.specs.declared.changes.Swept.{Swept}
 use Rattle.cgm_trail.specs.declared.changes.Swept.TheVariants as swept
@@ -41,7 +41,7 @@ AreSeenReasons s =
     AreReasoned (IsSeenName s.known.problem (seen_state s.known)) s.known.problem.bounds s.trail.changes
 
 pub record IsReady (s : Search) : Type 0 where
-  pub known : IsKnown s.known
+  pub known : IsKnowledge s.known
   pub still_open : (seen_state s.known).closed ≡ false
   pub trail : IsTrailOf s.known.problem s.plan s.trail
   pub reasons : AreSeenReasons s
@@ -56,7 +56,7 @@ pub record Sits (s : Search) (seat : Seat) : Type 0 where
   pub own_number : IfSome seat.number (λ n. s.worker ≡ n)
 
 -- what stays, also for want of memory
-pub record IsKept (old new : Search) : Type 0 where
+pub record IsKeptSearch (old new : Search) : Type 0 where
   pub problem : new.known.problem ≡ old.known.problem
   pub plan : new.plan ≡ old.plan
   pub worker : new.worker ≡ old.worker
@@ -80,11 +80,11 @@ need s = s.plan.budget - s.trail.moves + level_of s.trail.changes + 1
 abbrev pub IsConflictOf : Search → Hint → Type 0
 IsConflictOf s h = IsConflictIn s.known.problem (seen_state s.known) [] (box_of s.trail) h
 
-abbrev pub IsOutcome : {E : Type 0} → Search → Result Swept E → Type 0
-IsOutcome s (Ok swept.Quiet) = IsAtRest s.known.problem (box_of s.trail)
-IsOutcome s (Ok (swept.Conflict h)) = IsConflictOf s h
-IsOutcome s (Ok swept.Spent) = s.trail.moves ≡ s.plan.budget
-IsOutcome s (Err e) = Unit {0}
+abbrev pub IsSearchOutcome : {E : Type 0} → Search → Result Swept E → Type 0
+IsSearchOutcome s (Ok swept.Quiet) = IsAtRest s.known.problem (box_of s.trail)
+IsSearchOutcome s (Ok (swept.Conflict h)) = IsConflictOf s h
+IsSearchOutcome s (Ok swept.Spent) = s.trail.moves ≡ s.plan.budget
+IsSearchOutcome s (Err e) = Unit {0}
 
 -- ---- a unit
 

@@ -8,7 +8,7 @@ use Rattle.cgm_atom.specs.Constraints.{Constraint, left_by}
 use Rattle.cgm_atom.specs.Instance.{Instance}
 use Rattle.cgm_atom.specs.Narrowing.{left_by_row}
 use Rattle.cgm_clauses.specs.declared.named.Named.{Named}
-use Rattle.cgm_clauses.specs.StoreState.{IsNamedIn}
+use Rattle.cgm_clauses.specs.StoreState.{IsPairIn}
 use Rattle.cgm_clauses.specs.Sweeping.{AreQuiet}
 use Rattle.cgm_linear.specs.Sweeping.{IsRowNumbered}
 use Rattle.cgm_trail.specs.declared.changes.Swept.{Swept}
@@ -16,7 +16,7 @@ use Rattle.cgm_trail.specs.declared.changes.Swept.TheVariants as swept
 
 -- the hint names a clause of the list, or a row of the problem
 abbrev pub IsRoundName : Instance → List Named → Hint → Constraint → Type 0
-IsRoundName p clauses h k = IsNamedIn clauses h k ⊎ ((n : ℕ) × IsRowNumbered p n h k)
+IsRoundName p clauses h k = IsPairIn clauses h k ⊎ ((n : ℕ) × IsRowNumbered p n h k)
 
 -- the rows leave the box as it is
 abbrev pub AreRowsQuiet : Bounds → List Row → Type 0

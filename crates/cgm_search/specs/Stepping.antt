@@ -16,11 +16,11 @@ use Rattle.cgm_trail.specs.declared.changes.Swept.TheVariants as swept
 use Rattle.cgm_trail.specs.TrailState.{box_of}
 
 -- one move more, or none is left
-abbrev pub IsDecided : Search → Search → Option Stopped → Type 0
-IsDecided old new None = (old.trail.moves < new.trail.moves) × (need new ≤ need old)
-IsDecided old new (Some stopped.Final) = ⊥
-IsDecided old new (Some stopped.Spent) = new.trail.moves ≡ new.plan.budget
-IsDecided old new (Some stopped.Memory) = ⊥
+abbrev pub IsOneMoveMore : Search → Search → Option Stopped → Type 0
+IsOneMoveMore old new None = (old.trail.moves < new.trail.moves) × (need new ≤ need old)
+IsOneMoveMore old new (Some stopped.Final) = ⊥
+IsOneMoveMore old new (Some stopped.Spent) = new.trail.moves ≡ new.plan.budget
+IsOneMoveMore old new (Some stopped.Memory) = ⊥
 
 -- the log is closed, or the search is ready
 abbrev pub IsLooked : Search → Seat → Option Stopped → Type 0

@@ -21,8 +21,8 @@ abbrev pub HasLanded : Instance → List Entry → Batch → List Entry → Type
 HasLanded p old b new = (news : List Entry) × (new ≡ with_landed p (old ++ news) b)
 
 -- a longer log
-abbrev pub IsLonger : List Entry → List Entry → Type 0
-IsLonger old new = (more : List Entry) × (new ≡ old ++ more)
+abbrev pub IsLongerLog : List Entry → List Entry → Type 0
+IsLongerLog old new = (more : List Entry) × (new ≡ old ++ more)
 
 -- what is known of the log with the news of an answer, and then with the batch
 abbrev pub after_news : Known → Traded → List Entry

@@ -7,7 +7,7 @@ use Rattle.cgm_search.specs.declared.plans.Stopped.TheVariants as stopped
 use Rattle.cgm_search.specs.declared.searches.Search.{Search}
 use Rattle.cgm_search.specs.Searching.{IsPlan, IsReady, IsTrailOf, Sits}
 use Rattle.cgm_search.specs.Working.{WorkerState}
-use Rattle.cgm_trail.specs.TrailState.{started}
+use Rattle.cgm_trail.specs.TrailState.{trail_started}
 
 abbrev pub worker_state : Seat → Search → Option Stopped → WorkerState
 worker_state seat s ended =
@@ -25,7 +25,7 @@ pub record IsFresh (s : Search) (seat : Seat) : Type 0 where
   pub ready : IsReady s
   pub sits : Sits s seat
   pub nothing : seat.told ≡ []
-  pub trail : s.trail ≡ started seat.problem
+  pub trail : s.trail ≡ trail_started seat.problem
   pub enough : s.plan.budget + 2 ≤ seat.trades
 
 abbrev pub IsEndedAs : Search → Seat → Option Stopped → Type 0

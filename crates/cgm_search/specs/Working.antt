@@ -11,7 +11,7 @@ use Rattle.cgm_search.specs.declared.plans.Stopped.TheVariants as stopped
 use Rattle.cgm_search.specs.Searching.{IsPlan, IsTrailOf}
 use Rattle.cgm_search.specs.Storing.{IsSeenName, IsStoreFor}
 use Rattle.cgm_trail.specs.Steps.{AreReasoned}
-use Rattle.cgm_trail.specs.TrailState.{TrailState, started}
+use Rattle.cgm_trail.specs.TrailState.{TrailState, trail_started}
 
 pub record WorkerState : Type 0 where
   -- that of its trader
@@ -39,7 +39,7 @@ pub record IsSearching (w : WorkerState) : Type 0 where
 pub record IsNew (w : WorkerState) : Type 0 where
   pub searching : IsSearching w
   pub nothing : w.seat.told ≡ []
-  pub trail : w.trail ≡ started w.seat.problem
+  pub trail : w.trail ≡ trail_started w.seat.problem
   pub trades : w.plan.budget + 2 ≤ w.seat.trades
 
 abbrev pub IsAt : WorkerState → Option Stopped → Type 0

@@ -5,10 +5,10 @@ ghost use Rattle.cgm_atom.specs.ClauseAtoms.{AreKnown};
 ghost use Rattle.cgm_atom.specs.Instance.{var_count};
 ghost use Rattle.cgm_learn.specs.Learning.{IsUnitAfterCut};
 ghost use Rattle.cgm_log.specs.Seats.{KeepsSeat};
-ghost use Rattle.cgm_search.specs.Knowing.{IsKnown, seen};
+ghost use Rattle.cgm_search.specs.Knowing.{IsKnowledge, seen};
 ghost use Rattle.cgm_search.specs.Resolving.{IsGivenByLast, IsTaken, IsTradable};
-ghost use Rattle.cgm_search.specs.Searching.{IsConflictOf, IsKept, IsReady, IsTradedIn, IsUnit, Sits, before_trade, need};
-ghost use Rattle.cgm_search.specs.Trading.{IsLonger};
+ghost use Rattle.cgm_search.specs.Searching.{IsConflictOf, IsKeptSearch, IsReady, IsTradedIn, IsUnit, Sits, before_trade, need};
+ghost use Rattle.cgm_search.specs.Trading.{IsLongerLog};
 ghost use Rattle.cgm_trail.specs.TrailState.{IsOpenIn, box_of, cut_trail, level_of};
 
 use crate::batches::lemma_batch;
@@ -34,7 +34,7 @@ impl Search {
             → 1 ≤ (T.seat trader.old).trades }
         ensures unit { IfOk result
             (IsUnit self.old self.new (before_trade (T.seat trader.old)) (T.seat trader.new)) }
-        ensures kept { IsKept self.old self.new }
+        ensures kept { IsKeptSearch self.old self.new }
         ensures seat { KeepsSeat 1 (T.seat trader.old) (T.seat trader.new) }
         ensures unspent { self.old.trail.moves ≡ self.old.plan.budget
             → (T.seat trader.new).trades ≡ (T.seat trader.old).trades }
@@ -59,7 +59,7 @@ impl Search {
         requires left { 1 ≤ (T.seat trader.old).trades }
         ensures unit { IfOk result
             (IsUnit self.old self.new (before_trade (T.seat trader.old)) (T.seat trader.new)) }
-        ensures kept { IsKept self.old self.new }
+        ensures kept { IsKeptSearch self.old self.new }
         ensures seat { KeepsSeat 1 (T.seat trader.old) (T.seat trader.new) }
     {
         let lemma = self.learn(conflict)?;
@@ -112,10 +112,10 @@ impl Search {
         requires seat { Sits self.old (T.seat trader.old) }
         requires lemma { IsTradable self.old.known lemma }
         requires left { 1 ≤ (T.seat trader.old).trades }
-        ensures known { OnOk result (IsKnown self.new.known) }
+        ensures known { OnOk result (IsKnowledge self.new.known) }
         ensures told { OnOk result (Sits self.new (T.seat trader.new)) }
         ensures taken { OnOk result (IsTaken self.new.known lemma.clause) }
-        ensures longer { OnOk result (IsLonger (seen self.old.known) (seen self.new.known)) }
+        ensures longer { OnOk result (IsLongerLog (seen self.old.known) (seen self.new.known)) }
         ensures once { OnOk result ((T.seat trader.new).trades + 1 ≡ (T.seat trader.old).trades) }
         ensures traded { IsTradedIn self.old self.new }
         ensures seat { KeepsSeat 1 (T.seat trader.old) (T.seat trader.new) }
@@ -134,7 +134,7 @@ impl Search {
         requires room { self.old.trail.moves < self.old.plan.budget }
         ensures ready { OnOk result (IsReady self.new) }
         ensures known { self.new.known ≡ self.old.known }
-        ensures kept { IsKept self.old self.new }
+        ensures kept { IsKeptSearch self.old self.new }
         ensures moves { OnOk result (self.new.trail.moves ≡ self.old.trail.moves + 1) }
         ensures need { OnOk result (need self.new + 2 ≤ need self.old) }
     {

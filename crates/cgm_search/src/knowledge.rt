@@ -1,7 +1,7 @@
 //! What a worker knows of the log.
 ghost use Rattle.std.specs.Prelude.{◌≡◌, ◌+◌, ◌++◌, ◌∷◌, [], ◌^◌, ◌<◌, ◌≤◌, ◌↔◌, None, length, IfOk, IsTrue, OnOk};
 ghost use Rattle.cgm_atom.specs.Acceptance.{IsAcceptedAfter, IsAcceptedState, first_fault};
-ghost use Rattle.cgm_search.specs.Knowing.{IsKnown, seen, seen_state};
+ghost use Rattle.cgm_search.specs.Knowing.{IsKnowledge, seen, seen_state};
 ghost use Rattle.cgm_clauses.specs.StoreState.{IsStoreOf};
 ghost use Rattle.cgm_search.specs.Storing.{IsLongLemma, is_of_cut, last_cut, store_after};
 ghost use Rattle.std.specs.List.{filter};
@@ -30,7 +30,7 @@ pub(crate) struct Known {
 impl Known {
     /// Before anything was seen.
     pub(crate) fn new(alloc: Global, problem: &Problem) -> Result<Known, OutOfMemory>
-        ensures known { IfOk result IsKnown }
+        ensures known { IfOk result IsKnowledge }
         ensures problem { IfOk result (λ k. k.problem ≡ problem.now) }
         ensures nothing { IfOk result (λ k. seen k ≡ []) }
     {
@@ -46,7 +46,7 @@ impl Known {
 
     /// The entries that were seen, with their index.
     pub(crate) fn indexed(&self) -> IndexedLog<'_>
-        requires { IsKnown self.now }
+        requires { IsKnowledge self.now }
         ensures state { result ≡ seen_state self.now }
         ensures accepted { IsAcceptedState self.now.problem result }
     {
@@ -54,7 +54,7 @@ impl Known {
     }
 
     pub(crate) fn is_closed(&self) -> bool
-        requires { IsKnown self.now }
+        requires { IsKnowledge self.now }
         ensures { result ≡ (seen_state self.now).closed }
     {
         self.indexed().is_closed()
@@ -69,10 +69,10 @@ impl Known {
 
     /// Takes up the next entries of the log.
     pub(crate) fn absorb_all(&mut self, alloc: Global, more: Vec<Entry>) -> Result<(), OutOfMemory>
-        requires known { IsKnown self.old }
+        requires known { IsKnowledge self.old }
         requires accepted { IsAcceptedAfter self.old.problem (seen_state self.old) more.items }
         requires room { length (seen self.old) + length more.items < 2 ^ 63 }
-        ensures known { OnOk result (IsKnown self.new) }
+        ensures known { OnOk result (IsKnowledge self.new) }
         ensures entries { OnOk result (seen self.new ≡ seen self.old ++ more.items) }
         ensures problem { self.new.problem ≡ self.old.problem }
     {
@@ -84,10 +84,10 @@ impl Known {
 
     /// Takes up the next entry of the log.
     fn absorb(&mut self, alloc: Global, entry: Entry) -> Result<(), OutOfMemory>
-        requires known { IsKnown self.old }
+        requires known { IsKnowledge self.old }
         requires accepted { first_fault self.old.problem (seen_state self.old) entry ≡ None }
         requires room { length (seen self.old) + 1 < 2 ^ 63 }
-        ensures known { OnOk result (IsKnown self.new) }
+        ensures known { OnOk result (IsKnowledge self.new) }
         ensures entries { OnOk result (seen self.new ≡ seen self.old ++ entry ∷ []) }
         ensures problem { self.new.problem ≡ self.old.problem }
     {
@@ -98,10 +98,10 @@ impl Known {
 
     /// Adds the next entry of the log, and what it gives the store.
     fn take_in(&mut self, alloc: Global, entry: Entry) -> Result<(), OutOfMemory>
-        requires known { IsKnown self.old }
+        requires known { IsKnowledge self.old }
         requires accepted { first_fault self.old.problem (seen_state self.old) entry ≡ None }
         requires room { length (seen self.old) + 1 < 2 ^ 63 }
-        ensures known { OnOk result (IsKnown self.new) }
+        ensures known { OnOk result (IsKnowledge self.new) }
         ensures entries { OnOk result (seen self.new ≡ seen self.old ++ entry ∷ []) }
         ensures problem { self.new.problem ≡ self.old.problem }
     {
@@ -114,8 +114,8 @@ impl Known {
 
     /// Forgets the lemma after which `KEPT_ENTRIES` entries have come, if it is a long one.
     fn forget_old(&mut self)
-        requires known { IsKnown self.old }
-        ensures known { IsKnown self.new }
+        requires known { IsKnowledge self.old }
+        ensures known { IsKnowledge self.new }
         ensures entries { seen self.new ≡ seen self.old }
         ensures problem { self.new.problem ≡ self.old.problem }
     {

@@ -2,8 +2,8 @@
 ghost use Rattle.std.specs.Prelude.{◌≡◌, ◌-◌, ◌≤◌, ◌<◌, [], IfOk};
 ghost use Rattle.cgm_atom.specs.Limits.{max_workers};
 ghost use Rattle.cgm_search.specs.Knowing.{seen};
-ghost use Rattle.cgm_search.specs.Searching.{IsKept, IsOutcome, IsPlan, IsReady, need};
-ghost use Rattle.cgm_trail.specs.TrailState.{level_of, started};
+ghost use Rattle.cgm_search.specs.Searching.{IsKeptSearch, IsSearchOutcome, IsPlan, IsReady, need};
+ghost use Rattle.cgm_trail.specs.TrailState.{level_of, trail_started};
 
 use crate::decisions::Choice;
 use crate::knowledge::Known;
@@ -43,7 +43,7 @@ impl Search {
         ensures nothing { IfOk result (λ s. seen s.known ≡ []) }
         ensures worker { IfOk result (λ s. s.worker ≡ worker) }
         ensures plan { IfOk result (λ s. s.plan ≡ plan) }
-        ensures trail { IfOk result (λ s. s.trail ≡ started problem.now) }
+        ensures trail { IfOk result (λ s. s.trail ≡ trail_started problem.now) }
     {
         let known = Known::new(alloc, problem)?;
         let trail = Trail::new(alloc, problem)?;
@@ -72,9 +72,9 @@ impl Search {
     pub(crate) fn propagate(&mut self) -> Result<Swept, OutOfMemory>
         requires { IsReady self.old }
         ensures ready { IsReady self.new }
-        ensures answer { IsOutcome self.new result }
+        ensures answer { IsSearchOutcome self.new result }
         ensures known { self.new.known ≡ self.old.known }
-        ensures kept { IsKept self.old self.new }
+        ensures kept { IsKeptSearch self.old self.new }
         ensures moves { self.old.trail.moves ≤ self.new.trail.moves }
         ensures level { level_of self.new.trail.changes ≡ level_of self.old.trail.changes }
     {

@@ -1,10 +1,10 @@
 //! Trades.
 ghost use Rattle.std.specs.Prelude.{◌≡◌, ◌+◌, ◌^◌, ◌<◌, ◌≤◌, length, OnOk};
 ghost use Rattle.cgm_atom.specs.Acceptance.{IsAccepted};
-ghost use Rattle.cgm_log.specs.Landing.{IsProper};
+ghost use Rattle.cgm_log.specs.Landing.{IsProperBatch};
 ghost use Rattle.cgm_log.specs.Seats.{KeepsSeat};
 ghost use Rattle.cgm_log.specs.Trading.{IsAnswer};
-ghost use Rattle.cgm_search.specs.Knowing.{IsKnown, seen};
+ghost use Rattle.cgm_search.specs.Knowing.{IsKnowledge, seen};
 ghost use Rattle.cgm_search.specs.Searching.{IsTradedIn, Sits};
 ghost use Rattle.cgm_search.specs.Trading.{HasLanded, after_news, after_trade};
 
@@ -24,12 +24,12 @@ impl Search {
         gate: &G,
         batch: Batch,
     ) -> Result<(), OutOfMemory>
-        requires known { IsKnown self.old.known }
+        requires known { IsKnowledge self.old.known }
         requires seat { Sits self.old (T.seat trader.old) }
-        requires proper { IsProper self.old.known.problem (seen self.old.known) batch }
+        requires proper { IsProperBatch self.old.known.problem (seen self.old.known) batch }
         requires own { batch.by ≡ self.old.worker }
         requires left { 1 ≤ (T.seat trader.old).trades }
-        ensures known { OnOk result (IsKnown self.new.known) }
+        ensures known { OnOk result (IsKnowledge self.new.known) }
         ensures told { OnOk result (Sits self.new (T.seat trader.new)) }
         ensures landed { OnOk result
             (HasLanded self.old.known.problem (seen self.old.known) batch (seen self.new.known)) }
@@ -53,12 +53,12 @@ impl Search {
 impl Known {
     /// Takes up the news of an answer, and what landed of the batch.
     fn take_up(&mut self, alloc: Global, traded: Traded, batch: Batch) -> Result<(), OutOfMemory>
-        requires known { IsKnown self.old }
+        requires known { IsKnowledge self.old }
         requires answer { IsAnswer self.old.problem (after_news self.old traded) batch traded }
         requires accepted { IsAccepted self.old.problem (after_trade self.old traded batch) }
         requires room { length (after_trade self.old traded batch) < 2 ^ 63 }
-        requires proper { IsProper self.old.problem (seen self.old) batch }
-        ensures known { OnOk result (IsKnown self.new) }
+        requires proper { IsProperBatch self.old.problem (seen self.old) batch }
+        ensures known { OnOk result (IsKnowledge self.new) }
         ensures entries { OnOk result (seen self.new ≡ after_trade self.old traded batch) }
         ensures problem { self.new.problem ≡ self.old.problem }
     {

@@ -1,9 +1,9 @@
 //! One unit of a search.
 ghost use Rattle.std.specs.Prelude.{◌≡◌, ◌+◌, ◌<◌, ◌≤◌, true, IfOk, OnOk};
 ghost use Rattle.cgm_log.specs.Seats.{KeepsSeat};
-ghost use Rattle.cgm_search.specs.Knowing.{IsKnown};
-ghost use Rattle.cgm_search.specs.Searching.{IsKept, IsReady, IsTradedIn, IsUnit, Sits, need};
-ghost use Rattle.cgm_search.specs.Stepping.{HasFalseClause, IsCutOutcome, IsDecided, IsLooked, IsOffered};
+ghost use Rattle.cgm_search.specs.Knowing.{IsKnowledge};
+ghost use Rattle.cgm_search.specs.Searching.{IsKeptSearch, IsReady, IsTradedIn, IsUnit, Sits, need};
+ghost use Rattle.cgm_search.specs.Stepping.{HasFalseClause, IsCutOutcome, IsOneMoveMore, IsLooked, IsOffered};
 ghost use Rattle.cgm_split.specs.Halving.{IsPoint};
 ghost use Rattle.cgm_trail.specs.TrailState.{IsAtRest, IsOpenIn, box_of, level_of};
 
@@ -31,7 +31,7 @@ impl Search {
         requires enough { need self.old ≤ (T.seat trader.old).trades }
         ensures unit { IfOk result
             (IsUnit self.old self.new (T.seat trader.old) (T.seat trader.new)) }
-        ensures kept { IsKept self.old self.new }
+        ensures kept { IsKeptSearch self.old self.new }
         ensures seat { KeepsSeat (need self.old) (T.seat trader.old) (T.seat trader.new) }
     {
         if self.is_restart_due() {
@@ -67,7 +67,7 @@ impl Search {
         requires restarts { self.old.trail.restarts < self.old.plan.restarts }
         ensures ready { IsReady self.new }
         ensures known { self.new.known ≡ self.old.known }
-        ensures kept { IsKept self.old self.new }
+        ensures kept { IsKeptSearch self.old self.new }
         ensures more { self.old.trail.moves < self.new.trail.moves }
         ensures need { need self.new ≤ need self.old }
     {
@@ -88,7 +88,7 @@ impl Search {
         requires enough { need self.old ≤ (T.seat trader.old).trades }
         ensures unit { IfOk result
             (IsUnit self.old self.new (T.seat trader.old) (T.seat trader.new)) }
-        ensures kept { IsKept self.old self.new }
+        ensures kept { IsKeptSearch self.old self.new }
         ensures seat { KeepsSeat (need self.old) (T.seat trader.old) (T.seat trader.new) }
     {
         self.trail.recall_trail();
@@ -105,8 +105,8 @@ impl Search {
         requires rest { IsAtRest self.old.known.problem (box_of self.old.trail) }
         ensures ready { IsReady self.new }
         ensures known { self.new.known ≡ self.old.known }
-        ensures kept { IsKept self.old self.new }
-        ensures answer { IfOk result (IsDecided self.old self.new) }
+        ensures kept { IsKeptSearch self.old self.new }
+        ensures answer { IfOk result (IsOneMoveMore self.old self.new) }
     {
         if self.moves_left() == 0 {
             return Ok(Some(Stopped::Spent));
@@ -128,7 +128,7 @@ impl Search {
         requires enough { need self.old ≤ (T.seat trader.old).trades }
         ensures unit { IfOk result
             (IsUnit self.old self.new (T.seat trader.old) (T.seat trader.new)) }
-        ensures kept { IsKept self.old self.new }
+        ensures kept { IsKeptSearch self.old self.new }
         ensures seat { KeepsSeat (need self.old) (T.seat trader.old) (T.seat trader.new) }
     {
         self.offer(trader, gate)?;
@@ -149,7 +149,7 @@ impl Search {
         ensures ready { IsReady self.new }
         ensures answer { IfOk result (IsCutOutcome self.new) }
         ensures known { self.new.known ≡ self.old.known }
-        ensures kept { IsKept self.old self.new }
+        ensures kept { IsKeptSearch self.old self.new }
         ensures moves { self.old.trail.moves ≤ self.new.trail.moves }
         ensures level { level_of self.new.trail.changes ≡ level_of self.old.trail.changes }
     {
@@ -164,7 +164,7 @@ impl Search {
         requires rest { IsAtRest self.old.known.problem (box_of self.old.trail) }
         requires point { IsPoint (box_of self.old.trail) }
         requires left { 1 ≤ (T.seat trader.old).trades }
-        ensures known { OnOk result (IsKnown self.new.known) }
+        ensures known { OnOk result (IsKnowledge self.new.known) }
         ensures told { OnOk result (Sits self.new (T.seat trader.new)) }
         ensures offered { OnOk result (IsOffered self.old self.new) }
         ensures once { OnOk result ((T.seat trader.new).trades + 1 ≡ (T.seat trader.old).trades) }

@@ -3,11 +3,11 @@ ghost use Rattle.std.specs.Prelude.{◌≡◌, ◌≢◌, ◌+◌, ◌*◌, ◌^
 ghost use Rattle.cgm_atom.specs.Acceptance.{IsClosed};
 ghost use Rattle.cgm_atom.specs.Limits.{max_workers};
 ghost use Rattle.cgm_log.specs.Seats.{KeepsSeat};
-ghost use Rattle.cgm_search.specs.Searching.{IsKept, IsPlan, IsReady, Sits, need};
+ghost use Rattle.cgm_search.specs.Searching.{IsKeptSearch, IsPlan, IsReady, Sits, need};
 ghost use Rattle.cgm_search.specs.WorkerParts.{IsFresh, IsWhole};
 ghost use Rattle.cgm_search.specs.Working.{IsWorker};
 ghost use Rattle.cgm_trail.specs.Rank.{slack};
-ghost use Rattle.cgm_trail.specs.TrailState.{started};
+ghost use Rattle.cgm_trail.specs.TrailState.{trail_started};
 
 use crate::gates::{Gate, RUN_ENDS, RUN_STARTS};
 use crate::plans::{NoWorker, Plan, Stopped};
@@ -69,7 +69,7 @@ impl<T: Trader> Worker<T> {
         ensures ended { IfOk result (λ w. w.ended ≡ None) }
         ensures trades { IfOk result (λ w. w.seat.trades ≡ (T.seat trader).trades) }
         ensures number { IfOk result (λ w. w.seat.number ≡ (T.seat trader).number) }
-        ensures trail { IfOk result (λ w. w.trail ≡ started problem.now) }
+        ensures trail { IfOk result (λ w. w.trail ≡ trail_started problem.now) }
         ensures trader { IfErr result (λ n. n.trader ≡ trader) }
     {
         match Search::new(alloc, problem, worker, plan) {
@@ -182,7 +182,7 @@ impl Search {
         ensures whole { IsWhole self.new (T.seat trader.new) (Some result) }
         ensures first { result ≢ Stopped.Memory
             → (T.seat trader.new).trades + 1 ≤ (T.seat trader.old).trades }
-        ensures kept { IsKept self.old self.new }
+        ensures kept { IsKeptSearch self.old self.new }
         ensures seat { KeepsSeat (self.old.plan.budget + 2)
             (T.seat trader.old) (T.seat trader.new) }
     {
@@ -198,7 +198,7 @@ impl Search {
         ensures whole { IsWhole self.new (T.seat trader.new) (Some result) }
         ensures first { result ≢ Stopped.Memory
             → (T.seat trader.new).trades + 1 ≤ (T.seat trader.old).trades }
-        ensures kept { IsKept self.old self.new }
+        ensures kept { IsKeptSearch self.old self.new }
         ensures seat { KeepsSeat (self.old.plan.budget + 2)
             (T.seat trader.old) (T.seat trader.new) }
     {
@@ -215,7 +215,7 @@ impl Search {
         requires seat { Sits self.old (T.seat trader.old) }
         requires enough { need self.old ≤ (T.seat trader.old).trades }
         ensures whole { IsWhole self.new (T.seat trader.new) (Some result) }
-        ensures kept { IsKept self.old self.new }
+        ensures kept { IsKeptSearch self.old self.new }
         ensures seat { KeepsSeat (need self.old) (T.seat trader.old) (T.seat trader.new) }
     {
         loop {

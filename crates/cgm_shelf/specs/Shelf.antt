@@ -29,8 +29,8 @@ abbrev pub IsMissing : Option Files → List ℕ → Type 0
 IsMissing told name = IsSomeAnd told (λ files. files name ≡ None)
 
 -- the shelf tells its files, and one has this name
-abbrev pub IsThere : Option Files → List ℕ → Type 0
-IsThere told name = IsSomeAnd told (λ files. IsSome (files name))
+abbrev pub IsFileThere : Option Files → List ℕ → Type 0
+IsFileThere told name = IsSomeAnd told (λ files. IsSome (files name))
 
 -- where the shelf tells its files, one has this name, and P holds of its bytes
 abbrev pub WhereTold : Option Files → List ℕ → (List ℕ → Type 0) → Type 0
@@ -85,8 +85,8 @@ pub record ReadsNext (file old new : List ℕ) (count : ℕ) : Type 0 where
   pub at_end : count ≡ 0 → length file ≤ length old
 
 -- the shelf tells that the named file has more bytes than the limit
-abbrev pub IsLonger : Option Files → List ℕ → Option ℕ → Type 0
-IsLonger told name limit =
+abbrev pub IsLongerFile : Option Files → List ℕ → Option ℕ → Type 0
+IsLongerFile told name limit =
     IsSomeAnd told
     (λ files. IsSomeAnd (files name) (λ file. IsSomeAnd limit (λ most. most < length file)))
 

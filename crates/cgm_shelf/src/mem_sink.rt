@@ -20,17 +20,17 @@ pub struct MemSink {
 }
 
 impl MemSink {
-    ghost use Rattle.cgm_shelf.specs.MemSink.{bytes_of, faults_of, refused_of, piece_of, failing_writes, writes_made};
+    ghost use Rattle.cgm_shelf.specs.MemSink.{bytes_of, faults_of, sink_refused_of, sink_piece_of, failing_sink_writes, sink_writes_made};
 
     /// A sink with no bytes, whose writes with these numbers fail.
     pub fn new(alloc: Global, piece: usize, fail_writes: Vec<u64>) -> Self
         requires { 1 ≤ piece }
         ensures empty { bytes_of result ≡ [] }
-        ensures piece { piece_of result ≡ piece }
-        ensures failing { failing_writes result ≡ fail_writes.items }
-        ensures made { writes_made result ≡ 0 }
+        ensures piece { sink_piece_of result ≡ piece }
+        ensures failing { failing_sink_writes result ≡ fail_writes.items }
+        ensures made { sink_writes_made result ≡ 0 }
         ensures faults { faults_of result ≡ 0 }
-        ensures refused { refused_of result ≡ 0 }
+        ensures refused { sink_refused_of result ≡ 0 }
     {
         MemSink {
             bytes: Vec::new(alloc),
@@ -49,7 +49,7 @@ impl MemSink {
 
     /// How many writes have failed for want of memory, up to 2^64 - 1.
     pub fn refused(&self) -> u64
-        ensures { result ≡ refused_of self.now }
+        ensures { result ≡ sink_refused_of self.now }
     {
         self.refused
     }
@@ -63,7 +63,7 @@ impl MemSink {
 }
 
 impl Sink for MemSink {
-    ghost use Rattle.cgm_shelf.specs.MemSink.{mem_sink_state, piece_of, CountsWrite, IsFailingWrite, KeepsFaults, FailsWrite};
+    ghost use Rattle.cgm_shelf.specs.MemSink.{mem_sink_state, sink_piece_of, CountsSinkWrite, IsFailingSinkWrite, KeepsSinkFaults, FailsWrite};
 
     ghost state = { mem_sink_state };
 
@@ -71,11 +71,11 @@ impl Sink for MemSink {
         ensures write { IsWrite (mem_sink_state self.old) (mem_sink_state self.new) piece.now
             result }
 
-        ensures planned { IsFailingWrite self.old → IsErr result }
+        ensures planned { IsFailingSinkWrite self.old → IsErr result }
         ensures fails { OnErr result (FailsWrite self.old self.new) }
-        ensures kept { OnOk result (KeepsFaults self.old self.new) }
-        ensures moves { IfOk result (λ count. count ≡ min (piece_of self.old) (length piece.now)) }
-        ensures counts { CountsWrite self.old self.new }
+        ensures kept { OnOk result (KeepsSinkFaults self.old self.new) }
+        ensures moves { IfOk result (λ count. count ≡ min (sink_piece_of self.old) (length piece.now)) }
+        ensures counts { CountsSinkWrite self.old self.new }
     {
         self.writes.count();
         if self.writes.is_failing() {

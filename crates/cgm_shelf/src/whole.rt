@@ -1,7 +1,7 @@
 //! Whole reads and writes over a shelf or a sink.
 ghost use Rattle.std.specs.Prelude.{◌≡◌, ◌↔◌, ◌<◌, ◌≤◌, ◌+◌, length, IsTrue, IfOk, OnOk, OnErr, IsErr, IfSome, IsSomeAnd, vec_len};
 ghost use Rattle.cgm_shelf.specs.Faults.{Rose, HasCause};
-ghost use Rattle.cgm_shelf.specs.Shelf.{CantRead, IsLonger, IsMissing, IsThere, Leaves, LeavesPart, OnlyReads, ReadsNext, WhereTold};
+ghost use Rattle.cgm_shelf.specs.Shelf.{CantRead, IsLongerFile, IsMissing, IsFileThere, Leaves, LeavesPart, OnlyReads, ReadsNext, WhereTold};
 ghost use Rattle.cgm_shelf.specs.Sink.{Adds, AddsPart};
 
 use crate::{Failed, Shelf, Sink};
@@ -40,12 +40,12 @@ pub fn read_whole<F: Shelf>(
         → CantRead (F.state shelf.old) (F.state shelf.new) name.now }
     ensures missing { IsMissing (F.state shelf.old).files name.now → (result ≡ Err ReadStop.Fault)
         × ((F.state shelf.new).read_faults ≡ (F.state shelf.old).read_faults) }
-    ensures there { IsThere (F.state shelf.old).files name.now → result ≡ Err ReadStop.Fault
+    ensures there { IsFileThere (F.state shelf.old).files name.now → result ≡ Err ReadStop.Fault
         → Rose (F.state shelf.old).read_faults (F.state shelf.new).read_faults }
 
     ensures too_long { result ≡ Err ReadStop.TooLong → IsSomeAnd limit
         (λ most. WhereTold (F.state shelf.old).files name.now (λ file. most < length file)) }
-    ensures longer { IsLonger (F.state shelf.old).files name.now limit → IsErr result }
+    ensures longer { IsLongerFile (F.state shelf.old).files name.now limit → IsErr result }
 
     ensures only { OnlyReads (F.state shelf.old) (F.state shelf.new) }
 {

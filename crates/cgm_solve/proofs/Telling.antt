@@ -6,7 +6,7 @@ use Rattle.cgm_model.specs.declared.lists.Lists.{Lists}
 use Rattle.cgm_evolve.specs.Pairs.{Pair}
 use Rattle.cgm_atom.specs.declared.entries.Entry.{Entry}
 use Rattle.cgm_atom.specs.Acceptance.{IsAccepted, IsClosed}
-use Rattle.cgm_atom.specs.Bounds.{IsProper}
+use Rattle.cgm_atom.specs.Bounds.{AreProperBounds}
 use Rattle.cgm_atom.specs.Instance.{Instance}
 use Rattle.cgm_atom.specs.Ranges.{IsPrintable}
 use Rattle.cgm_encode.specs.declared.answer.Answer.{Answer}
@@ -21,19 +21,19 @@ use Rattle.cgm_search.specs.declared.plans.Stopped.TheVariants as stopped
 use Rattle.cgm_trail.specs.TrailState.{TrailState}
 use Rattle.cgm_solve.specs.declared.running.Ended.{Ended}
 use Rattle.cgm_solve.specs.Answers.{IsSolved, IsSpentTrail, LeavesOpen}
-use Rattle.cgm_solve.specs.Runs.{IsEnded, IsEndedAs, IsTold, IsToldOf}
+use Rattle.cgm_solve.specs.Runs.{IsEnded, IsRunEndedAs, IsAnswerTold, IsToldOf}
 use Rattle.cgm_solve.specs.Searches.{IsSearchAnswer}
 use Rattle.cgm_solve.proofs.Showing.{shows_realized, shows_unrealizable}
 
 -- the log of an ended run, of the problem of a model
 record IsModelLog (m : Lists) (pairs : List Pair) (entries : List Entry) : Type 0 where
-  proper : IsProper (problem_of m pairs).bounds
+  proper : AreProperBounds (problem_of m pairs).bounds
   accepted : IsAccepted (problem_of m pairs) entries
   printable : All IsPrintable entries
 
 model_log : (m : Lists) (pairs : List Pair) (book : LogBook) (entries : List Entry) → book.problem ≡ problem_of m pairs → entries ≡ book.entries → IsLog book → IsModelLog m pairs entries
 model_log m pairs book entries problem same log = record {
-  proper = subst (λ (p : Instance). IsProper p.bounds) problem log.problem.proper;
+  proper = subst (λ (p : Instance). AreProperBounds p.bounds) problem log.problem.proper;
   accepted = subst (λ (es : List Entry). IsAccepted (problem_of m pairs) es) (sym same) (subst (λ (p : Instance). IsAccepted p book.entries) problem log.accepted);
   printable = subst (λ (es : List Entry). All IsPrintable es) (sym same) log.printable;
 }
@@ -47,8 +47,8 @@ told_of encoded plan e before after (Unrealizable entries) ended told = λ m pai
     (shows_unrealizable m pairs entries well_formed log.proper log.accepted told.1 (told.2 m pairs well_formed encoding), log.printable, told.3)
 told_of encoded plan e before after (Exhausted best spent entries) ended told = λ m pairs well_formed encoding.
     let log = model_log m pairs e.log entries (ended.problem ∙ encoding.problem) told.0 ended.log in
-    let at : IsEndedAs encoded.problem plan e.log.entries e.trail stopped.Spent =
-    subst (λ (s : Stopped). IsEndedAs encoded.problem plan e.log.entries e.trail s) told.1 ended.ended_as in
+    let at : IsRunEndedAs encoded.problem plan e.log.entries e.trail stopped.Spent =
+    subst (λ (s : Stopped). IsRunEndedAs encoded.problem plan e.log.entries e.trail s) told.1 ended.ended_as in
     let left : LeavesOpen m pairs entries best = record {
       accepted = log.accepted;
       not_closed = subst (λ (es : List Entry). ¬ IsClosed es) (sym told.0) at.0;
@@ -66,6 +66,6 @@ told_of encoded plan e before after (Exhausted best spent entries) ended told = 
     )
 told_of encoded plan e before after (Open best) ended told = absurd told
 
-pub told_solves : {E : Type 0} (encoded : Encoded) (plan : Plan) (e : Ended) (before after : List TrailState) (result : Result Answer E) → IsEnded encoded.problem plan e → IsTold encoded e before after result → ForEncoded encoded (λ m pairs. IsSearchAnswer m pairs plan before after result)
+pub told_solves : {E : Type 0} (encoded : Encoded) (plan : Plan) (e : Ended) (before after : List TrailState) (result : Result Answer E) → IsEnded encoded.problem plan e → IsAnswerTold encoded e before after result → ForEncoded encoded (λ m pairs. IsSearchAnswer m pairs plan before after result)
 told_solves encoded plan e before after (Ok answer) ended told = told_of encoded plan e before after answer ended told
 told_solves encoded plan e before after (Err error) ended told = λ m pairs well_formed encoding. told

@@ -17,15 +17,15 @@ use Rattle.cgm_solve.specs.Answers.{IsLastBestOf, IsSpentTrail}
 
 -- ---- the run
 
-abbrev pub IsEndedAs : Instance → Plan → List Entry → TrailState → Stopped → Type 0
-IsEndedAs p plan entries trail stopped.Final = IsClosed entries
-IsEndedAs p plan entries trail stopped.Spent = (¬ IsClosed entries) × IsSpentTrail p plan entries trail
-IsEndedAs p plan entries trail stopped.Memory = Unit {0}
+abbrev pub IsRunEndedAs : Instance → Plan → List Entry → TrailState → Stopped → Type 0
+IsRunEndedAs p plan entries trail stopped.Final = IsClosed entries
+IsRunEndedAs p plan entries trail stopped.Spent = (¬ IsClosed entries) × IsSpentTrail p plan entries trail
+IsRunEndedAs p plan entries trail stopped.Memory = Unit {0}
 
 pub record IsEnded (p : Instance) (plan : Plan) (e : Ended) : Type 0 where
   pub log : IsLog e.log
   pub problem : e.log.problem ≡ p
-  pub ended_as : IsEndedAs p plan e.log.entries e.trail e.stopped
+  pub ended_as : IsRunEndedAs p plan e.log.entries e.trail e.stopped
 
 -- ---- what is told of it, and the trails of a work before and after
 
@@ -54,6 +54,6 @@ IsToldOf encoded e before after (Exhausted best spent entries) =
     × (after ≡ before ++ e.trail ∷ [])
 IsToldOf encoded e before after (Open best) = ⊥
 
-abbrev pub IsTold : {E : Type 0} → Encoded → Ended → List TrailState → List TrailState → Result Answer E → Type 0
-IsTold encoded e before after (Ok answer) = IsToldOf encoded e before after answer
-IsTold encoded e before after (Err error) = after ≡ before
+abbrev pub IsAnswerTold : {E : Type 0} → Encoded → Ended → List TrailState → List TrailState → Result Answer E → Type 0
+IsAnswerTold encoded e before after (Ok answer) = IsToldOf encoded e before after answer
+IsAnswerTold encoded e before after (Err error) = after ≡ before

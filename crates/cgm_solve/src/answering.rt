@@ -2,7 +2,7 @@
 ghost use Rattle.std.specs.Prelude.{◌≡◌, IfOk};
 ghost use Rattle.cgm_atom.specs.Acceptance.{IsClosed};
 ghost use Rattle.cgm_solve.specs.Answers.{IsLastBestOf};
-ghost use Rattle.cgm_solve.specs.Runs.{IsExhausted, IsTold, closed_answer};
+ghost use Rattle.cgm_solve.specs.Runs.{IsExhausted, IsAnswerTold, closed_answer};
 
 use crate::running::Ended;
 use cgm_atom::{Entry, OutOfMemory, Seq};
@@ -22,7 +22,7 @@ pub(crate) fn tell(
 ) -> Result<Answer, OutOfMemory>
     requires problem { ended.log.problem ≡ encoded.now.problem }
     requires closed { ended.stopped ≡ Stopped.Final → IsClosed ended.log.entries }
-    ensures { IsTold encoded.now ended work.old work.new result }
+    ensures { IsAnswerTold encoded.now ended work.old work.new result }
 {
     let Ended {
         log,

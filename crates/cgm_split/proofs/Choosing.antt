@@ -7,7 +7,7 @@ use Rattle.std.proofs.lemmas.List.Elements.{All-append, All-from_recursion, recu
 use Rattle.std.proofs.lemmas.List.FromFn.{get_or-map-range_with_len, length-map-range_with_len}
 use Rattle.std.proofs.lemmas.List.Sorted.{All-permutation, IsPermutation-sym, length_permutation}
 use Rattle.cgm_atom.specs.declared.constraints.Var.{Var}
-use Rattle.cgm_atom.specs.Bounds.{Bounds, IsProper, lower_of, upper_of}
+use Rattle.cgm_atom.specs.Bounds.{Bounds, AreProperBounds, lower_of, upper_of}
 use Rattle.cgm_atom.proofs.SignedSteps.{lt_is_false}
 use Rattle.cgm_split.specs.Drawing.{IsEachOnce, by_number}
 use Rattle.cgm_split.specs.Halving.{IsFixed, IsPoint, is_unfixed}
@@ -44,7 +44,7 @@ all_each_once P count vs each all x within =
 
 -- ---- fixed variables
 
-fixed_of_fails : (b : Bounds) → IsProper b → (x : ℕ) → int_lt (lower_of b x) (upper_of b x) ≡ false → IsFixed b x
+fixed_of_fails : (b : Bounds) → AreProperBounds b → (x : ℕ) → int_lt (lower_of b x) (upper_of b x) ≡ false → IsFixed b x
 fixed_of_fails b proper x h = let order : lower_of b x ≤ℤ upper_of b x = proper.ordered x in omega (arith, ints)
 
 pub fails_of_fixed : (b : Bounds) (x : ℕ) → IsFixed b x → int_lt (lower_of b x) (upper_of b x) ≡ false
@@ -55,7 +55,7 @@ fails_of_point : (b : Bounds) (vs : List Var) → IsPoint b → All (λ v. v.0 <
 fails_of_point b vs point known k d within = fails_of_fixed b (slice_index_or vs k d).0 (point (slice_index_or vs k d).0 (known k d within))
 
 -- a box of so many variables, each of which fails, holds one value of each
-pub point_of_fails : (b : Bounds) (vs : List Var) → (0 < length vs → IsProper b) → IsEachOnce (length b.lower) vs → All (λ v. is_unfixed b v ≡ false) vs → IsPoint b
+pub point_of_fails : (b : Bounds) (vs : List Var) → (0 < length vs → AreProperBounds b) → IsEachOnce (length b.lower) vs → All (λ v. is_unfixed b v ≡ false) vs → IsPoint b
 point_of_fails b vs proper each fails x within =
     let long : length vs ≡ length b.lower = count_each_once (length b.lower) vs each in
     fixed_of_fails b (proper (omega (arith, long))) x (all_each_once (λ v. is_unfixed b v ≡ false) (length b.lower) vs each fails x within)
@@ -74,7 +74,7 @@ test_of_none (Some v) h = absurd (cc)
 pub record IsChoice (b : Bounds) (o : Preference) (found : Option Var) : Type 0 where
   pub valid : IsPreference o
   pub count : length b.lower ≡ length o.variables
-  pub proper : 0 < length o.variables → IsProper b
+  pub proper : 0 < length o.variables → AreProperBounds b
   pub first : found ≡ preferred b o
 
 last_of_none : (p : Var → Bool) (us vs : List Var) → find p (us ++ vs) ≡ None → find p vs ≡ None

@@ -6,7 +6,7 @@ use Rattle.std.proofs.lemmas.Bool.{ltb-false, ltb-true}
 use Rattle.std.proofs.lemmas.List.{take_more}
 use Rattle.std.proofs.lemmas.List.Elements.{All-append, All-cons}
 use Rattle.cgm_atom.specs.declared.constraints.Var.{Var}
-use Rattle.cgm_atom.specs.Bounds.{Bounds, IsProper}
+use Rattle.cgm_atom.specs.Bounds.{Bounds, AreProperBounds}
 use Rattle.cgm_split.specs.Drawing.{IsEachOnce}
 use Rattle.cgm_split.specs.Halving.{IsPoint, is_unfixed}
 use Rattle.cgm_split.specs.Weighing.{IsHeaviest, comes_before, weight_of}
@@ -98,7 +98,7 @@ pub choice_heaviest : (b : Bounds) (weights : List ℕ) (vs : List Var) (best : 
 choice_heaviest b weights vs None h = tt
 choice_heaviest b weights vs (Some v) h = h.1
 
-forth : (b : Bounds) (weights : List ℕ) (vs : List Var) (best : Option Var) → (0 < length vs → IsProper b) → IsEachOnce (length b.lower) vs → IsLeading b weights vs best → IsNone best → IsPoint b
+forth : (b : Bounds) (weights : List ℕ) (vs : List Var) (best : Option Var) → (0 < length vs → AreProperBounds b) → IsEachOnce (length b.lower) vs → IsLeading b weights vs best → IsNone best → IsPoint b
 forth b weights vs None proper each h none = point_of_fails b vs proper each h
 forth b weights vs (Some v) proper each h none = absurd (cc)
 
@@ -108,6 +108,6 @@ back b weights vs (Some v) same h point =
     let inside : v.0 < length b.lower = subst (λ n. v.0 < n) (sym same) h.0 in
     absurd (cc (h.1.unfixed, fails_of_fixed b v.0 (point v.0 inside)))
 
-pub none_exactly : (b : Bounds) (weights : List ℕ) (vs : List Var) (best : Option Var) → (0 < length vs → IsProper b) → length b.lower ≡ length weights → IsEachOnce (length weights) vs → IsLeading b weights vs best → (IsNone best → IsPoint b) × (IsPoint b → IsNone best)
+pub none_exactly : (b : Bounds) (weights : List ℕ) (vs : List Var) (best : Option Var) → (0 < length vs → AreProperBounds b) → length b.lower ≡ length weights → IsEachOnce (length weights) vs → IsLeading b weights vs best → (IsNone best → IsPoint b) × (IsPoint b → IsNone best)
 none_exactly b weights vs best proper same each h =
     (forth b weights vs best proper (subst (λ n. IsEachOnce n vs) (sym same) each) h, back b weights vs best same h)

@@ -8,7 +8,7 @@ use Rattle.std.proofs.lemmas.List.Elements.{All-map, All-set}
 use Rattle.std.proofs.Math.ListN.{length-set}
 use Rattle.cgm_atom.specs.declared.constraints.Var.{Var}
 use Rattle.cgm_split.specs.Drawing.{IsEachOnce}
-use Rattle.cgm_split.specs.Weighing.{IsWeighing, Weighing, grown, lifted, raised, rescaled, weight_limit, weight_of}
+use Rattle.cgm_split.specs.Weighing.{IsWeighing, Weighing, increment_grown, lifted, weight_raised, rescaled, weight_limit, weight_of}
 
 rescaled_first : (f : ℕ → ℕ) (ws : List ℕ) (i : ℕ) → i < length ws → slice_set (map f (take i ws) ++ drop i ws) i (f (get_or (map f (take i ws) ++ drop i ws) i 0)) ≡ map f (take (suc i) ws) ++ drop (suc i) ws
 rescaled_first f [] i h = absurd (omega arith)
@@ -38,15 +38,15 @@ kept_by_lift ws v by x y within other h =
       | inr apart ↦ rw (at_x, get_or-set_other ws v y (get_or ws v 0 + by) 0 apart) h
     ]
 
-pub raised_order : (w : Weighing) (v x y : ℕ) → v < length w.weights → x ≢ v → weight_of w.weights x ≤ weight_of w.weights y → weight_of (raised w v).weights x ≤ weight_of (raised w v).weights y
-raised_order w v x y within other h = raised_by (nat_lt weight_limit (max (weight_of w.weights v + w.increment) (grown w.increment)))
+pub raised_order : (w : Weighing) (v x y : ℕ) → v < length w.weights → x ≢ v → weight_of w.weights x ≤ weight_of w.weights y → weight_of (weight_raised w v).weights x ≤ weight_of (weight_raised w v).weights y
+raised_order w v x y within other h = raised_by (nat_lt weight_limit (max (weight_of w.weights v + w.increment) (increment_grown w.increment)))
   where
     raised_by : (t : Bool) → weight_of (if t then rescaled (lifted w v) else lifted w v).weights x ≤ weight_of (if t then rescaled (lifted w v) else lifted w v).weights y
     raised_by true = kept_by_scale (lifted w v).weights x y (kept_by_lift w.weights v w.increment x y within other h)
     raised_by false = kept_by_lift w.weights v w.increment x y within other h
 
-pub raised_count : (w : Weighing) (v : ℕ) → length (raised w v).weights ≡ length w.weights
-raised_count w v = raised_by (nat_lt weight_limit (max (weight_of w.weights v + w.increment) (grown w.increment)))
+pub raised_count : (w : Weighing) (v : ℕ) → length (weight_raised w v).weights ≡ length w.weights
+raised_count w v = raised_by (nat_lt weight_limit (max (weight_of w.weights v + w.increment) (increment_grown w.increment)))
   where
     lifted_count : length (lifted w v).weights ≡ length w.weights
     lifted_count = length-set w.weights v (weight_of w.weights v + w.increment)
@@ -57,7 +57,7 @@ raised_count w v = raised_by (nat_lt weight_limit (max (weight_of w.weights v + 
 
 -- ---- the limits
 
-pub weighing_rescaled : (vs : List Var) (ws us : List ℕ) (x weight increment more : ℕ) → IsWeighing (record { variables = vs; weights = ws; increment = increment }) → weight < 2 ^ 64 → us ≡ map (λ w. w / 2 ^ 32) (slice_set ws x weight) → more ≡ grown increment → IsWeighing (record { variables = vs; weights = us; increment = more / 2 ^ 32 + 1 })
+pub weighing_rescaled : (vs : List Var) (ws us : List ℕ) (x weight increment more : ℕ) → IsWeighing (record { variables = vs; weights = ws; increment = increment }) → weight < 2 ^ 64 → us ≡ map (λ w. w / 2 ^ 32) (slice_set ws x weight) → more ≡ increment_grown increment → IsWeighing (record { variables = vs; weights = us; increment = more / 2 ^ 32 + 1 })
 weighing_rescaled vs ws us x weight increment more valid small is grows = record {
   each_once = subst (λ n. IsEachOnce n vs) (sym long) valid.each_once;
   light = rw is (All-map (λ w. w ≤ weight_limit) (λ w. w / 2 ^ 32) (slice_set ws x weight) (All-set (λ w. w / 2 ^ 32 ≤ weight_limit) ws x weight (omega arith) (λ k d within. omega (arith, valid.light k d within))));

@@ -32,13 +32,13 @@ abbrev pub unweighed : List Var → Weighing
 unweighed variables = record { variables = variables; weights = replicate (length variables) 0; increment = 2 ^ 16 }
 
 -- an increment grows by a 256th
-abbrev pub grown : ℕ → ℕ
-grown increment = increment + increment / 256 + 1
+abbrev pub increment_grown : ℕ → ℕ
+increment_grown increment = increment + increment / 256 + 1
 
 -- the variable's weight grows by the increment, and the increment grows
 abbrev pub lifted : Weighing → ℕ → Weighing
 lifted w x =
-    record { variables = w.variables; weights = slice_set w.weights x (weight_of w.weights x + w.increment); increment = grown w.increment }
+    record { variables = w.variables; weights = slice_set w.weights x (weight_of w.weights x + w.increment); increment = increment_grown w.increment }
 
 -- all are divided by 2^32
 abbrev pub rescaled : Weighing → Weighing
@@ -46,9 +46,9 @@ rescaled w =
     record { variables = w.variables; weights = map (λ weight. weight / 2 ^ 32) w.weights; increment = w.increment / 2 ^ 32 + 1 }
 
 -- a raise lifts the variable, and rescales where its weight or the increment then passes the limit
-abbrev pub raised : Weighing → ℕ → Weighing
-raised w x =
-    if nat_lt weight_limit (max (weight_of w.weights x + w.increment) (grown w.increment)) then rescaled (lifted w x) else lifted w x
+abbrev pub weight_raised : Weighing → ℕ → Weighing
+weight_raised w x =
+    if nat_lt weight_limit (max (weight_of w.weights x + w.increment) (increment_grown w.increment)) then rescaled (lifted w x) else lifted w x
 
 -- v isn't fixed; of the variables before it in the list each is fixed or lighter, of those after it each is fixed or not heavier
 pub record IsHeaviest (b : Bounds) (weights : List ℕ) (variables : List Var) (v : Var) : Type 0 where

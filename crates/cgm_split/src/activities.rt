@@ -4,7 +4,7 @@ ghost use Rattle.std.specs.List.{All};
 ghost use Rattle.cgm_atom.specs.Instance.{var_count};
 ghost use Rattle.cgm_split.specs.Drawing.{IsEachOnce, order_of};
 ghost use Rattle.cgm_split.specs.Halving.{IsLowerHalf, IsPoint, is_unfixed as unfixed};
-ghost use Rattle.cgm_split.specs.Weighing.{IsHeaviest, comes_before, grown, raised, unweighed, weight_limit, weight_of};
+ghost use Rattle.cgm_split.specs.Weighing.{IsHeaviest, comes_before, increment_grown, weight_raised, unweighed, weight_limit, weight_of};
 
 use crate::drawing::variable_order;
 use crate::halves::{is_proper, is_unfixed, lower_half};
@@ -67,7 +67,7 @@ impl Activity {
     /// them small. Takes no memory.
     pub fn raise(&mut self, variable: Var)
         requires { variable.0 < length self.old.weights }
-        ensures raised { self.new ≡ raised self.old variable.0 }
+        ensures weight_raised { self.new ≡ weight_raised self.old variable.0 }
         ensures order { (x y : ℕ) → x ≢ variable.0 → weight_of self.old.weights x ≤ weight_of self.old.weights y
             → weight_of self.new.weights x ≤ weight_of self.new.weights y }
         ensures count { length self.new.weights ≡ length self.old.weights }
@@ -77,7 +77,7 @@ impl Activity {
 
     fn lift(&mut self, variable: Var)
         requires { variable.0 < length self.old.weights }
-        ensures { self.new ≡ raised self.old variable.0 }
+        ensures { self.new ≡ weight_raised self.old variable.0 }
     {
         let place = variable.0 as usize;
         let weight = self.weights[place] + self.increment;
@@ -120,7 +120,7 @@ impl Activity {
 
 fn grown_increment(increment: u64) -> u64
     requires { increment ≤ weight_limit }
-    ensures value { result ≡ grown increment }
+    ensures value { result ≡ increment_grown increment }
 {
     increment + increment / GROWTH + 1
 }

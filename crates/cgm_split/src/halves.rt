@@ -1,7 +1,7 @@
 //! The lower half of a variable.
 ghost use Rattle.std.specs.Prelude.{◌≡◌, ◌<◌, ◌<ℤ◌, ◌≤ℤ◌, IsTrue, find, length};
 ghost use Rattle.std.specs.List.{All};
-ghost use Rattle.cgm_atom.specs.Bounds.{IsProper, lower_of, upper_of};
+ghost use Rattle.cgm_atom.specs.Bounds.{AreProperBounds, lower_of, upper_of};
 ghost use Rattle.cgm_split.specs.Halving.{IsLowerHalf, IsMiddle, is_unfixed as unfixed};
 
 use cgm_atom::{Atom, BoxState, Var};
@@ -10,7 +10,7 @@ use cgm_atom::{Atom, BoxState, Var};
 pub(crate) fn is_unfixed(bounds: &BoxState, variable: Var) -> bool
     requires { variable.0 < length bounds.now.lower }
     ensures value { result ≡ unfixed bounds.now variable }
-    ensures proper { IsProper bounds.now }
+    ensures proper { AreProperBounds bounds.now }
 {
     bounds.lo(variable) < bounds.hi(variable)
 }
@@ -18,7 +18,7 @@ pub(crate) fn is_unfixed(bounds: &BoxState, variable: Var) -> bool
 /// Brings in that the least values of a box that has a variable are at most its greatest.
 pub(crate) fn is_proper(bounds: &BoxState, variables: &[Var])
     requires { All (λ v. v.0 < length bounds.now.lower) variables.now }
-    ensures { 0 < length variables.now → IsProper bounds.now }
+    ensures { 0 < length variables.now → AreProperBounds bounds.now }
 {
     match variables {
         [] => {}

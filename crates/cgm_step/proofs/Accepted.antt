@@ -21,7 +21,7 @@ use Rattle.cgm_atom.specs.Acceptance.{IsAccepted, IsAcceptedAfter, IsAcceptedSta
 use Rattle.cgm_atom.specs.Bounds.{Bounds, lower_of, upper_of}
 use Rattle.cgm_atom.specs.Instance.{Instance, fault_unless, first_some, first_violation, outside_from, var_count, violations}
 use Rattle.cgm_atom.specs.ClauseAtoms.{AreKnown}
-use Rattle.cgm_atom.specs.Limits.{AreValuesOf, IsBound, IsWellFormed}
+use Rattle.cgm_atom.specs.Limits.{AreValuesOf, IsBound, IsWellFormedProblem}
 use Rattle.cgm_atom.specs.LogState.{LogState, best_at, empty_state, entry_values, item_at, lemma_clause, live_at, state_with, values_at_place}
 use Rattle.cgm_atom.specs.Steps.{AreBounds}
 use Rattle.cgm_atom.proofs.StateLemmas.{live_is_of_log}
@@ -114,7 +114,7 @@ within_sizes b x (v ∷ values) sizes h =
     (within_sizes b (x + 1) values sizes parts.1)
 
 -- values that nothing keeps from being a solution are as many as the variables, and within the limit
-pub AreValuesOf-from_none : (p : Instance) (values : List ℤ) → IsWellFormed p → first_violation p values ≡ None → AreValuesOf p values
+pub AreValuesOf-from_none : (p : Instance) (values : List ℤ) → IsWellFormedProblem p → first_violation p values ≡ None → AreValuesOf p values
 AreValuesOf-from_none p values wf h =
     let none = AreNone-from_first (violations p values) h in
     record {
@@ -122,29 +122,29 @@ AreValuesOf-from_none p values wf h =
       sizes = within_sizes p.bounds 0 values wf.sizes (option_map-None violated.Bound (outside_from p.bounds 0 values) none.1.0);
     }
 
-best_fits : (p : Instance) (s : LogState) (by : ℕ) (values : List ℤ) → IsWellFormed p → first_fault p s (Best by values) ≡ None → AreValuesOf p values
+best_fits : (p : Instance) (s : LogState) (by : ℕ) (values : List ℤ) → IsWellFormedProblem p → first_fault p s (Best by values) ≡ None → AreValuesOf p values
 unfolding first_fault
 best_fits p s by values wf h =
     let none = AreNone-from_first (faults p s (Best by values)) h in
     AreValuesOf-from_none p values wf (option_map-None (fault_of (length values)) (first_violation p values) none.1.0)
 
-values_fit : (p : Instance) (s : LogState) (place : ℕ) (o : Option Entry) (values : List ℤ) → IsWellFormed p → IsAcceptedState p s → live_at s place ≡ o → option_and_then entry_values o ≡ Some values → AreValuesOf p values
+values_fit : (p : Instance) (s : LogState) (place : ℕ) (o : Option Entry) (values : List ℤ) → IsWellFormedProblem p → IsAcceptedState p s → live_at s place ≡ o → option_and_then entry_values o ≡ Some values → AreValuesOf p values
 values_fit p s place None values wf h k e = absurd (cc)
 values_fit p s place (Some (Lemma by clause hints bound)) values wf h k e = absurd (cc)
 values_fit p s place (Some (Best by vs)) values wf h k e =
     let passed = live_passes p s place (Best by vs) h k in
     subst (λ (x : List ℤ). AreValuesOf p x) (same_Some vs values e) (best_fits p passed.0 by vs wf passed.1)
 
-best_fits_at : (p : Instance) (s : LogState) (o : Option ℕ) (values : List ℤ) → IsWellFormed p → IsAcceptedState p s → option_and_then (values_at_place s) o ≡ Some values → AreValuesOf p values
+best_fits_at : (p : Instance) (s : LogState) (o : Option ℕ) (values : List ℤ) → IsWellFormedProblem p → IsAcceptedState p s → option_and_then (values_at_place s) o ≡ Some values → AreValuesOf p values
 best_fits_at p s None values wf h e = absurd (cc)
 best_fits_at p s (Some place) values wf h e = values_fit p s place (live_at s place) values wf h refl e
 
 -- the values of a live best are those of the problem's variables
-pub best_values_fit : (p : Instance) (s : LogState) (ordinal : ℕ) (values : List ℤ) → IsWellFormed p → IsAcceptedState p s → best_at s ordinal ≡ Some values → AreValuesOf p values
+pub best_values_fit : (p : Instance) (s : LogState) (ordinal : ℕ) (values : List ℤ) → IsWellFormedProblem p → IsAcceptedState p s → best_at s ordinal ≡ Some values → AreValuesOf p values
 best_values_fit p s ordinal values wf h e = best_fits_at p s (item_at s.bests ordinal) values wf h e
 
 -- the objectives have such values
-pub objectives_known : (p : Instance) (os : List Var) (values : List ℤ) → os ≡ p.objectives → IsWellFormed p → AreValuesOf p values → All (λ v. v.0 < length values) os
+pub objectives_known : (p : Instance) (os : List Var) (values : List ℤ) → os ≡ p.objectives → IsWellFormedProblem p → AreValuesOf p values → All (λ v. v.0 < length values) os
 objectives_known p os values e wf fit =
     let known : All (λ (v : Var). v.0 < var_count p) os = subst (λ (xs : List Var). All (λ (v : Var). v.0 < var_count p) xs) (sym e) wf.objectives in
     subst (λ (n : ℕ). All (λ (v : Var). v.0 < n) os) (sym fit.count) known

@@ -18,11 +18,11 @@ use Rattle.cgm_atom.specs.Instance.{Instance, var_count, vector}
 use Rattle.cgm_atom.specs.LogState.{LogState, best_at, carried, lemma_bound, lemma_clause, live_at, named}
 use Rattle.cgm_step.specs.declared.naming.Found.{Found}
 use Rattle.cgm_step.specs.declared.naming.Named.{Named}
-use Rattle.cgm_step.specs.Naming.{IsFound, IsNamed}
+use Rattle.cgm_step.specs.Naming.{IsFound, IsNamedConstraint}
 use Rattle.cgm_step.proofs.Accepted.{lemma_atoms_known}
 
 -- the item that a hint names, with what the hint carries
-pub found_with : (p : Instance) (s : LogState) (h : Hint) (there : Option Constraint) (n : ℕ) (o : Option Named) (r : Option Found) → named p s h ≡ there → carried s h ≡ n → IsNamed p there o → r ≡ option_map (λ (m : Named). record { named = m; carried = n }) o → IsFound p s h r
+pub found_with : (p : Instance) (s : LogState) (h : Hint) (there : Option Constraint) (n : ℕ) (o : Option Named) (r : Option Found) → named p s h ≡ there → carried s h ≡ n → IsNamedConstraint p there o → r ≡ option_map (λ (m : Named). record { named = m; carried = n }) o → IsFound p s h r
 found_with p s h there n None r e k found same = subst (λ (x : Option Found). IsFound p s h x) (sym same) (e ∙ found)
 found_with p s h there n (Some m) r e k found same =
     subst (λ (x : Option Found). IsFound p s h x) (sym same) (e ∙ found.0, found.1, sym k)

@@ -16,7 +16,7 @@ use Rattle.cgm_atom.specs.declared.entries.Hint.{Hint}
 use Rattle.cgm_atom.specs.declared.outcome.Narrowed.{Narrowed}
 use Rattle.cgm_atom.specs.declared.outcome.Narrowed.TheVariants.{Same, Tighter, Conflict}
 use Rattle.cgm_atom.specs.Atoms.{negation}
-use Rattle.cgm_atom.specs.Bounds.{Bounds, IsBoxOf, IsProper, lower_of, upper_of, value_of}
+use Rattle.cgm_atom.specs.Bounds.{Bounds, IsBoxOf, AreProperBounds, lower_of, upper_of, value_of}
 use Rattle.cgm_atom.specs.Constraints.{Constraint, left_by, left_by_named, of_clause, of_row}
 use Rattle.cgm_atom.specs.Instance.{Instance}
 use Rattle.cgm_atom.specs.Limits.{AreTermsOf}
@@ -276,7 +276,7 @@ nothing_changed limits b e place h =
     ap (λ (l : List ℤ). bounds_from l b.upper) low ∙ ap (bounds_from limits.lower) high
 
 -- the limits' own box is one of them
-pub box_of_problem : (limits b : Bounds) → b ≡ limits → IsProper limits → IsBoxOf limits b
+pub box_of_problem : (limits b : Bounds) → b ≡ limits → AreProperBounds limits → IsBoxOf limits b
 box_of_problem limits b same proper = subst (IsBoxOf limits) (sym same) (IsBoxOf-itself limits proper)
 
 -- the same, where a box that was the limits' own was changed, and all of it taken back

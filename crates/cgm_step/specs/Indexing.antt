@@ -30,8 +30,8 @@ index_after i (e ∷ entries) = index_after (index_with i e) entries
 abbrev pub index_of : LogState → Index
 index_of s = record { entries = length s.entries; bests = s.bests; closed = s.closed }
 
-abbrev pub IsIndexOf : Index → List Entry → Type 0
-IsIndexOf index log = index ≡ index_of (state_of log)
+abbrev pub IsLogIndexOf : Index → List Entry → Type 0
+IsLogIndexOf index log = index ≡ index_of (state_of log)
 
 -- the state that a log and an index tell: each entry is live
 abbrev pub indexed_state : List Entry → Index → LogState

@@ -20,9 +20,9 @@ IsNamedIn p (item.Clause atoms) = IsReadable atoms × AreKnown (var_count p) (at
 IsNamedIn p (item.Row r) = IsRowOf p.bounds r.now
 
 -- the clause or row, if it is there
-abbrev pub IsNamed : Instance → Option Constraint → Option Named → Type 0
-IsNamed p there None = there ≡ None
-IsNamed p there (Some n) = (there ≡ Some (constraint_of n)) × IsNamedIn p n
+abbrev pub IsNamedConstraint : Instance → Option Constraint → Option Named → Type 0
+IsNamedConstraint p there None = there ≡ None
+IsNamedConstraint p there (Some n) = (there ≡ Some (constraint_of n)) × IsNamedIn p n
 
 -- what a hint names and carries, if what it names is there
 abbrev pub IsFound : Instance → LogState → Hint → Option Found → Type 0

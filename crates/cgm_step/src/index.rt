@@ -1,7 +1,7 @@
 //! The index of a log.
 ghost use Rattle.std.specs.Prelude.{◌≡◌, ◌+◌, ◌^◌, ◌<◌, ◌≤◌, ◌++◌, ◌∷◌, [], List, length, take, OnOk, OnErr};
 ghost use Rattle.cgm_atom.specs.declared.entries.Entry.{Entry};
-ghost use Rattle.cgm_step.specs.Indexing.{IsIndexOf, empty_index, index_after, index_with};
+ghost use Rattle.cgm_step.specs.Indexing.{IsLogIndexOf, empty_index, index_after, index_with};
 
 use cgm_atom::{Entry, OutOfMemory};
 use std::alloc::Global;
@@ -27,7 +27,7 @@ impl LogIndex {
     /// The index of the empty log. Takes no memory.
     pub fn new(alloc: Global) -> LogIndex
         ensures value { result ≡ empty_index }
-        ensures own { IsIndexOf result [] }
+        ensures own { IsLogIndexOf result [] }
     {
         LogIndex {
             entries: 0,
@@ -42,7 +42,7 @@ impl LogIndex {
         requires { self.old.entries < 2 ^ 63 }
         ensures ok { OnOk result (self.new ≡ index_with self.old entry.now) }
         ensures own { OnOk result
-            ((log : List Entry) → IsIndexOf self.old log → IsIndexOf self.new (log ++ entry.now ∷ [])) }
+            ((log : List Entry) → IsLogIndexOf self.old log → IsLogIndexOf self.new (log ++ entry.now ∷ [])) }
         ensures err { OnErr result (self.new ≡ self.old) }
     {
         match entry {
@@ -63,7 +63,7 @@ impl LogIndex {
         requires { self.old.entries + length more.now ≤ 2 ^ 63 }
         ensures ok { OnOk result (self.new ≡ index_after self.old more.now) }
         ensures own { OnOk result
-            ((log : List Entry) → IsIndexOf self.old log → IsIndexOf self.new (log ++ more.now)) }
+            ((log : List Entry) → IsLogIndexOf self.old log → IsLogIndexOf self.new (log ++ more.now)) }
         ensures err { OnErr result (self.new ≡ self.old) }
     {
         let entries = self.entries;

@@ -2,7 +2,7 @@
 ghost use Rattle.std.specs.Prelude.{◌≡◌, ◌+◌, List, length, map, Some};
 ghost use Rattle.std.specs.Option.{option_copied};
 ghost use Rattle.cgm_atom.specs.LogState.{best_at, item_at, last_best, live_at, state_of, values_at_place};
-ghost use Rattle.cgm_step.specs.Indexing.{IsIndexOf, indexed_state};
+ghost use Rattle.cgm_step.specs.Indexing.{IsLogIndexOf, indexed_state};
 
 use crate::index::LogIndex;
 use cgm_atom::Entry;
@@ -28,7 +28,7 @@ impl<'l> Model for IndexedLog<'l> {
 impl<'l> IndexedLog<'l> {
     /// The log with these entries. Condition: the index is theirs.
     pub fn of(entries: &'l [Entry], index: &'l LogIndex) -> IndexedLog<'l>
-        requires { IsIndexOf index.now entries.now }
+        requires { IsLogIndexOf index.now entries.now }
         ensures { result ≡ state_of entries.now }
     {
         IndexedLog { entries, index }

@@ -27,7 +27,7 @@ use Rattle.cgm_text.specs.declared.draft.ModelDraft.{ModelDraft}
 use Rattle.cgm_text.specs.declared.reader.Reading.{Reading}
 use Rattle.cgm_text.specs.Line.{Verdict, nothing, header, says, faulty, written, IsFormJudged, IsNamedJudged, IsJudged, AreFirst, AreJudged, AreShallowJudged, AreLexemesJudged, ComesTo, nests_too_deep}
 use Rattle.cgm_text.specs.Meaning.{statement_of}
-use Rattle.cgm_text.specs.Progress.{IsAdded, IsDraft, IsFinished, IsMade, IsPut, IsStep, IsStop, IsStopAfter, line_stop, tokens_come_to}
+use Rattle.cgm_text.specs.Progress.{IsStatementAdded, IsModelDraft, IsFinished, MakesStatement, IsStatementPut, IsStatementStep, IsFaultOrMemory, IsStopAfter, line_stop, tokens_come_to}
 use Rattle.cgm_text.specs.Text.{LineComesTo, LineStatement, on_line, all_added, model_of, model_text, rule_line, rule_lines, HasFault, HasStatements, IsReading, IsNotRead}
 
 -- lists
@@ -43,18 +43,18 @@ rule_lines_push (t ∷ said) line s =
 
 -- stops
 
-pub stop_more : (P Q : Verdict → Type 0) (stop : LineStop) → ((fault : LineFault) → P (faulty fault) → Q (faulty fault)) → IsStop P stop → IsStop Q stop
+pub stop_more : (P Q : Verdict → Type 0) (stop : LineStop) → ((fault : LineFault) → P (faulty fault) → Q (faulty fault)) → IsFaultOrMemory P stop → IsFaultOrMemory Q stop
 stop_more P Q (line_stops.Faulty fault) more p = more fault p
 stop_more P Q line_stops.Memory more p = tt
 
 -- a statement that isn't added
-pub not_added_stop : (m : Lists) (s : Statement) (stop : AddStop) → IsNotAdded m s stop → IsStop (IsJudged m s) (line_stop stop)
+pub not_added_stop : (m : Lists) (s : Statement) (stop : AddStop) → IsNotAdded m s stop → IsFaultOrMemory (IsJudged m s) (line_stop stop)
 not_added_stop m s (add_stops.Refused fault) refused = (fault, (refused, refl))
 not_added_stop m s (add_stops.Limit which) refused = refused
 not_added_stop m s add_stops.Memory allowed = tt
 
 -- tokens of a made statement are judged as the statement is
-pub made_judged : (m : Lists) (tokens : List Lexeme) (s : Statement) (v : Verdict) → IsMade m tokens s → IsJudged m s v → AreJudged m tokens v
+pub made_judged : (m : Lists) (tokens : List Lexeme) (s : Statement) (v : Verdict) → MakesStatement m tokens s → IsJudged m s v → AreJudged m tokens v
 made_judged m tokens s v made judged =
     let named = subst (λ t. IsJudged m t v) (sym made.meaning) judged in
     let form : IsFormJudged m (written made.source) v =
@@ -65,9 +65,9 @@ on_ok_more : {X : Type 0} (A B : Type 0) (r : Result X LineStop) → (A → B) �
 on_ok_more A B (Ok x) more a = more a
 on_ok_more A B (Err stop) more a = tt
 
-pub put_added : {X : Type 0} (tokens : List Lexeme) (line : ℕ) (s : Statement) (old new : ModelDraft) (r : Result X LineStop) → IsMade old.builder tokens s → OnOk r (IsPut line s old new) → OnOk r (IsAdded line tokens old new)
+pub put_added : {X : Type 0} (tokens : List Lexeme) (line : ℕ) (s : Statement) (old new : ModelDraft) (r : Result X LineStop) → MakesStatement old.builder tokens s → OnOk r (IsStatementPut line s old new) → OnOk r (IsStatementAdded line tokens old new)
 put_added tokens line s old new r made put =
-    on_ok_more (IsPut line s old new) (IsAdded line tokens old new) r
+    on_ok_more (IsStatementPut line s old new) (IsStatementAdded line tokens old new) r
     (λ is. record {
       statement = s;
       judged = made_judged old.builder tokens s (says s) made (refl, is.allowed);
@@ -76,7 +76,7 @@ put_added tokens line s old new r made put =
       lines = is.lines;
     }) put
 
-pub put_stop : {X : Type 0} (m : Lists) (tokens : List Lexeme) (s : Statement) (r : Result X LineStop) → IsMade m tokens s → IfErr r (IsStop (IsJudged m s)) → IfErr r (IsStop (AreJudged m tokens))
+pub put_stop : {X : Type 0} (m : Lists) (tokens : List Lexeme) (s : Statement) (r : Result X LineStop) → MakesStatement m tokens s → IfErr r (IsFaultOrMemory (IsJudged m s)) → IfErr r (IsFaultOrMemory (AreJudged m tokens))
 put_stop m tokens s (Ok x) made stopped = tt
 put_stop m tokens s (Err stop) made stopped =
     stop_more (IsJudged m s) (AreJudged m tokens) stop (λ fault judged. made_judged m tokens s (faulty fault) made judged) stopped
@@ -87,7 +87,7 @@ there : (deep : Bool) (before : Option Lists) (tokens : List Lexeme) (v : Verdic
 there deep before [] v some e judged = absurd (some refl)
 there deep before (token ∷ tokens) v some e judged = subst (λ b. AreShallowJudged b before (token ∷ tokens) v) (sym e) judged
 
-pub nothing_step : (tokens : List Lexeme) (line : ℕ) (draft : ModelDraft) → tokens ≡ [] → IsStep (tokens_come_to tokens) line draft draft
+pub nothing_step : (tokens : List Lexeme) (line : ℕ) (draft : ModelDraft) → tokens ≡ [] → IsStatementStep (tokens_come_to tokens) line draft draft
 nothing_step tokens line draft e so_far is = record {
   verdict = nothing;
   judged = subst (λ ts. tokens_come_to ts (option_map model_of so_far) nothing) (sym e) refl;
@@ -100,7 +100,7 @@ pub deep_stop : (tokens : List Lexeme) (draft : ModelDraft) → tokens ≢ [] �
 deep_stop tokens draft some deep so_far is =
     there true (option_map model_of so_far) tokens (faulty (line_faults.Limit limits.FormulaDepth)) some deep refl
 
-pub statement_step : (tokens : List Lexeme) (line : ℕ) (old new : ModelDraft) → tokens ≢ [] → nests_too_deep tokens ≡ false → old.has_header ≡ true → IsAdded line tokens old new → IsStep (tokens_come_to tokens) line old new
+pub statement_step : (tokens : List Lexeme) (line : ℕ) (old new : ModelDraft) → tokens ≢ [] → nests_too_deep tokens ≡ false → old.has_header ≡ true → IsStatementAdded line tokens old new → IsStatementStep (tokens_come_to tokens) line old new
 statement_step tokens line old new some shallow begun is_added None is = absurd (true≢false (sym begun ∙ is.header))
 statement_step tokens line old new some shallow begun is_added (Some said) is =
     let s = is_added.statement in
@@ -117,17 +117,17 @@ statement_step tokens line old new some shallow begun is_added (Some said) is =
       };
     }
 
-pub added_step : {X : Type 0} (tokens : List Lexeme) (line : ℕ) (old new : ModelDraft) (r : Result X LineStop) → tokens ≢ [] → nests_too_deep tokens ≡ false → old.has_header ≡ true → OnOk r (IsAdded line tokens old new) → OnOk r (IsStep (tokens_come_to tokens) line old new)
+pub added_step : {X : Type 0} (tokens : List Lexeme) (line : ℕ) (old new : ModelDraft) (r : Result X LineStop) → tokens ≢ [] → nests_too_deep tokens ≡ false → old.has_header ≡ true → OnOk r (IsStatementAdded line tokens old new) → OnOk r (IsStatementStep (tokens_come_to tokens) line old new)
 added_step tokens line old new r some shallow begun is_added =
-    on_ok_more (IsAdded line tokens old new) (IsStep (tokens_come_to tokens) line old new) r (statement_step tokens line old new some shallow begun) is_added
+    on_ok_more (IsStatementAdded line tokens old new) (IsStatementStep (tokens_come_to tokens) line old new) r (statement_step tokens line old new some shallow begun) is_added
 
-pub statement_stop : (tokens : List Lexeme) (draft : ModelDraft) (stop : LineStop) → tokens ≢ [] → nests_too_deep tokens ≡ false → draft.has_header ≡ true → IsStop (AreJudged draft.builder tokens) stop → IsStopAfter (tokens_come_to tokens) draft stop
+pub statement_stop : (tokens : List Lexeme) (draft : ModelDraft) (stop : LineStop) → tokens ≢ [] → nests_too_deep tokens ≡ false → draft.has_header ≡ true → IsFaultOrMemory (AreJudged draft.builder tokens) stop → IsStopAfter (tokens_come_to tokens) draft stop
 statement_stop tokens draft stop some shallow begun judged None is = absurd (true≢false (sym begun ∙ is.header))
 statement_stop tokens draft stop some shallow begun judged (Some said) is =
     stop_more (AreJudged draft.builder tokens) (tokens_come_to tokens (Some (model_of said))) stop
     (λ fault j. there false (Some (model_of said)) tokens (faulty fault) some shallow (subst (λ m. AreJudged m tokens (faulty fault)) is.lists j)) judged
 
-pub header_step : (tokens : List Lexeme) (line : ℕ) (old new : ModelDraft) → tokens ≢ [] → nests_too_deep tokens ≡ false → old.has_header ≡ false → tokens ≡ header_tokens → new.has_header ≡ true → new.builder ≡ old.builder → new.rule_lines.items ≡ old.rule_lines.items → IsStep (tokens_come_to tokens) line old new
+pub header_step : (tokens : List Lexeme) (line : ℕ) (old new : ModelDraft) → tokens ≢ [] → nests_too_deep tokens ≡ false → old.has_header ≡ false → tokens ≡ header_tokens → new.has_header ≡ true → new.builder ≡ old.builder → new.rule_lines.items ≡ old.rule_lines.items → IsStatementStep (tokens_come_to tokens) line old new
 header_step tokens line old new some shallow unbegun is_header begun lists_are lines_are None is = record {
   verdict = header;
   judged = there false None tokens header some shallow is_header;
@@ -138,21 +138,21 @@ header_step tokens line old new some shallow unbegun is_header begun lists_are l
 header_step tokens line old new some shallow unbegun is_header begun lists_are lines_are (Some said) is =
     absurd (true≢false (sym is.header ∙ unbegun))
 
-pub begun_step : {X : Type 0} (tokens : List Lexeme) (line : ℕ) (old new : ModelDraft) (r : Result X LineStop) → tokens ≢ [] → nests_too_deep tokens ≡ false → old.has_header ≡ false → OnOk r (tokens ≡ header_tokens) → OnOk r (new.has_header ≡ true) → new.builder ≡ old.builder → new.rule_lines.items ≡ old.rule_lines.items → OnOk r (IsStep (tokens_come_to tokens) line old new)
+pub begun_step : {X : Type 0} (tokens : List Lexeme) (line : ℕ) (old new : ModelDraft) (r : Result X LineStop) → tokens ≢ [] → nests_too_deep tokens ≡ false → old.has_header ≡ false → OnOk r (tokens ≡ header_tokens) → OnOk r (new.has_header ≡ true) → new.builder ≡ old.builder → new.rule_lines.items ≡ old.rule_lines.items → OnOk r (IsStatementStep (tokens_come_to tokens) line old new)
 begun_step tokens line old new (Ok x) some shallow unbegun is_header begun lists_are lines_are =
     header_step tokens line old new some shallow unbegun is_header begun lists_are lines_are
 begun_step tokens line old new (Err stop) some shallow unbegun is_header begun lists_are lines_are = tt
 
-pub header_stop : (tokens : List Lexeme) (draft : ModelDraft) (stop : LineStop) → tokens ≢ [] → nests_too_deep tokens ≡ false → draft.has_header ≡ false → IsStop (AreFirst tokens) stop → IsStopAfter (tokens_come_to tokens) draft stop
+pub header_stop : (tokens : List Lexeme) (draft : ModelDraft) (stop : LineStop) → tokens ≢ [] → nests_too_deep tokens ≡ false → draft.has_header ≡ false → IsFaultOrMemory (AreFirst tokens) stop → IsStopAfter (tokens_come_to tokens) draft stop
 header_stop tokens draft stop some shallow unbegun first None is =
     stop_more (AreFirst tokens) (tokens_come_to tokens None) stop (λ fault f. there false None tokens (faulty fault) some shallow f) first
 header_stop tokens draft stop some shallow unbegun first (Some said) is = absurd (true≢false (sym is.header ∙ unbegun))
 
-pub added_stop : {X : Type 0} (tokens : List Lexeme) (draft : ModelDraft) (r : Result X LineStop) → tokens ≢ [] → nests_too_deep tokens ≡ false → draft.has_header ≡ true → IfErr r (IsStop (AreJudged draft.builder tokens)) → IfErr r (IsStopAfter (tokens_come_to tokens) draft)
+pub added_stop : {X : Type 0} (tokens : List Lexeme) (draft : ModelDraft) (r : Result X LineStop) → tokens ≢ [] → nests_too_deep tokens ≡ false → draft.has_header ≡ true → IfErr r (IsFaultOrMemory (AreJudged draft.builder tokens)) → IfErr r (IsStopAfter (tokens_come_to tokens) draft)
 added_stop tokens draft (Ok x) some shallow begun stopped = tt
 added_stop tokens draft (Err stop) some shallow begun stopped = statement_stop tokens draft stop some shallow begun stopped
 
-pub begun_stop : {X : Type 0} (tokens : List Lexeme) (draft : ModelDraft) (r : Result X LineStop) → tokens ≢ [] → nests_too_deep tokens ≡ false → draft.has_header ≡ false → IfErr r (IsStop (AreFirst tokens)) → IfErr r (IsStopAfter (tokens_come_to tokens) draft)
+pub begun_stop : {X : Type 0} (tokens : List Lexeme) (draft : ModelDraft) (r : Result X LineStop) → tokens ≢ [] → nests_too_deep tokens ≡ false → draft.has_header ≡ false → IfErr r (IsFaultOrMemory (AreFirst tokens)) → IfErr r (IsStopAfter (tokens_come_to tokens) draft)
 begun_stop tokens draft (Ok x) some shallow unbegun stopped = tt
 begun_stop tokens draft (Err stop) some shallow unbegun stopped = header_stop tokens draft stop some shallow unbegun stopped
 
@@ -161,26 +161,26 @@ begun_stop tokens draft (Err stop) some shallow unbegun stopped = header_stop to
 judged_line : (line : List ℕ) (tokens : List Lexeme) (before : Option Lists) (v : Verdict) → line_lexemes line ≡ Ok tokens → tokens_come_to tokens before v → ComesTo before line v
 judged_line line tokens before v e judged = subst (λ (r : Result (List Lexeme) Flaw). AreLexemesJudged before r v) (sym e) judged
 
-line_step : (line : List ℕ) (tokens : List Lexeme) (number : ℕ) (old new : ModelDraft) → line_lexemes line ≡ Ok tokens → IsStep (tokens_come_to tokens) number old new → LineStep model_text IsDraft number line old new
+line_step : (line : List ℕ) (tokens : List Lexeme) (number : ℕ) (old new : ModelDraft) → line_lexemes line ≡ Ok tokens → IsStatementStep (tokens_come_to tokens) number old new → LineStep model_text IsModelDraft number line old new
 line_step line tokens number old new e step so_far is =
     let s = step so_far is in
     (s.next, ((s.verdict, (judged_line line tokens (option_map model_of so_far) s.verdict e s.judged, sym s.passes)), s.leaves))
 
-pub line_steps : {X : Type 0} (line : List ℕ) (tokens : List Lexeme) (number : ℕ) (old new : ModelDraft) (r : Result X LineStop) → line_lexemes line ≡ Ok tokens → OnOk r (IsStep (tokens_come_to tokens) number old new) → OnOk r (LineStep model_text IsDraft number line old new)
+pub line_steps : {X : Type 0} (line : List ℕ) (tokens : List Lexeme) (number : ℕ) (old new : ModelDraft) (r : Result X LineStop) → line_lexemes line ≡ Ok tokens → OnOk r (IsStatementStep (tokens_come_to tokens) number old new) → OnOk r (LineStep model_text IsModelDraft number line old new)
 line_steps line tokens number old new r e step =
-    on_ok_more (IsStep (tokens_come_to tokens) number old new) (LineStep model_text IsDraft number line old new) r (line_step line tokens number old new e) step
+    on_ok_more (IsStatementStep (tokens_come_to tokens) number old new) (LineStep model_text IsModelDraft number line old new) r (line_step line tokens number old new e) step
 
 -- a faulty verdict is the fault of the line
-stop_by_verdict : (P : Verdict → Type 0) (Q : LineFault → Type 0) (stop : LineStop) → ((fault : LineFault) → P (faulty fault) → Q fault) → IsStop P stop → IsStopBy Q stop
+stop_by_verdict : (P : Verdict → Type 0) (Q : LineFault → Type 0) (stop : LineStop) → ((fault : LineFault) → P (faulty fault) → Q fault) → IsFaultOrMemory P stop → IsStopBy Q stop
 stop_by_verdict P Q (line_stops.Faulty fault) more p = more fault p
 stop_by_verdict P Q line_stops.Memory more p = tt
 
-line_stops_too : (line : List ℕ) (tokens : List Lexeme) (number : ℕ) (draft : ModelDraft) (stop : LineStop) → line_lexemes line ≡ Ok tokens → IsStopAfter (tokens_come_to tokens) draft stop → LineStops model_text IsDraft number line draft stop
+line_stops_too : (line : List ℕ) (tokens : List Lexeme) (number : ℕ) (draft : ModelDraft) (stop : LineStop) → line_lexemes line ≡ Ok tokens → IsStopAfter (tokens_come_to tokens) draft stop → LineStops model_text IsModelDraft number line draft stop
 line_stops_too line tokens number draft stop e stopped so_far is =
     stop_by_verdict (tokens_come_to tokens (option_map model_of so_far)) (λ fault. LineComesTo so_far number line (Err fault)) stop
     (λ fault judged. (faulty fault, (judged_line line tokens (option_map model_of so_far) (faulty fault) e judged, refl))) (stopped so_far is)
 
-pub line_stopped : {X : Type 0} (line : List ℕ) (tokens : List Lexeme) (number : ℕ) (draft : ModelDraft) (r : Result X LineStop) → line_lexemes line ≡ Ok tokens → IfErr r (IsStopAfter (tokens_come_to tokens) draft) → IfErr r (LineStops model_text IsDraft number line draft)
+pub line_stopped : {X : Type 0} (line : List ℕ) (tokens : List Lexeme) (number : ℕ) (draft : ModelDraft) (r : Result X LineStop) → line_lexemes line ≡ Ok tokens → IfErr r (IsStopAfter (tokens_come_to tokens) draft) → IfErr r (LineStops model_text IsModelDraft number line draft)
 line_stopped line tokens number draft (Ok x) e stopped = tt
 line_stopped line tokens number draft (Err stop) e stopped = line_stops_too line tokens number draft stop e stopped
 
@@ -190,17 +190,17 @@ flawed_line line number so_far fault (flaw, (e, is)) =
     let judged : AreLexemesJudged (option_map model_of so_far) (Err flaw) (faulty fault) = ap faulty is in
     (faulty fault, (subst (λ (r : Result (List Lexeme) Flaw). AreLexemesJudged (option_map model_of so_far) r (faulty fault)) (sym e) judged, refl))
 
-pub flawed_stops : (line : List ℕ) (number : ℕ) (draft : ModelDraft) (stop : LexStop) → IsLineStop number line stop → LineStops model_text IsDraft number line draft (lexing_stop stop)
+pub flawed_stops : (line : List ℕ) (number : ℕ) (draft : ModelDraft) (stop : LexStop) → IsLineStop number line stop → LineStops model_text IsModelDraft number line draft (lexing_stop stop)
 flawed_stops line number draft stop is so_far keeps =
     stop_by_more (IsFlawed line) (λ fault. LineComesTo so_far number line (Err fault)) (lexing_stop stop) (flawed_line line number so_far) (flawed number line stop is)
 
 -- the end
 
-pub nothing_lacks : (draft : ModelDraft) (so_far : Option (List LineStatement)) → draft.has_header ≡ true → IsDraft so_far draft → None ≡ lacks_header so_far
+pub nothing_lacks : (draft : ModelDraft) (so_far : Option (List LineStatement)) → draft.has_header ≡ true → IsModelDraft so_far draft → None ≡ lacks_header so_far
 nothing_lacks draft None begun is = absurd (true≢false (sym begun ∙ is.header))
 nothing_lacks draft (Some said) begun is = refl
 
-pub header_lacks : (draft : ModelDraft) (so_far : Option (List LineStatement)) → draft.has_header ≡ false → IsDraft so_far draft → Some (line_faults.Bad kinds.Header) ≡ lacks_header so_far
+pub header_lacks : (draft : ModelDraft) (so_far : Option (List LineStatement)) → draft.has_header ≡ false → IsModelDraft so_far draft → Some (line_faults.Bad kinds.Header) ≡ lacks_header so_far
 header_lacks draft None unbegun is = refl
 header_lacks draft (Some said) unbegun is = absurd (true≢false (sym is.header ∙ unbegun))
 
@@ -215,7 +215,7 @@ not_read text stops.Memory is = tt
 no_lack : (fault : LineFault) → Some fault ≡ None → ⊥
 no_lack fault e = cc
 
-finished_by : (text : List ℕ) (so_far : Option (List LineStatement)) (draft : ModelDraft) (reading : Reading) → Comes model_text text (gives so_far) → IsDraft so_far draft → IsFinished draft reading → IsReading text (lists_of reading.model) reading.rule_lines.items
+finished_by : (text : List ℕ) (so_far : Option (List LineStatement)) (draft : ModelDraft) (reading : Reading) → Comes model_text text (gives so_far) → IsModelDraft so_far draft → IsFinished draft reading → IsReading text (lists_of reading.model) reading.rule_lines.items
 unfolding HasStatements
 finished_by text None draft reading comes is finished =
     absurd (no_lack (line_faults.Bad kinds.Header) (lacks_nothing model_text text None comes))
@@ -226,5 +226,5 @@ finished_by text (Some said) draft reading comes is finished = record {
   lines_are = finished.lines ∙ is.lines;
 }
 
-pub finished : (text : List ℕ) (draft : ModelDraft) (reading : Reading) → IsReadAs model_text IsDraft text draft → IsFinished draft reading → IsReading text (lists_of reading.model) reading.rule_lines.items
+pub finished : (text : List ℕ) (draft : ModelDraft) (reading : Reading) → IsReadAs model_text IsModelDraft text draft → IsFinished draft reading → IsReading text (lists_of reading.model) reading.rule_lines.items
 finished text draft reading read is = finished_by text read.said draft reading read.comes read.keeps is

@@ -14,15 +14,15 @@ use Rattle.cgm_lex.specs.declared.stops.LineStop.{LineStop}
 use Rattle.cgm_print.specs.declared.words.Sort.{Sort}
 use Rattle.cgm_text.specs.Line.{Verdict, faulty, no_word, no_form, written, HasForm, IsNamedJudged, AreJudged}
 use Rattle.cgm_text.specs.Meaning.{declared_words, statement_of}
-use Rattle.cgm_text.specs.Progress.{IsStop}
+use Rattle.cgm_text.specs.Progress.{IsFaultOrMemory}
 use Rattle.cgm_print.specs.Statements.{WrittenStatement, goal, named, refinement, pair, assertion, variable, value, weight, condition, requirement, objective, must_tokens, sort_of, sort_word, statement_tokens}
-use Rattle.cgm_text.specs.Uses.{first_fault, statement_uses}
+use Rattle.cgm_text.specs.Uses.{first_name_fault, statement_uses}
 use Rattle.cgm_text.proofs.Forms.{no_statement}
 use Rattle.cgm_text.specs.Parsed.{IsNoBody}
 
-pub stop_exit : {T : Type 0} (P : Verdict → Type 0) (r : Result T LineStop) (stop : LineStop) → IsErrAnd r (λ e. e ≡ stop) → IsStop P stop → IfErr r (IsStop P)
+pub stop_exit : {T : Type 0} (P : Verdict → Type 0) (r : Result T LineStop) (stop : LineStop) → IsErrAnd r (λ e. e ≡ stop) → IsFaultOrMemory P stop → IfErr r (IsFaultOrMemory P)
 stop_exit P (Ok x) stop is p = tt
-stop_exit P (Err e) stop is p = subst (IsStop P) (sym is) p
+stop_exit P (Err e) stop is p = subst (IsFaultOrMemory P) (sym is) p
 
 pub word_stop : (m : Lists) (tokens : List Lexeme) → ((sort : Sort) (after : List Lexeme) → tokens ≢ word (sort_word sort) ∷ after) → AreJudged m tokens (faulty (line_faults.Bad kinds.Statement))
 word_stop m tokens none = (no_word, (none, refl))
@@ -31,7 +31,7 @@ pub form_stop : (m : Lists) (tokens : List Lexeme) (sort : Sort) → IsNoBody to
 form_stop m tokens sort none =
     (no_form, ((record { sort = sort; after = tokens; begins = refl }, no_statement (word (sort_word sort) ∷ tokens) tokens sort refl none), refl))
 
-pub name_stop : (m : Lists) (tokens : List Lexeme) (s : WrittenStatement) (kind : BadKind) → HasForm tokens (written s) → Some kind ≡ first_fault m (statement_uses s) → AreJudged m tokens (faulty (line_faults.Bad kind))
+pub name_stop : (m : Lists) (tokens : List Lexeme) (s : WrittenStatement) (kind : BadKind) → HasForm tokens (written s) → Some kind ≡ first_name_fault m (statement_uses s) → AreJudged m tokens (faulty (line_faults.Bad kind))
 name_stop m tokens s kind has e =
     (written s, (has, subst (λ bad. IsNamedJudged bad m (statement_of m s) (faulty (line_faults.Bad kind))) e refl))
 

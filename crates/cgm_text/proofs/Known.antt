@@ -1,4 +1,4 @@
--- Names that are right stand for what is there, so that a statement with such names is proper.
+-- Names that are right stand for what is there, so that a statement with such formula_names is proper.
 use Rattle.std.proofs.Common.{◌≡◌, ℕ, ◌<◌, ℤ, Bool, true, false, ◌&&◌, List, [], ◌∷◌, ◌++◌, length, map, nat_lt, Option, None, Some, refl, sym, ◌∙◌, subst, arith}
 use Rattle.std.specs.List.{All, AllByRecursion, list_all}
 use Rattle.std.specs.Option.{option_or}
@@ -12,7 +12,7 @@ use Rattle.cgm_base.specs.Words.{limit_number}
 use Rattle.cgm_formula.specs.declared.formula.Formula.{Formula}
 use Rattle.cgm_formula.specs.declared.formula.Linear.{Linear}
 use Rattle.cgm_formula.specs.declared.formula.Number.{Number}
-use Rattle.cgm_formula.specs.Nodes.{names, names_step, comparisons, comparisons_step, is_full, full_step, joined as concatenated}
+use Rattle.cgm_formula.specs.Nodes.{formula_names, names_step, comparisons, comparisons_step, is_full, full_step, lists_joined as concatenated}
 use Rattle.cgm_formula.proofs.Folds.{fold-Name, fold-Not, fold-And, fold-Or, fold-Implies, fold-Iff, fold-AtMost, fold-AtLeast, fold-Equal}
 use Rattle.cgm_model.specs.declared.lists.Element.{Element}
 use Rattle.cgm_model.specs.declared.lists.Lists.{Lists}
@@ -31,9 +31,9 @@ use Rattle.cgm_print.specs.declared.words.Joint.{Joint}
 use Rattle.cgm_print.specs.declared.words.Joint.TheVariants as joints
 use Rattle.cgm_print.specs.declared.words.Pairing.{Pairing}
 use Rattle.cgm_print.specs.declared.words.Pairing.TheVariants as pairings
-use Rattle.cgm_text.specs.Meaning.{element_named, refinement_named, truth_named, truth_of, number_named, number_of, element_of, refinement_of, sum_named, sum_of, term_of, linear_of, formula_of, each_formula_of, joined_as, paired_as, compared_as}
+use Rattle.cgm_text.specs.Meaning.{element_named, refinement_named, truth_named, truth_of, number_named, statement_of_number, element_of, refinement_of, sum_named, sum_of, term_of, linear_of, formula_of, each_formula_of, joined_as, paired_as, compared_as}
 use Rattle.cgm_text.specs.Trees.{is_deeper}
-use Rattle.cgm_text.specs.Uses.{NameUse, use_as, term_name, terms_uses, linear_uses, formula_uses, formulas_uses, thing_fault, first_fault}
+use Rattle.cgm_text.specs.Uses.{NameUse, use_as, term_name, terms_uses, linear_uses, formula_uses, formulas_uses, thing_fault, first_name_fault}
 use Rattle.cgm_print.specs.Written.{WrittenTerm, plain, scaled, WrittenLinear, single, total, WrittenFormula, name, negation, joined, paired, compared, WrittenFormulas, no_formulas, more_formulas, spelled}
 use Rattle.cgm_text.proofs.Depths.{depth_is_few}
 
@@ -43,8 +43,8 @@ or_none : (a b : Option BadKind) → option_or a b ≡ None → (a ≡ None) × 
 or_none None b e = (refl, e)
 or_none (Some kind) b e = cc
 
-pub first_right : (m : Lists) (u : NameUse) (us : List NameUse) → first_fault m (u ∷ us) ≡ None → (thing_fault u.wanted (thing_named m u.used) ≡ None) × (first_fault m us ≡ None)
-first_right m u us e = or_none (thing_fault u.wanted (thing_named m u.used)) (first_fault m us) e
+pub first_right : (m : Lists) (u : NameUse) (us : List NameUse) → first_name_fault m (u ∷ us) ≡ None → (thing_fault u.wanted (thing_named m u.used) ≡ None) × (first_name_fault m us ≡ None)
+first_right m u us e = or_none (thing_fault u.wanted (thing_named m u.used)) (first_name_fault m us) e
 
 -- things
 
@@ -102,7 +102,7 @@ truth_right m x (Some (things.Sum k)) e f = cc
 pub truth_known : (m : Lists) (x : List ℕ) → thing_fault wants.Truth (thing_named m x) ≡ None → IsKnownTruth m (truth_named m x)
 truth_known m x f = truth_right m x (thing_named m x) refl f
 
-number_right : (m : Lists) (x : List ℕ) (o : Option Thing) → thing_named m x ≡ o → thing_fault wants.Number o ≡ None → IsKnownNumber m (number_of o)
+number_right : (m : Lists) (x : List ℕ) (o : Option Thing) → thing_named m x ≡ o → thing_fault wants.Number o ≡ None → IsKnownNumber m (statement_of_number o)
 number_right m x None e f = cc
 number_right m x (Some (things.Element k)) e f = cc
 number_right m x (Some (things.Refinement k)) e f = cc
@@ -130,14 +130,14 @@ TermIsKnown m t = IsKnownNumber m t.1
 abbrev SideIsKnown : Lists → Linear × ℤ → Type 0
 SideIsKnown m c = All (TermIsKnown m) c.0.terms
 
--- names and numbers are there, and nothing is empty
+-- formula_names and numbers are there, and nothing is empty
 record IsGood (m : Lists) (f : Formula) : Type 0 where
-  truths_known : AllByRecursion (IsKnownTruth m) (names f)
+  truths_known : AllByRecursion (IsKnownTruth m) (formula_names f)
   sides_known : AllByRecursion (SideIsKnown m) (comparisons f)
   full : is_full f ≡ true
 
 record AreGood (m : Lists) (fs : List Formula) : Type 0 where
-  truths_known : AllByRecursion (IsKnownTruth m) (concatenated (map names fs))
+  truths_known : AllByRecursion (IsKnownTruth m) (concatenated (map formula_names fs))
   sides_known : AllByRecursion (SideIsKnown m) (concatenated (map comparisons fs))
   full : list_all (λ (part : Bool). part) (map is_full fs) ≡ true
 
@@ -153,7 +153,7 @@ there_more x xs = grind (arith, nat_tests)
 
 good_more : (m : Lists) (f : Formula) (fs : List Formula) → IsGood m f → AreGood m fs → AreGood m (f ∷ fs)
 good_more m f fs good are = record {
-  truths_known = both (IsKnownTruth m) (names f) (concatenated (map names fs)) good.truths_known are.truths_known;
+  truths_known = both (IsKnownTruth m) (formula_names f) (concatenated (map formula_names fs)) good.truths_known are.truths_known;
   sides_known = both (SideIsKnown m) (comparisons f) (concatenated (map comparisons fs)) good.sides_known are.sides_known;
   full = and_true (is_full f) (list_all (λ (part : Bool). part) (map is_full fs)) good.full are.full;
 }
@@ -172,12 +172,12 @@ good_joined m joints.Or f fs are = record {
 
 good_paired : (m : Lists) (pairing : Pairing) (f g : Formula) → IsGood m f → IsGood m g → IsGood m (paired_as pairing f g)
 good_paired m pairings.Implies f g one other = record {
-  truths_known = subst (AllByRecursion (IsKnownTruth m)) (sym (fold-Implies names_step f g)) (both (IsKnownTruth m) (names f) (names g) one.truths_known other.truths_known);
+  truths_known = subst (AllByRecursion (IsKnownTruth m)) (sym (fold-Implies names_step f g)) (both (IsKnownTruth m) (formula_names f) (formula_names g) one.truths_known other.truths_known);
   sides_known = subst (AllByRecursion (SideIsKnown m)) (sym (fold-Implies comparisons_step f g)) (both (SideIsKnown m) (comparisons f) (comparisons g) one.sides_known other.sides_known);
   full = fold-Implies full_step f g ∙ and_true (is_full f) (is_full g) one.full other.full;
 }
 good_paired m pairings.Iff f g one other = record {
-  truths_known = subst (AllByRecursion (IsKnownTruth m)) (sym (fold-Iff names_step f g)) (both (IsKnownTruth m) (names f) (names g) one.truths_known other.truths_known);
+  truths_known = subst (AllByRecursion (IsKnownTruth m)) (sym (fold-Iff names_step f g)) (both (IsKnownTruth m) (formula_names f) (formula_names g) one.truths_known other.truths_known);
   sides_known = subst (AllByRecursion (SideIsKnown m)) (sym (fold-Iff comparisons_step f g)) (both (SideIsKnown m) (comparisons f) (comparisons g) one.sides_known other.sides_known);
   full = fold-Iff full_step f g ∙ and_true (is_full f) (is_full g) one.full other.full;
 }
@@ -203,14 +203,14 @@ term_known : (m : Lists) (t : WrittenTerm) → thing_fault wants.Number (thing_n
 term_known m (plain x) f = number_known m x f
 term_known m (scaled k x) f = number_known m x f
 
-terms_known : (m : Lists) (ts : List WrittenTerm) (after : List NameUse) → first_fault m (terms_uses ts after) ≡ None → AllByRecursion (TermIsKnown m) (map (term_of m) ts) × (first_fault m after ≡ None)
+terms_known : (m : Lists) (ts : List WrittenTerm) (after : List NameUse) → first_name_fault m (terms_uses ts after) ≡ None → AllByRecursion (TermIsKnown m) (map (term_of m) ts) × (first_name_fault m after ≡ None)
 terms_known m [] after e = (tt, e)
 terms_known m (t ∷ ts) after e =
     let right = first_right m (use_as wants.Number (term_name t)) (terms_uses ts after) e in
     let others = terms_known m ts after right.1 in
     ((term_known m t right.0, others.0), others.1)
 
-linear_known : (m : Lists) (l : WrittenLinear) (after : List NameUse) → first_fault m (linear_uses l after) ≡ None → AllByRecursion (TermIsKnown m) (linear_of m l).terms × (first_fault m after ≡ None)
+linear_known : (m : Lists) (l : WrittenLinear) (after : List NameUse) → first_name_fault m (linear_uses l after) ≡ None → AllByRecursion (TermIsKnown m) (linear_of m l).terms × (first_name_fault m after ≡ None)
 linear_known m (single t) after e = terms_known m (t ∷ []) after e
 linear_known m (total t ts) after e = terms_known m (t ∷ ts) after e
 
@@ -219,7 +219,7 @@ linear_there m (single t) = there_more (term_of m t) []
 linear_there m (total t ts) = there_more (term_of m t) (map (term_of m) ts)
 
 mutual
-  formula_good : (m : Lists) (f : WrittenFormula) (after : List NameUse) → first_fault m (formula_uses f after) ≡ None → IsGood m (formula_of m f) × (first_fault m after ≡ None)
+  formula_good : (m : Lists) (f : WrittenFormula) (after : List NameUse) → first_name_fault m (formula_uses f after) ≡ None → IsGood m (formula_of m f) × (first_name_fault m after ≡ None)
   formula_good m (name x) after e =
       let right = first_right m (use_as wants.Truth x) after e in (
         record {
@@ -250,18 +250,18 @@ mutual
       let side = linear_known m linear after e in
       (good_compared m comparison (linear_of m linear) k (All-from_recursion (TermIsKnown m) (linear_of m linear).terms side.0) (linear_there m linear), side.1)
 
-  formulas_good : (m : Lists) (fs : WrittenFormulas) (after : List NameUse) → first_fault m (formulas_uses fs after) ≡ None → AreGood m (each_formula_of m fs) × (first_fault m after ≡ None)
+  formulas_good : (m : Lists) (fs : WrittenFormulas) (after : List NameUse) → first_name_fault m (formulas_uses fs after) ≡ None → AreGood m (each_formula_of m fs) × (first_name_fault m after ≡ None)
   formulas_good m no_formulas after e = (record { truths_known = tt; sides_known = tt; full = refl }, e)
   formulas_good m (more_formulas part parts) after e =
       let first = formula_good m part (formulas_uses parts after) e in
       let others = formulas_good m parts after first.1 in
       (good_more m (formula_of m part) (each_formula_of m parts) first.0 others.0, others.1)
 
-pub formula_proper : (m : Lists) (f : WrittenFormula) → first_fault m (formula_uses f []) ≡ None → is_deeper (limit_number limits.FormulaDepth) 0 (spelled f []) ≡ false → IsProperFormula m (formula_of m f)
+pub formula_proper : (m : Lists) (f : WrittenFormula) → first_name_fault m (formula_uses f []) ≡ None → is_deeper (limit_number limits.FormulaDepth) 0 (spelled f []) ≡ false → IsProperFormula m (formula_of m f)
 formula_proper m f right shallow =
     let good = (formula_good m f [] right).0 in
     record {
-      names = All-from_recursion (IsKnownTruth m) (names (formula_of m f)) good.truths_known;
+      formula_names = All-from_recursion (IsKnownTruth m) (formula_names (formula_of m f)) good.truths_known;
       numbers = All-from_recursion (SideIsKnown m) (comparisons (formula_of m f)) good.sides_known;
       full = good.full;
       depth = depth_is_few m (limit_number limits.FormulaDepth) f shallow;

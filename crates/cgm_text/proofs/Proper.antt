@@ -14,7 +14,7 @@ use Rattle.cgm_model.specs.declared.lists.Lists.{Lists}
 use Rattle.cgm_model.specs.declared.lists.Statement.{Statement}
 use Rattle.cgm_model.specs.Formulas.{IsKnownNumber, IsKnownTruth, IsProperFormula, IsProperRule}
 use Rattle.cgm_model.specs.Named.{thing_named}
-use Rattle.cgm_model.specs.Statement.{IsKnownQuantity, IsProper}
+use Rattle.cgm_model.specs.Statement.{IsKnownQuantity, IsProperStatement}
 use Rattle.cgm_text.specs.declared.names.Wanted.TheVariants as wants
 use Rattle.cgm_print.specs.declared.words.ConditionWord.{ConditionWord}
 use Rattle.cgm_print.specs.declared.words.ConditionWord.TheVariants as condition_words
@@ -23,20 +23,20 @@ use Rattle.cgm_print.specs.declared.words.PairWord.TheVariants as pair_words
 use Rattle.cgm_print.specs.declared.words.WeightWord.TheVariants as weight_words
 use Rattle.cgm_text.specs.Line.{nests_too_deep}
 use Rattle.cgm_text.specs.Meaning.{condition_of, element_named, formula_of, number_named, quantity_of, statement_of, truth_named}
-use Rattle.cgm_text.specs.Progress.{IsMade}
+use Rattle.cgm_text.specs.Progress.{MakesStatement}
 use Rattle.cgm_print.specs.Statements.{WrittenStatement, goal, named, refinement, pair, assertion, variable, value, weight, condition, requirement, objective, condition_word, statement_tokens}
-use Rattle.cgm_text.specs.Uses.{NameUse, use_as, first_fault, formula_uses, quantity_uses, statement_uses, thing_fault}
+use Rattle.cgm_text.specs.Uses.{NameUse, use_as, first_name_fault, formula_uses, quantity_uses, statement_uses, thing_fault}
 use Rattle.cgm_print.specs.Written.{WrittenFormula, spelled}
 use Rattle.cgm_text.proofs.Depths.{shallow_after}
 use Rattle.cgm_text.proofs.Known.{first_right, element_known, refinement_known, truth_known, number_known, sum_known, formula_proper}
 use Rattle.cgm_text.proofs.Spellings.{chosen}
 
-two_right : (m : Lists) (u v : NameUse) → first_fault m (u ∷ v ∷ []) ≡ None → (thing_fault u.wanted (thing_named m u.used) ≡ None) × (thing_fault v.wanted (thing_named m v.used) ≡ None)
+two_right : (m : Lists) (u v : NameUse) → first_name_fault m (u ∷ v ∷ []) ≡ None → (thing_fault u.wanted (thing_named m u.used) ≡ None) × (thing_fault v.wanted (thing_named m v.used) ≡ None)
 two_right m u v e =
     let first = first_right m u (v ∷ []) e in
     (first.0, (first_right m v [] first.1).0)
 
-elements_known : (m : Lists) (xs : List (List ℕ)) → first_fault m (map (use_as wants.Element) xs) ≡ None → AllByRecursion (λ k. k < length m.elements) (map (element_named m) xs)
+elements_known : (m : Lists) (xs : List (List ℕ)) → first_name_fault m (map (use_as wants.Element) xs) ≡ None → AllByRecursion (λ k. k < length m.elements) (map (element_named m) xs)
 elements_known m [] e = tt
 elements_known m (x ∷ xs) e =
     let right = first_right m (use_as wants.Element x) (map (use_as wants.Element) xs) e in
@@ -48,7 +48,7 @@ condition_proper m condition_words.Positive x f known proper =
 condition_proper m condition_words.Negative x f known proper =
     record { condition = All-from_recursion (IsKnownTruth m) (x ∷ []) (known, tt); formula = proper }
 
-rule_proper : (m : Lists) (what : ConditionWord) (x : List ℕ) (f : WrittenFormula) → first_fault m (statement_uses (condition what x f)) ≡ None → nests_too_deep (statement_tokens (condition what x f)) ≡ false → IsProperRule m (condition_of what (truth_named m x) (formula_of m f))
+rule_proper : (m : Lists) (what : ConditionWord) (x : List ℕ) (f : WrittenFormula) → first_name_fault m (statement_uses (condition what x f)) ≡ None → nests_too_deep (statement_tokens (condition what x f)) ≡ false → IsProperRule m (condition_of what (truth_named m x) (formula_of m f))
 rule_proper m what x f right shallow =
     let limit = limit_number limits.FormulaDepth in
     let rights = first_right m (use_as wants.Truth x) (formula_uses f []) right in
@@ -61,7 +61,7 @@ quantity_known m (numbers.Var k) known = known
 quantity_known m (numbers.Sum k) known = known
 
 -- by the tests that tell a built-in quantity
-quantity_proper : (m : Lists) (x : List ℕ) (a b c d e f : Bool) → first_fault m (quantity_uses (chosen a b c d e f) x) ≡ None → IsKnownQuantity m (quantity_of (chosen a b c d e f) (number_named m x))
+quantity_proper : (m : Lists) (x : List ℕ) (a b c d e f : Bool) → first_name_fault m (quantity_uses (chosen a b c d e f) x) ≡ None → IsKnownQuantity m (quantity_of (chosen a b c d e f) (number_named m x))
 quantity_proper m x true b c d e f right = tt
 quantity_proper m x false true c d e f right = tt
 quantity_proper m x false false true d e f right = tt
@@ -71,7 +71,7 @@ quantity_proper m x false false false false false true right = tt
 quantity_proper m x false false false false false false right =
     quantity_known m (number_named m x) (number_known m x (first_right m (use_as wants.Number x) [] right).0)
 
-pub statement_proper : (m : Lists) (w : WrittenStatement) → first_fault m (statement_uses w) ≡ None → nests_too_deep (statement_tokens w) ≡ false → IsProper m (statement_of m w)
+pub statement_proper : (m : Lists) (w : WrittenStatement) → first_name_fault m (statement_uses w) ≡ None → nests_too_deep (statement_tokens w) ≡ false → IsProperStatement m (statement_of m w)
 statement_proper m (goal x must) right shallow = λ _. refl
 statement_proper m (named name_words.Task x) right shallow = λ must. absurd (true≢false (sym must))
 statement_proper m (named name_words.Assume x) right shallow = λ must. absurd (true≢false (sym must))
@@ -105,6 +105,6 @@ statement_proper m (requirement f) right shallow =
     record { condition = All-from_recursion (IsKnownTruth m) [] tt; formula = formula_proper m f right inside }
 statement_proper m (objective direction x) right shallow = quantity_proper m x (bytes_eq (codes "weight") x) (bytes_eq (codes "unsat_prefs") x) (bytes_eq (codes "unsat_reqs") x) (bytes_eq (codes "sat_tasks") x) (bytes_eq (codes "familiarity") x) (bytes_eq (codes "effort") x) right
 
-pub made_proper : (m : Lists) (tokens : List Lexeme) (s : Statement) → IsMade m tokens s → nests_too_deep tokens ≡ false → IsProper m s
+pub made_proper : (m : Lists) (tokens : List Lexeme) (s : Statement) → MakesStatement m tokens s → nests_too_deep tokens ≡ false → IsProperStatement m s
 made_proper m tokens s made shallow =
-    subst (IsProper m) made.meaning (statement_proper m made.source made.names (subst (λ ts. nests_too_deep ts ≡ false) made.spelled shallow))
+    subst (IsProperStatement m) made.meaning (statement_proper m made.source made.names (subst (λ ts. nests_too_deep ts ≡ false) made.spelled shallow))

@@ -31,7 +31,7 @@ use Rattle.cgm_model.specs.declared.lists.Weighing.{Weighing}
 use Rattle.cgm_model.specs.Formulas.{IsKnownNumber, IsKnownTruth, formula_of as formula_of_rule}
 use Rattle.cgm_model.specs.Name.{is_name}
 use Rattle.cgm_model.specs.Named.{thing_named}
-use Rattle.cgm_model.specs.Statement.{IsEdgeOf, IsKnownQuantity, IsProper}
+use Rattle.cgm_model.specs.Statement.{IsEdgeOf, IsKnownQuantity, IsProperStatement}
 use Rattle.cgm_text.specs.declared.names.Wanted.TheVariants as wants
 use Rattle.cgm_print.specs.declared.words.ConditionWord.{ConditionWord}
 use Rattle.cgm_print.specs.declared.words.ConditionWord.TheVariants as condition_words
@@ -39,13 +39,13 @@ use Rattle.cgm_print.specs.declared.words.PairWord.{PairWord}
 use Rattle.cgm_print.specs.declared.words.PairWord.TheVariants as pair_words
 use Rattle.cgm_print.specs.declared.words.WeightWord.{WeightWord}
 use Rattle.cgm_print.specs.declared.words.WeightWord.TheVariants as weight_words
-use Rattle.cgm_text.specs.Back.{ArePlain, IsThere, thing_name, Knows, Given, Back, StatementBack, Fitting}
+use Rattle.cgm_text.specs.Back.{ArePlain, IsThingThere, thing_name, Knows, Given, Back, StatementBack, Fitting}
 use Rattle.cgm_print.specs.Canonical.{direction_of, element_name, number_name, quantity_name, refinement_name, sum_name, truth_name, written, written_element, written_formula, written_refinement, written_rule}
 use Rattle.cgm_text.specs.Line.{nests_too_deep}
-use Rattle.cgm_text.specs.Meaning.{element_named, element_of, is_max, number_named, quantity_named, quantity_of, refinement_named, refinement_of, sum_of, truth_named, formula_of, statement_of, condition_of, weight_of}
+use Rattle.cgm_text.specs.Meaning.{element_named, element_of, is_max, number_named, quantity_named, quantity_of, refinement_named, refinement_of, sum_of, truth_named, formula_of, statement_of, condition_of, statement_of_weight}
 use Rattle.cgm_print.specs.Statements.{condition, condition_word, direction_word, objective, pair, pair_word, requirement, value, weight, weight_word}
 use Rattle.cgm_text.specs.Trees.{is_deeper}
-use Rattle.cgm_text.specs.Uses.{end_of, first_fault, formula_uses, quantity_uses, thing_fault, use_as}
+use Rattle.cgm_text.specs.Uses.{end_of, first_name_fault, formula_uses, quantity_uses, thing_fault, use_as}
 use Rattle.cgm_print.specs.Written.{spelled}
 use Rattle.cgm_text.proofs.Spellings.{name_free}
 use Rattle.cgm_text.proofs.WrittenBack.{formula_back, number_meaning, number_use, pass, passes, thing_plain, truth_meaning, truth_plain, truth_use}
@@ -136,7 +136,7 @@ sources_meaning p m kn [] known = refl
 sources_meaning p m kn (k ∷ ks) known =
     two (element_named p (element_name m k)) k (map (element_named p) (map (element_name m) ks)) ks (element_meaning p m kn k known.0) (sources_meaning p m kn ks known.1)
 
-sources_use : (p m : Lists) → Knows p m → (ks : List ℕ) → AllByRecursion (KnownElement p) ks → first_fault p (map (use_as wants.Element) (map (element_name m) ks)) ≡ None
+sources_use : (p m : Lists) → Knows p m → (ks : List ℕ) → AllByRecursion (KnownElement p) ks → first_name_fault p (map (use_as wants.Element) (map (element_name m) ks)) ≡ None
 unfolding KnownElement
 sources_use p m kn [] known = refl
 sources_use p m kn (k ∷ ks) known =
@@ -189,7 +189,7 @@ requirement_back p m kn f given few =
       shallow = after_word (codes "require") (spelled w []) (b.shallow (limit_number limits.FormulaDepth) 0 [] (omega (arith, few)));
     }
 
-rule_back : (p m : Lists) → Knows p m → (r : Rule) → IsProper p (statements.Rule r) → Given p (formula_of_rule r) → StatementBack p (statements.Rule r) (written_rule m r)
+rule_back : (p m : Lists) → Knows p m → (r : Rule) → IsProperStatement p (statements.Rule r) → Given p (formula_of_rule r) → StatementBack p (statements.Rule r) (written_rule m r)
 rule_back p m kn (rules_of.Positive x f) proper given =
     condition_back p m kn condition_words.Positive x f (recursion_from_All (IsKnownTruth p) (x ∷ []) proper.condition).0 given proper.formula.depth (omega arith, (refl, refl))
 rule_back p m kn (rules_of.Negative x f) proper given =
@@ -250,11 +250,11 @@ value_back p m kn v there known fits =
       shallow = flat (word (codes "value") ∷ word total ∷ word of_what ∷ number v.k ∷ []) refl;
     }
 
-weight_back : (p m : Lists) → Knows p m → (what : WeightWord) (w : Weighing) → w.element < length p.elements → FitsSigned w64 w.k → IsPlain (word (weight_word what)) → StatementBack p (weight_of what w) (weight what (element_name m w.element) w.k)
+weight_back : (p m : Lists) → Knows p m → (what : WeightWord) (w : Weighing) → w.element < length p.elements → FitsSigned w64 w.k → IsPlain (word (weight_word what)) → StatementBack p (statement_of_weight what w) (weight what (element_name m w.element) w.k)
 weight_back p m kn what w there fits plain_ =
     let x = element_name m w.element in
     record {
-      meaning = ap (λ (a : ℕ). weight_of what (record { element = a; k = w.k })) (element_meaning p m kn w.element there);
+      meaning = ap (λ (a : ℕ). statement_of_weight what (record { element = a; k = w.k })) (element_meaning p m kn w.element there);
       names = passes p (use_as wants.Element x) [] (element_use p m kn w.element there);
       words = (plain_, (thing_plain p m kn (things.Element w.element) there, (fits, tt)));
       shallow = flat (word (weight_word what) ∷ word x ∷ number w.k ∷ []) refl;
@@ -264,16 +264,16 @@ weight_back p m kn what w there fits plain_ =
 
 record QuantityBack (p : Lists) (q : Quantity) (x : List ℕ) : Type 0 where
   meaning : quantity_named p x ≡ q
-  names : first_fault p (quantity_uses (built_in x) x) ≡ None
+  names : first_name_fault p (quantity_uses (built_in x) x) ≡ None
   plain_word : IsPlain (word x)
 
-number_back : (p m : Lists) → Knows p m → (x : Number) (t : Thing) → IsKnownNumber p x → IsThere p t → number_name m x ≡ thing_name m t → QuantityBack p (quantity_of None x) (number_name m x)
+number_back : (p m : Lists) → Knows p m → (x : Number) (t : Thing) → IsKnownNumber p x → IsThingThere p t → number_name m x ≡ thing_name m t → QuantityBack p (quantity_of None x) (number_name m x)
 number_back p m kn x t known there same =
     let n = number_name m x in
     let free : built_in n ≡ None = name_free n (ap is_name same ∙ kn.spelled t there) in
     record {
       meaning = ap (λ o. quantity_of o (number_named p n)) free ∙ ap (quantity_of None) (number_meaning p m kn x known);
-      names = ap (λ o. first_fault p (quantity_uses o n)) free ∙ passes p (use_as wants.Number n) [] (number_use p m kn x known);
+      names = ap (λ o. first_name_fault p (quantity_uses o n)) free ∙ passes p (use_as wants.Number n) [] (number_use p m kn x known);
       plain_word = subst (λ (y : List ℕ). IsPlain (word y)) (sym same) (thing_plain p m kn t there);
     }
 
@@ -317,7 +317,7 @@ truth_plain_word false = (omega arith, (refl, refl))
 
 -- ---- each statement
 
-pub statement_back : (p m : Lists) → Knows p m → (s : Statement) → IsProper p s → Fitting p s → StatementBack p s (written m s)
+pub statement_back : (p m : Lists) → Knows p m → (s : Statement) → IsProperStatement p s → Fitting p s → StatementBack p s (written m s)
 statement_back p m kn (statements.Element e) proper fits = element_back p e.name e.kind e.must proper fits
 statement_back p m kn (statements.Refine r) proper fits =
     refinement_back p m kn r.name r.target r.sources fits proper.0 proper.1 (known_by p r.sources (recursion_from_All (λ source. source < length p.elements) r.sources proper.2))

@@ -13,7 +13,7 @@ use Rattle.cgm_base.specs.Words.{limit_number}
 use Rattle.cgm_formula.specs.declared.formula.Formula.{Formula}
 use Rattle.cgm_formula.specs.declared.formula.Linear.{Linear}
 use Rattle.cgm_formula.specs.declared.formula.Number.{Number}
-use Rattle.cgm_formula.specs.Nodes.{names as names_in, comparisons}
+use Rattle.cgm_formula.specs.Nodes.{formula_names as names_in, comparisons}
 use Rattle.cgm_lex.specs.Lexemes.{Lexeme, line_lexemes, word}
 use Rattle.cgm_lex.specs.Lines.{lines}
 use Rattle.cgm_lex.specs.Readings.{Lead, gives}
@@ -28,23 +28,23 @@ use Rattle.cgm_model.specs.declared.lists.Sum.{Sum}
 use Rattle.cgm_model.specs.declared.lists.Thing.{Thing}
 use Rattle.cgm_model.specs.declared.lists.Thing.TheVariants as things
 use Rattle.cgm_model.specs.declared.lists.Variable.{Variable}
-use Rattle.cgm_model.specs.Canonical.{statements_of, after, StandInOrder}
+use Rattle.cgm_model.specs.Canonical.{statements_of, after, StatementsStandInOrder}
 use Rattle.cgm_model.specs.Formulas.{IsKnownNumber, IsKnownTruth, IsProperFormula, every_linear, formula_of as formula_of_rule, has_small_terms}
 use Rattle.cgm_model.specs.Lists.{added, no_lists}
 use Rattle.cgm_model.specs.Name.{is_name}
-use Rattle.cgm_model.specs.Named.{element_names, refinement_names, sum_names, variable_names, IsNamed, thing_named}
-use Rattle.cgm_model.specs.Statement.{IsAllowed, IsProper}
-use Rattle.cgm_model.specs.WellFormed.{IsRule, IsValue, IsVariable, IsWeighing, IsWellFormed}
+use Rattle.cgm_model.specs.Named.{element_names, refinement_names, sum_names, variable_names, IsNamedThing, thing_named}
+use Rattle.cgm_model.specs.Statement.{IsAllowed, IsProperStatement}
+use Rattle.cgm_model.specs.WellFormed.{IsRule, IsValue, IsVariable, IsProperWeighing, IsWellFormedModel}
 use Rattle.cgm_model.proofs.Canon.{after_all, stands_in_order}
 use Rattle.cgm_model.proofs.Keeping.{IsWellFormed-added, IsWellFormed-none}
 use Rattle.cgm_model.proofs.Lookups.{place, placed, thing_named-from_named}
-use Rattle.cgm_text.specs.Back.{ArePlain, Fitting, Given, HasWidth, IsSide, IsTerm, IsThere, thing_name, Knows, StatementBack}
+use Rattle.cgm_text.specs.Back.{ArePlain, Fitting, Given, HasWidth, IsSide, IsTerm, IsThingThere, thing_name, Knows, StatementBack}
 use Rattle.cgm_print.specs.Canonical.{canonical_text, name_at, statement_lines, whole_line, written}
 use Rattle.cgm_text.specs.Line.{ComesTo, AreLexemesJudged, AreShallowJudged, IsNamedJudged, nests_too_deep, nothing, header, says, written as form_written}
 use Rattle.cgm_text.specs.Meaning.{statement_of}
 use Rattle.cgm_print.specs.Statements.{WrittenStatement, statement_tokens, header_tokens}
 use Rattle.cgm_text.specs.Text.{HasStatements, IsTextOf, LineStatement, all_added, model_of, model_text, on_line}
-use Rattle.cgm_text.specs.Uses.{first_fault, statement_uses}
+use Rattle.cgm_text.specs.Uses.{first_name_fault, statement_uses}
 use Rattle.cgm_text.proofs.Drafts.{all_added_push}
 use Rattle.cgm_text.proofs.Spellings.{name_plain}
 use Rattle.cgm_text.proofs.StatementsBack.{statement_back}
@@ -64,7 +64,7 @@ last_holds : {X : Type 0} (P : X → Type 0) (xs : List X) (y : X) → All P (xs
 last_holds P [] y h = h 0 y (omega arith)
 last_holds P (x ∷ xs) y h = last_holds P xs y (λ k d l. h (suc k) d (omega arith))
 
-named_stays : (p : Lists) (s : Statement) (n : List ℕ) (t : Thing) → IsNamed p n t → IsNamed (added p s) n t
+named_stays : (p : Lists) (s : Statement) (n : List ℕ) (t : Thing) → IsNamedThing p n t → IsNamedThing (added p s) n t
 named_stays p (statements.Element x) n (things.Element k) h = front_named (λ (y : Element). y.name) p.elements (x ∷ []) k n h
 named_stays p (statements.Element x) n (things.Refinement k) h = h
 named_stays p (statements.Element x) n (things.Var k) h = h
@@ -126,7 +126,7 @@ named_stays p (statements.Objective x) n (things.Refinement k) h = h
 named_stays p (statements.Objective x) n (things.Var k) h = h
 named_stays p (statements.Objective x) n (things.Sum k) h = h
 
-named_after : (p : Lists) (ss : List Statement) (n : List ℕ) (t : Thing) → IsNamed p n t → IsNamed (after p ss) n t
+named_after : (p : Lists) (ss : List Statement) (n : List ℕ) (t : Thing) → IsNamedThing p n t → IsNamedThing (after p ss) n t
 named_after p [] n t h = h
 named_after p (s ∷ ss) n t h = named_after (added p s) ss n t (named_stays p s n t h)
 
@@ -138,27 +138,27 @@ get_some (x ∷ xs) (suc k) h = get_some xs k (omega arith)
 -- ---- what the lists before a statement know
 
 -- what has a name is spelled as one
-named_spelled : (p : Lists) → IsWellFormed p → (n : List ℕ) (t : Thing) → IsNamed p n t → is_name n ≡ true
+named_spelled : (p : Lists) → IsWellFormedModel p → (n : List ℕ) (t : Thing) → IsNamedThing p n t → is_name n ≡ true
 named_spelled p w n t h =
     let q = placed p n t h in
     subst (λ (x : List ℕ). is_name x ≡ true) q.named (w.names.spelled (place p t) [] q.within)
 
-there_named : (p : Lists) (t : Thing) → IsThere p t → IsNamed p (thing_name p t) t
+there_named : (p : Lists) (t : Thing) → IsThingThere p t → IsNamedThing p (thing_name p t) t
 there_named p (things.Element k) h = get_some (element_names p) k (omega (arith, h, length-map p.elements (λ (x : Element). x.name)))
 there_named p (things.Refinement k) h = get_some (refinement_names p) k (omega (arith, h, length-map p.refinements (λ (x : Refinement). x.name)))
 there_named p (things.Var k) h = get_some (variable_names p) k (omega (arith, h, length-map p.vars (λ (x : Variable). x.name)))
 there_named p (things.Sum k) h = get_some (sum_names p) k (omega (arith, h, length-map p.sums (λ (x : Sum). x.name)))
 
-name_is : (m : Lists) (n : List ℕ) (t : Thing) → IsNamed m n t → thing_name m t ≡ n
+name_is : (m : Lists) (n : List ℕ) (t : Thing) → IsNamedThing m n t → thing_name m t ≡ n
 name_is m n (things.Element k) h = get_or_from_slice_get (element_names m) k n [] h
 name_is m n (things.Refinement k) h = get_or_from_slice_get (refinement_names m) k n [] h
 name_is m n (things.Var k) h = get_or_from_slice_get (variable_names m) k n [] h
 name_is m n (things.Sum k) h = get_or_from_slice_get (sum_names m) k n [] h
 
-knows : (p m : Lists) (ss : List Statement) → IsWellFormed p → after p ss ≡ m → Knows p m
+knows : (p m : Lists) (ss : List Statement) → IsWellFormedModel p → after p ss ≡ m → Knows p m
 knows p m ss w e =
-    let same : (t : Thing) → IsThere p t → thing_name m t ≡ thing_name p t = λ t h.
-    name_is m (thing_name p t) t (subst (λ (q : Lists). IsNamed q (thing_name p t) t) e (named_after p ss (thing_name p t) t (there_named p t h))) in
+    let same : (t : Thing) → IsThingThere p t → thing_name m t ≡ thing_name p t = λ t h.
+    name_is m (thing_name p t) t (subst (λ (q : Lists). IsNamedThing q (thing_name p t) t) e (named_after p ss (thing_name p t) t (there_named p t h))) in
     record {
       named = λ t h. ap (thing_named p) (same t h) ∙ thing_named-from_named p w (thing_name p t) t (there_named p t h);
       spelled = λ t h. ap is_name (same t h) ∙ named_spelled p w (thing_name p t) t (there_named p t h);
@@ -196,10 +196,10 @@ formula_given p f proper small fits = record {
 }
 
 -- the name that a statement adds is a word
-added_plain : (p : Lists) → IsWellFormed p → (n : List ℕ) (t : Thing) → IsNamed p n t → IsPlain (word n)
+added_plain : (p : Lists) → IsWellFormedModel p → (n : List ℕ) (t : Thing) → IsNamedThing p n t → IsPlain (word n)
 added_plain p w n t h = name_plain n (named_spelled p w n t h)
 
-fitting : (p : Lists) (s : Statement) → IsWellFormed (added p s) → IsProper p s → HasWidth s → Fitting p s
+fitting : (p : Lists) (s : Statement) → IsWellFormedModel (added p s) → IsProperStatement p s → HasWidth s → Fitting p s
 fitting p (statements.Element e) w proper wide = added_plain (added p (statements.Element e)) w e.name (things.Element (length p.elements)) (last_named (λ (x : Element). x.name) p.elements e)
 fitting p (statements.Refine r) w proper wide = added_plain (added p (statements.Refine r)) w r.name (things.Refinement (length p.refinements)) (last_named (λ (x : Refinement). x.name) p.refinements r)
 fitting p (statements.Variable v) w proper wide =
@@ -214,10 +214,10 @@ fitting p (statements.Value v) w proper wide =
     let is : IsValue (added p (statements.Value v)) v = last_holds (IsValue (added p (statements.Value v))) p.values v w.values in
     number_fits v.k is.small
 fitting p (statements.Reward v) w proper wide =
-    let is : IsWeighing (added p (statements.Reward v)) v = last_holds (IsWeighing (added p (statements.Reward v))) p.rewards v w.rewards in
+    let is : IsProperWeighing (added p (statements.Reward v)) v = last_holds (IsProperWeighing (added p (statements.Reward v))) p.rewards v w.rewards in
     number_fits v.k is.small
 fitting p (statements.Penalty v) w proper wide =
-    let is : IsWeighing (added p (statements.Penalty v)) v = last_holds (IsWeighing (added p (statements.Penalty v))) p.penalties v w.penalties in
+    let is : IsProperWeighing (added p (statements.Penalty v)) v = last_holds (IsProperWeighing (added p (statements.Penalty v))) p.penalties v w.penalties in
     number_fits v.k is.small
 fitting p (statements.Prefer x) w proper wide = tt
 fitting p (statements.Rule r) w proper wide =
@@ -232,7 +232,7 @@ comes_by : (p : Lists) (s : Statement) (v : WrittenStatement) → IsAllowed p s 
 comes_by p s v allowed back bytes e =
     let judged : IsNamedJudged None p s (says s) = (refl, allowed) in
     let meant : IsNamedJudged None p (statement_of p v) (says s) = subst (λ (t : Statement). IsNamedJudged None p t (says s)) (sym back.meaning) judged in
-    let named : IsNamedJudged (first_fault p (statement_uses v)) p (statement_of p v) (says s) = subst (λ o. IsNamedJudged o p (statement_of p v) (says s)) (sym back.names) meant in
+    let named : IsNamedJudged (first_name_fault p (statement_uses v)) p (statement_of p v) (says s) = subst (λ o. IsNamedJudged o p (statement_of p v) (says s)) (sym back.names) meant in
     let shallow : AreShallowJudged false (Some p) (statement_tokens v) (says s) = (form_written v, (refl, named)) in
     let deep : AreShallowJudged (nests_too_deep (statement_tokens v)) (Some p) (statement_tokens v) (says s) = subst (λ (b : Bool). AreShallowJudged b (Some p) (statement_tokens v) (says s)) (sym back.shallow) shallow in
     subst (λ (r : Result (List Lexeme) _). AreLexemesJudged (Some p) r (says s)) (sym e) deep
@@ -255,7 +255,7 @@ tagged line (s ∷ ss) = on_line line s ∷ tagged (line + 1) ss
 abbrev AllHaveWidth : List Statement → Type 0
 AllHaveWidth ss = AllByRecursion HasWidth ss
 
-lead : (m p : Lists) (said : List LineStatement) (line : ℕ) (ss : List Statement) → model_of said ≡ p → IsWellFormed p → StandInOrder p ss → after p ss ≡ m → AllHaveWidth ss
+lead : (m p : Lists) (said : List LineStatement) (line : ℕ) (ss : List Statement) → model_of said ≡ p → IsWellFormedModel p → StatementsStandInOrder p ss → after p ss ≡ m → AllHaveWidth ss
     → Lead model_text (Some said) line (lines (statement_lines m ss)) (gives (Some (said ++ tagged line ss)))
 unfolding tagged
 lead m p said line [] is w stand e wide =
@@ -287,7 +287,7 @@ header_plain = plain_all header_tokens ((omega arith, (refl, refl)), (record { s
 header_comes : ComesTo None (spelled_line header_tokens) header
 header_comes = subst (λ (r : Result (List Lexeme) _). AreLexemesJudged None r header) (sym (line_is_read header_tokens header_plain)) refl
 
-pub text_back : (m : Lists) → IsWellFormed m → AllHaveWidth (statements_of m) → IsTextOf (canonical_text m) m
+pub text_back : (m : Lists) → IsWellFormedModel m → AllHaveWidth (statements_of m) → IsTextOf (canonical_text m) m
 unfolding HasStatements canonical_text
 text_back m w wide =
     let ss = statements_of m in

@@ -21,7 +21,7 @@ use Rattle.cgm_lex.specs.Readings.{flaw_kind}
 use Rattle.cgm_text.specs.Line.{Verdict, nothing, header, says, faulty, refusal_kind, Form, no_word, no_form, written, HasForm, IsRefusedAs, IsJudged, IsNamedJudged, IsFormJudged, AreJudged, AreFirst, AreShallowJudged, nests_too_deep, AreLexemesJudged, ComesTo}
 use Rattle.cgm_text.specs.Meaning.{statement_of}
 use Rattle.cgm_print.specs.Statements.{sort_of, body}
-use Rattle.cgm_text.specs.Uses.{first_fault, statement_uses}
+use Rattle.cgm_text.specs.Uses.{first_name_fault, statement_uses}
 use Rattle.cgm_text.proofs.Forms.{statement_once}
 
 -- forms
@@ -81,7 +81,7 @@ named_judged_once None m s v w x y = judged_once m s v w x y
 form_judged_once : (m : Lists) (form : Form) (v w : Verdict) → IsFormJudged m form v → IsFormJudged m form w → v ≡ w
 form_judged_once m no_word v w x y = x ∙ sym y
 form_judged_once m no_form v w x y = x ∙ sym y
-form_judged_once m (written s) v w x y = named_judged_once (first_fault m (statement_uses s)) m (statement_of m s) v w x y
+form_judged_once m (written s) v w x y = named_judged_once (first_name_fault m (statement_uses s)) m (statement_of m s) v w x y
 
 are_judged_once : (m : Lists) (tokens : List Lexeme) (v w : Verdict) → AreJudged m tokens v → AreJudged m tokens w → v ≡ w
 are_judged_once m tokens v w x y =
@@ -141,7 +141,7 @@ named_some None m s none = statement_some m s none
 form_judged_some : (m : Lists) (form : Form) → Never (IsFormJudged m form) → ⊥
 form_judged_some m no_word none = none (faulty (line_faults.Bad kinds.Statement)) refl
 form_judged_some m no_form none = none (faulty (line_faults.Bad kinds.Form)) refl
-form_judged_some m (written s) none = named_some (first_fault m (statement_uses s)) m (statement_of m s) none
+form_judged_some m (written s) none = named_some (first_name_fault m (statement_uses s)) m (statement_of m s) none
 
 form_some : (tokens : List Lexeme) → ((form : Form) → ¬ HasForm tokens form) → ⊥
 form_some tokens none =

@@ -1,4 +1,4 @@
--- The written form of a formula, read back after lists that know its names, is the formula.
+-- The written form of a formula, read back after lists that know its formula_names, is the formula.
 use Rattle.std.proofs.Common.{◌≡◌, ◌≢◌, ℕ, ◌+◌, ◌-◌, ◌==◌, ◌≤◌, ℤ, pos, negsuc, max, Bool, true, false, ◌&&◌, nat_lt, List, [], ◌∷◌, ◌++◌, length, map, codes, FitsSigned, None, refl, sym, ap, ◌∙◌, subst, arith, true≢false, w64}
 use Rattle.std.specs.List.{AllByRecursion, list_all}
 use Rattle.std.specs.Ordering.{int_eq}
@@ -12,7 +12,7 @@ use Rattle.cgm_formula.specs.declared.formula.Number.{Number}
 use Rattle.cgm_formula.specs.declared.formula.Number.TheVariants as numbers_of
 use Rattle.cgm_formula.specs.declared.formula.Truth.{Truth}
 use Rattle.cgm_formula.specs.declared.formula.Truth.TheVariants as truths
-use Rattle.cgm_formula.specs.Nodes.{names, names_step, comparisons, comparisons_step, is_full, full_step, depth, depth_step, greatest, linear_depth, term_depth, joined as concatenated}
+use Rattle.cgm_formula.specs.Nodes.{formula_names, names_step, comparisons, comparisons_step, is_full, full_step, depth, depth_step, greatest, linear_depth, term_depth, lists_joined as concatenated}
 use Rattle.cgm_formula.proofs.Comparisons.{split}
 use Rattle.cgm_formula.proofs.Folds.{fold-Name, fold-Not, fold-And, fold-Or, fold-Implies, fold-Iff, fold-AtMost, fold-AtLeast, fold-Equal}
 use Rattle.cgm_formula.proofs.Induction.{by_cases}
@@ -30,17 +30,17 @@ use Rattle.cgm_print.specs.declared.words.Joint.{Joint}
 use Rattle.cgm_print.specs.declared.words.Joint.TheVariants as joints
 use Rattle.cgm_print.specs.declared.words.Pairing.{Pairing}
 use Rattle.cgm_print.specs.declared.words.Pairing.TheVariants as pairings
-use Rattle.cgm_text.specs.Back.{ArePlain, IsThere, thing_name, Knows, IsTerm, IsSide, Given, Back}
+use Rattle.cgm_text.specs.Back.{ArePlain, IsThingThere, thing_name, Knows, IsTerm, IsSide, Given, Back}
 use Rattle.cgm_print.specs.Canonical.{truth_name, number_name, written_term, written_linear, written_step, written_formula}
-use Rattle.cgm_text.specs.Meaning.{truth_named, truth_of, number_named, number_of, term_of, linear_of, linear_with, formula_of, each_formula_of, joined_as, paired_as, compared_as}
+use Rattle.cgm_text.specs.Meaning.{truth_named, truth_of, number_named, statement_of_number, term_of, linear_of, linear_with, formula_of, each_formula_of, joined_as, paired_as, compared_as}
 use Rattle.cgm_text.specs.Trees.{count_after, is_deeper}
-use Rattle.cgm_text.specs.Uses.{NameUse, use_as, term_name, terms_uses, linear_uses, formula_uses, formulas_uses, thing_fault, first_fault}
+use Rattle.cgm_text.specs.Uses.{NameUse, use_as, term_name, terms_uses, linear_uses, formula_uses, formulas_uses, thing_fault, first_name_fault}
 use Rattle.cgm_print.specs.Written.{WrittenTerm, plain, scaled, WrittenLinear, WrittenFormula, name, negation, joined, paired, compared, WrittenFormulas, more_formulas, joint_word, pairing_word, comparison_word, spelled_term, spelled_terms, spelled_linear, spelled, spelled_each, formulas_of}
 use Rattle.cgm_text.proofs.Spellings.{name_plain}
 
--- ---- names
+-- ---- formula_names
 
-pub thing_plain : (p m : Lists) → Knows p m → (t : Thing) → IsThere p t → IsPlain (word (thing_name m t))
+pub thing_plain : (p m : Lists) → Knows p m → (t : Thing) → IsThingThere p t → IsPlain (word (thing_name m t))
 thing_plain p m kn t h = name_plain (thing_name m t) (kn.spelled t h)
 
 pub truth_meaning : (p m : Lists) → Knows p m → (x : Truth) → IsKnownTruth p x → truth_named p (truth_name m x) ≡ x
@@ -56,8 +56,8 @@ truth_plain p m kn (truths.Element k) h = thing_plain p m kn (things.Element k) 
 truth_plain p m kn (truths.Refinement k) h = thing_plain p m kn (things.Refinement k) h
 
 pub number_meaning : (p m : Lists) → Knows p m → (x : Number) → IsKnownNumber p x → number_named p (number_name m x) ≡ x
-number_meaning p m kn (numbers_of.Var k) h = ap number_of (kn.named (things.Var k) h)
-number_meaning p m kn (numbers_of.Sum k) h = ap number_of (kn.named (things.Sum k) h)
+number_meaning p m kn (numbers_of.Var k) h = ap statement_of_number (kn.named (things.Var k) h)
+number_meaning p m kn (numbers_of.Sum k) h = ap statement_of_number (kn.named (things.Sum k) h)
 
 pub number_use : (p m : Lists) → Knows p m → (x : Number) → IsKnownNumber p x → thing_fault wants.Number (thing_named p (number_name m x)) ≡ None
 number_use p m kn (numbers_of.Var k) h = ap (thing_fault wants.Number) (kn.named (things.Var k) h)
@@ -68,7 +68,7 @@ number_plain p m kn (numbers_of.Var k) h = thing_plain p m kn (things.Var k) h
 number_plain p m kn (numbers_of.Sum k) h = thing_plain p m kn (things.Sum k) h
 
 -- a name that is right adds no fault
-pub passes : (p : Lists) (u : NameUse) (us : List NameUse) → thing_fault u.wanted (thing_named p u.used) ≡ None → first_fault p (u ∷ us) ≡ first_fault p us
+pub passes : (p : Lists) (u : NameUse) (us : List NameUse) → thing_fault u.wanted (thing_named p u.used) ≡ None → first_name_fault p (u ∷ us) ≡ first_name_fault p us
 passes p u us e = rw e refl
 
 -- ---- brackets
@@ -141,7 +141,7 @@ term_back p m kn t given = term_by p m kn t.0 t.1 given.0 given.1 (int_eq t.0 (p
 
 record TermsBack (p m : Lists) (ts : List (ℤ × Number)) (ws : List WrittenTerm) : Type 0 where
   meaning : map (term_of p) ws ≡ ts
-  uses : (after : List NameUse) → first_fault p (terms_uses ws after) ≡ first_fault p after
+  uses : (after : List NameUse) → first_name_fault p (terms_uses ws after) ≡ first_name_fault p after
   words : (after : List Lexeme) → ArePlain after → ArePlain (spelled_terms ws after)
   shallow : (most count : ℕ) (after : List Lexeme) → count + greatest (map term_depth ts) ≤ most → is_deeper most count (spelled_terms ws after) ≡ is_deeper most count after
 
@@ -164,7 +164,7 @@ terms_back p m kn (t ∷ ts) given =
 
 record LinearBack (p m : Lists) (ts : List (ℤ × Number)) (w : WrittenLinear) : Type 0 where
   meaning : linear_of p w ≡ linear_with ts
-  uses : (after : List NameUse) → first_fault p (linear_uses w after) ≡ first_fault p after
+  uses : (after : List NameUse) → first_name_fault p (linear_uses w after) ≡ first_name_fault p after
   words : (after : List Lexeme) → ArePlain after → ArePlain (spelled_linear w after)
   shallow : (most count : ℕ) (after : List Lexeme) → count + linear_depth ts ≤ most → is_deeper most count (spelled_linear w after) ≡ is_deeper most count after
 
@@ -194,13 +194,13 @@ linear_back p m kn (t ∷ u ∷ ts) given full =
 -- ---- formulas
 
 record Givens (p : Lists) (fs : List Formula) : Type 0 where
-  known : AllByRecursion (IsKnownTruth p) (concatenated (map names fs))
+  known : AllByRecursion (IsKnownTruth p) (concatenated (map formula_names fs))
   sides : AllByRecursion (IsSide p) (concatenated (map comparisons fs))
   full : list_all (λ (part : Bool). part) (map is_full fs) ≡ true
 
 record Backs (p m : Lists) (fs : List Formula) (ws : WrittenFormulas) : Type 0 where
   meaning : each_formula_of p ws ≡ fs
-  uses : (after : List NameUse) → first_fault p (formulas_uses ws after) ≡ first_fault p after
+  uses : (after : List NameUse) → first_name_fault p (formulas_uses ws after) ≡ first_name_fault p after
   words : (after : List Lexeme) → ArePlain after → ArePlain (spelled_each ws after)
   shallow : (most count : ℕ) (after : List Lexeme) → count + greatest (map depth fs) ≤ most → is_deeper most count (spelled_each ws after) ≡ is_deeper most count after
 
@@ -218,14 +218,14 @@ backs_more p m f fs w ws one more = record {
 
 given_first : (p : Lists) (f : Formula) (fs : List Formula) → Givens p (f ∷ fs) → Given p f
 given_first p f fs g = record {
-  known = (split (IsKnownTruth p) (names f) (concatenated (map names fs)) g.known).0;
+  known = (split (IsKnownTruth p) (formula_names f) (concatenated (map formula_names fs)) g.known).0;
   sides = (split (IsSide p) (comparisons f) (concatenated (map comparisons fs)) g.sides).0;
   full = (and_parts (is_full f) (list_all (λ (part : Bool). part) (map is_full fs)) g.full).0;
 }
 
 given_others : (p : Lists) (f : Formula) (fs : List Formula) → Givens p (f ∷ fs) → Givens p fs
 given_others p f fs g = record {
-  known = (split (IsKnownTruth p) (names f) (concatenated (map names fs)) g.known).1;
+  known = (split (IsKnownTruth p) (formula_names f) (concatenated (map formula_names fs)) g.known).1;
   sides = (split (IsSide p) (comparisons f) (concatenated (map comparisons fs)) g.sides).1;
   full = (and_parts (is_full f) (list_all (λ (part : Bool). part) (map is_full fs)) g.full).1;
 }
@@ -369,9 +369,9 @@ disjunction_goes p m (part ∷ parts) all g =
     }))
 
 -- what is given of two parts
-given_both : (p : Lists) (one other : Formula) → AllByRecursion (IsKnownTruth p) (names one ++ names other) → AllByRecursion (IsSide p) (comparisons one ++ comparisons other) → (is_full one && is_full other) ≡ true → Given p one × Given p other
+given_both : (p : Lists) (one other : Formula) → AllByRecursion (IsKnownTruth p) (formula_names one ++ formula_names other) → AllByRecursion (IsSide p) (comparisons one ++ comparisons other) → (is_full one && is_full other) ≡ true → Given p one × Given p other
 given_both p one other known sides full =
-    let k = split (IsKnownTruth p) (names one) (names other) known in
+    let k = split (IsKnownTruth p) (formula_names one) (formula_names other) known in
     let s = split (IsSide p) (comparisons one) (comparisons other) sides in
     let f = and_parts (is_full one) (is_full other) full in
     (record { known = k.0; sides = s.0; full = f.0 }, record { known = k.1; sides = s.1; full = f.1 })

@@ -19,7 +19,7 @@ use Rattle.cgm_print.specs.declared.words.Sort.{Sort}
 use Rattle.cgm_text.specs.Meaning.{statement_of}
 use Rattle.cgm_print.specs.Statements.{WrittenStatement, sort_word, statement_tokens}
 use Rattle.cgm_text.specs.Trees.{is_deeper}
-use Rattle.cgm_text.specs.Uses.{first_fault, statement_uses}
+use Rattle.cgm_text.specs.Uses.{first_name_fault, statement_uses}
 use Rattle.cgm_text.specs.Parsed.{BeginsNoStatement}
 
 pub data Verdict : Type 0 where
@@ -76,7 +76,7 @@ IsNamedJudged None m s v = IsJudged m s v
 abbrev pub IsFormJudged : Lists → Form → Verdict → Type 0
 IsFormJudged m no_word v = v ≡ faulty (line_faults.Bad kinds.Statement)
 IsFormJudged m no_form v = v ≡ faulty (line_faults.Bad kinds.Form)
-IsFormJudged m (written s) v = IsNamedJudged (first_fault m (statement_uses s)) m (statement_of m s) v
+IsFormJudged m (written s) v = IsNamedJudged (first_name_fault m (statement_uses s)) m (statement_of m s) v
 
 -- tokens after the header
 abbrev pub AreJudged : Lists → List Lexeme → Verdict → Type 0

@@ -63,12 +63,12 @@ truth_of (Some (things.Var k)) = truths.Element 0
 truth_of (Some (things.Sum k)) = truths.Element 0
 truth_of None = truths.Element 0
 
-abbrev pub number_of : Option Thing → Number
-number_of (Some (things.Element k)) = numbers.Var 0
-number_of (Some (things.Refinement k)) = numbers.Var 0
-number_of (Some (things.Var k)) = numbers.Var k
-number_of (Some (things.Sum k)) = numbers.Sum k
-number_of None = numbers.Var 0
+abbrev pub statement_of_number : Option Thing → Number
+statement_of_number (Some (things.Element k)) = numbers.Var 0
+statement_of_number (Some (things.Refinement k)) = numbers.Var 0
+statement_of_number (Some (things.Var k)) = numbers.Var k
+statement_of_number (Some (things.Sum k)) = numbers.Sum k
+statement_of_number None = numbers.Var 0
 
 abbrev pub sum_of : Option Thing → ℕ
 sum_of (Some (things.Element k)) = 0
@@ -87,7 +87,7 @@ abbrev pub truth_named : Lists → List ℕ → Truth
 truth_named m x = truth_of (thing_named m x)
 
 abbrev pub number_named : Lists → List ℕ → Number
-number_named m x = number_of (thing_named m x)
+number_named m x = statement_of_number (thing_named m x)
 
 abbrev pub sum_named : Lists → List ℕ → ℕ
 sum_named m x = sum_of (thing_named m x)
@@ -151,9 +151,9 @@ pair_of m pair_words.Prefer one other =
     statements.Prefer (record { better = truth_named m one; worse = truth_named m other })
 
 -- what a statement with this word, an element and a number says
-abbrev pub weight_of : WeightWord → Weighing → Statement
-weight_of weight_words.Reward w = statements.Reward w
-weight_of weight_words.Penalty w = statements.Penalty w
+abbrev pub statement_of_weight : WeightWord → Weighing → Statement
+statement_of_weight weight_words.Reward w = statements.Reward w
+statement_of_weight weight_words.Penalty w = statements.Penalty w
 
 abbrev pub condition_of : ConditionWord → Truth → Formula → Rule
 condition_of condition_words.Positive x f = rules_of.Positive x f
@@ -182,7 +182,7 @@ statement_of m (pair what one other) = pair_of m what one other
 statement_of m (assertion x truth) = statements.Assert (record { element = element_named m x; truth = truth })
 statement_of m (variable x lo hi) = statements.Variable (record { name = x; lo = lo; hi = hi })
 statement_of m (value s x k) = statements.Value (record { sum = sum_named m s; of = truth_named m x; k = k })
-statement_of m (weight what x k) = weight_of what (record { element = element_named m x; k = k })
+statement_of m (weight what x k) = statement_of_weight what (record { element = element_named m x; k = k })
 statement_of m (condition what x f) = statements.Rule (condition_of what (truth_named m x) (formula_of m f))
 statement_of m (requirement f) = statements.Rule (rules_of.Require (formula_of m f))
 statement_of m (objective direction x) =

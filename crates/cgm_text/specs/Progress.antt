@@ -18,18 +18,18 @@ use Rattle.cgm_text.specs.Line.{Verdict, says, faulty, refusal_kind, AreJudged, 
 use Rattle.cgm_text.specs.Meaning.{statement_of}
 use Rattle.cgm_print.specs.Statements.{WrittenStatement, statement_tokens}
 use Rattle.cgm_text.specs.Text.{LineStatement, after_line, model_of, rule_line, rule_lines}
-use Rattle.cgm_text.specs.Uses.{first_fault, statement_uses}
+use Rattle.cgm_text.specs.Uses.{first_name_fault, statement_uses}
 
 -- a stop is the fault that this says of, or want of memory
-abbrev pub IsStop : (Verdict → Type 0) → LineStop → Type 0
-IsStop P (line_stops.Faulty fault) = P (faulty fault)
-IsStop P line_stops.Memory = Unit {0}
+abbrev pub IsFaultOrMemory : (Verdict → Type 0) → LineStop → Type 0
+IsFaultOrMemory P (line_stops.Faulty fault) = P (faulty fault)
+IsFaultOrMemory P line_stops.Memory = Unit {0}
 
 -- the tokens make this statement after the lists, and its names are right
-pub record IsMade (m : Lists) (tokens : List Lexeme) (s : Statement) : Type 0 where
+pub record MakesStatement (m : Lists) (tokens : List Lexeme) (s : Statement) : Type 0 where
   pub source : WrittenStatement
   pub spelled : tokens ≡ statement_tokens source
-  pub names : first_fault m (statement_uses source) ≡ None
+  pub names : first_name_fault m (statement_uses source) ≡ None
   pub meaning : statement_of m source ≡ s
 
 pub record IsBegun (said : List LineStatement) (draft : ModelDraft) : Type 0 where
@@ -43,9 +43,9 @@ pub record IsEmpty (draft : ModelDraft) : Type 0 where
   pub lines : draft.rule_lines.items ≡ []
 
 -- the reader has these statements so far, or none before the header
-abbrev pub IsDraft : Option (List LineStatement) → ModelDraft → Type 0
-IsDraft None draft = IsEmpty draft
-IsDraft (Some said) draft = IsBegun said draft
+abbrev pub IsModelDraft : Option (List LineStatement) → ModelDraft → Type 0
+IsModelDraft None draft = IsEmpty draft
+IsModelDraft (Some said) draft = IsBegun said draft
 
 -- after what it had so far, the reader has what a line with this number makes of it by `P`, which is no fault
 pub record Steps (P : Option Lists → Verdict → Type 0) (line : ℕ) (so_far : Option (List LineStatement)) (draft : ModelDraft) : Type 0 where
@@ -53,26 +53,26 @@ pub record Steps (P : Option Lists → Verdict → Type 0) (line : ℕ) (so_far 
   pub judged : P (option_map model_of so_far) verdict
   pub next : Option (List LineStatement)
   pub passes : after_line so_far line verdict ≡ Ok next
-  pub leaves : IsDraft next draft
+  pub leaves : IsModelDraft next draft
 
-abbrev pub IsStep : (Option Lists → Verdict → Type 0) → ℕ → ModelDraft → ModelDraft → Type 0
-IsStep P line old new = (so_far : Option (List LineStatement)) → IsDraft so_far old → Steps P line so_far new
+abbrev pub IsStatementStep : (Option Lists → Verdict → Type 0) → ℕ → ModelDraft → ModelDraft → Type 0
+IsStatementStep P line old new = (so_far : Option (List LineStatement)) → IsModelDraft so_far old → Steps P line so_far new
 
 abbrev pub IsStopAfter : (Option Lists → Verdict → Type 0) → ModelDraft → LineStop → Type 0
-IsStopAfter P old stop = (so_far : Option (List LineStatement)) → IsDraft so_far old → IsStop (P (option_map model_of so_far)) stop
+IsStopAfter P old stop = (so_far : Option (List LineStatement)) → IsModelDraft so_far old → IsFaultOrMemory (P (option_map model_of so_far)) stop
 
 abbrev pub tokens_come_to : List Lexeme → Option Lists → Verdict → Type 0
 tokens_come_to tokens before v = AreLexemesJudged before (Ok tokens) v
 
 -- the statement is allowed, and added on the line with this number
-pub record IsPut (line : ℕ) (s : Statement) (old new : ModelDraft) : Type 0 where
+pub record IsStatementPut (line : ℕ) (s : Statement) (old new : ModelDraft) : Type 0 where
   pub allowed : IsAllowed old.builder s
   pub header : new.has_header ≡ old.has_header
   pub lists : new.builder ≡ added old.builder s
   pub lines : new.rule_lines.items ≡ old.rule_lines.items ++ rule_line line s
 
 -- the statement of the tokens is added, on the line with this number
-pub record IsAdded (line : ℕ) (tokens : List Lexeme) (old new : ModelDraft) : Type 0 where
+pub record IsStatementAdded (line : ℕ) (tokens : List Lexeme) (old new : ModelDraft) : Type 0 where
   pub statement : Statement
   pub judged : AreJudged old.builder tokens (says statement)
   pub header : new.has_header ≡ old.has_header

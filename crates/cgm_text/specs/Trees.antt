@@ -1,7 +1,7 @@
 -- What a parsed formula stands for in its line.
 use Rattle.std.specs.Prelude.{ℕ, ◌+◌, ◌-◌, Bool, true, false, nat_lt, if◌then◌else◌, List, [], ◌∷◌, map}
 use Rattle.std.specs.List.{slice_range}
-use Rattle.cgm_lex.specs.Lexemes.{Lexeme, opening, closing, colon, number, word, seen}
+use Rattle.cgm_lex.specs.Lexemes.{Lexeme, opening, closing, colon, number, word, token_seen}
 use Rattle.cgm_lex.specs.declared.token.Token.{Token}
 use Rattle.cgm_text.specs.declared.written.FormStop.{FormStop}
 use Rattle.cgm_text.specs.declared.written.FormStop.TheVariants as form_stops
@@ -17,7 +17,7 @@ use Rattle.cgm_print.specs.Written.{WrittenTerm, plain, scaled, WrittenLinear, s
 
 -- what the tokens of a line say
 abbrev pub seen_all : List ℕ → List Token → List Lexeme
-seen_all line tokens = map (seen line) tokens
+seen_all line tokens = map (token_seen line) tokens
 
 abbrev pub word_in : List ℕ → Word → List ℕ
 word_in line w = slice_range line w.from w.to

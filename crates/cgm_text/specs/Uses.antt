@@ -114,6 +114,6 @@ thing_fault wanted None = Some kinds.UnknownName
 thing_fault wanted (Some thing) = if suits wanted thing then None else Some kinds.WrongKind
 
 -- what is wrong with the first of these names that is unknown after these lists, or of a wrong kind
-abbrev pub first_fault : Lists → List NameUse → Option BadKind
-first_fault m [] = None
-first_fault m (u ∷ uses) = option_or (thing_fault u.wanted (thing_named m u.used)) (first_fault m uses)
+abbrev pub first_name_fault : Lists → List NameUse → Option BadKind
+first_name_fault m [] = None
+first_name_fault m (u ∷ uses) = option_or (thing_fault u.wanted (thing_named m u.used)) (first_name_fault m uses)

@@ -1,10 +1,10 @@
 //! The model of the lines that were read so far.
 ghost use Rattle.std.specs.Prelude.{◌≡◌, ◌↔◌, ℕ, List, [], ◌∷◌, true, false, if◌then◌else◌, All, Option, None, IsTrue, IfErr, OnOk};
 ghost use Rattle.cgm_lex.specs.Spelling.{IsPlain};
-ghost use Rattle.cgm_model.specs.Statement.{IsProper};
+ghost use Rattle.cgm_model.specs.Statement.{IsProperStatement};
 ghost use Rattle.cgm_print.specs.Statements.{header_tokens};
 ghost use Rattle.cgm_text.specs.Line.{AreFirst, AreJudged, IsJudged, nests_too_deep};
-ghost use Rattle.cgm_text.specs.Progress.{IsAdded, IsDraft, IsFinished, IsPut, IsStep, IsStop, IsStopAfter, line_stop, tokens_come_to};
+ghost use Rattle.cgm_text.specs.Progress.{IsStatementAdded, IsModelDraft, IsFinished, IsStatementPut, IsStatementStep, IsFaultOrMemory, IsStopAfter, line_stop, tokens_come_to};
 ghost use Rattle.cgm_text.specs.Text.{LineStatement, model_text, rule_line};
 ghost use Rattle.cgm_text.specs.Trees.{seen_all};
 
@@ -63,7 +63,7 @@ fn add_stop(stop: AddStop) -> LineStop
 impl ModelDraft {
     /// The draft before the first line.
     pub(crate) fn new(alloc: Global) -> ModelDraft
-        ensures { IsDraft None result }
+        ensures { IsModelDraft None result }
     {
         ModelDraft {
             has_header: false,
@@ -74,9 +74,9 @@ impl ModelDraft {
 
     /// Adds a statement of the line with this number.
     fn add(&mut self, statement: Statement, number: u32) -> Result<(), LineStop>
-        requires { IsProper self.old.builder statement }
-        ensures put { OnOk result (IsPut number statement self.old self.new) }
-        ensures stop { IfErr result (IsStop (IsJudged self.old.builder statement)) }
+        requires { IsProperStatement self.old.builder statement }
+        ensures put { OnOk result (IsStatementPut number statement self.old self.new) }
+        ensures stop { IfErr result (IsFaultOrMemory (IsJudged self.old.builder statement)) }
     {
         let has_line = is_rule(&statement);
         match self.builder.add(statement) {
@@ -102,8 +102,8 @@ impl ModelDraft {
     ) -> Result<(), LineStop>
         requires plain { All IsPlain (seen_all line.now tokens.now) }
         requires shallow { nests_too_deep (seen_all line.now tokens.now) ≡ false }
-        ensures added { OnOk result (IsAdded number (seen_all line.now tokens.now) self.old self.new) }
-        ensures stop { IfErr result (IsStop (AreJudged self.old.builder (seen_all line.now tokens.now))) }
+        ensures added { OnOk result (IsStatementAdded number (seen_all line.now tokens.now) self.old self.new) }
+        ensures stop { IfErr result (IsFaultOrMemory (AreJudged self.old.builder (seen_all line.now tokens.now))) }
     {
         let statement = statement_of_tokens(alloc, &self.builder, line, tokens)?;
         self.add(statement, number)
@@ -115,7 +115,7 @@ impl ModelDraft {
         ensures header { OnOk result (self.new.has_header ≡ true) }
         ensures lists { self.new.builder ≡ self.old.builder }
         ensures lines { self.new.rule_lines.items ≡ self.old.rule_lines.items }
-        ensures stop { IfErr result (IsStop (AreFirst (seen_all line.now tokens.now))) }
+        ensures stop { IfErr result (IsFaultOrMemory (AreFirst (seen_all line.now tokens.now))) }
     {
         if !is_header(line, tokens) {
             return Err(LineStop::Faulty(LineFault::Bad(BadKind::Header)));
@@ -133,7 +133,7 @@ impl ModelDraft {
         number: u32,
     ) -> Result<(), LineStop>
         requires plain { All IsPlain (seen_all line.now tokens.now) }
-        ensures step { OnOk result (IsStep (tokens_come_to (seen_all line.now tokens.now)) number self.old self.new) }
+        ensures step { OnOk result (IsStatementStep (tokens_come_to (seen_all line.now tokens.now)) number self.old self.new) }
         ensures stop { IfErr result (IsStopAfter (tokens_come_to (seen_all line.now tokens.now)) self.old) }
     {
         if is_end(tokens) {
@@ -170,7 +170,7 @@ impl Draft for ModelDraft {
 
     ghost form = { model_text };
 
-    ghost holds = { IsDraft };
+    ghost holds = { IsModelDraft };
 
     fn add_line(&mut self, alloc: Global, line: &[u8], number: u32) -> Result<(), LineStop> {
         match tokens_of_line(alloc, line, number) {

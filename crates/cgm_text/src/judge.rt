@@ -4,7 +4,7 @@ ghost use Rattle.cgm_lex.specs.Lexemes.{word};
 ghost use Rattle.cgm_lex.specs.Spelling.{IsPlain};
 ghost use Rattle.cgm_model.specs.declared.lists.Lists.{Lists};
 ghost use Rattle.cgm_text.specs.Line.{AreJudged, HasForm, written};
-ghost use Rattle.cgm_text.specs.Progress.{IsMade, IsStop};
+ghost use Rattle.cgm_text.specs.Progress.{MakesStatement, IsFaultOrMemory};
 ghost use Rattle.cgm_print.specs.Statements.{sort_word};
 ghost use Rattle.cgm_text.specs.Trees.{seen_all};
 ghost use Rattle.cgm_text.specs.Parsed.{statement_in};
@@ -36,7 +36,7 @@ fn form_of_sort(
     tokens: &[Token],
 ) -> Result<Written, LineStop>
     ensures found { IfOk result (λ s. HasForm (word (sort_word sort) ∷ seen_all line.now tokens.now) (written (statement_in line.now s))) }
-    ensures stop { IfErr result (λ stop. (m : Lists) → IsStop (AreJudged m (word (sort_word sort) ∷ seen_all line.now tokens.now)) stop) }
+    ensures stop { IfErr result (λ stop. (m : Lists) → IsFaultOrMemory (AreJudged m (word (sort_word sort) ∷ seen_all line.now tokens.now)) stop) }
 {
     match statement_of_sort(alloc, line, sort, tokens) {
         Ok(written) => Ok(written),
@@ -48,7 +48,7 @@ fn form_of_sort(
 /// The written statement with these tokens.
 fn form_of(alloc: Global, line: &[u8], tokens: &[Token]) -> Result<Written, LineStop>
     ensures found { IfOk result (λ s. HasForm (seen_all line.now tokens.now) (written (statement_in line.now s))) }
-    ensures stop { IfErr result (λ stop. (m : Lists) → IsStop (AreJudged m (seen_all line.now tokens.now)) stop) }
+    ensures stop { IfErr result (λ stop. (m : Lists) → IsFaultOrMemory (AreJudged m (seen_all line.now tokens.now)) stop) }
 {
     match take_word(tokens) {
         None => Err(bad(BadKind::Statement)),
@@ -67,8 +67,8 @@ pub(crate) fn statement_of_tokens(
     tokens: &[Token],
 ) -> Result<Statement, LineStop>
     requires plain { All IsPlain (seen_all line.now tokens.now) }
-    ensures made { IfOk result (IsMade builder.now (seen_all line.now tokens.now)) }
-    ensures stop { IfErr result (IsStop (AreJudged builder.now (seen_all line.now tokens.now))) }
+    ensures made { IfOk result (MakesStatement builder.now (seen_all line.now tokens.now)) }
+    ensures stop { IfErr result (IsFaultOrMemory (AreJudged builder.now (seen_all line.now tokens.now))) }
 {
     let written = form_of(alloc, line, tokens)?;
     match statement_fault(builder, line, &written) {

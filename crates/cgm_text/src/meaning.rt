@@ -2,7 +2,7 @@
 ghost use Rattle.std.specs.Prelude.{◌≡◌, ◌∷◌, map, All, IfOk};
 ghost use Rattle.std.specs.Str.{IsUtf8};
 ghost use Rattle.cgm_print.specs.Written.{formulas_of};
-ghost use Rattle.cgm_text.specs.Meaning.{compared_as, condition_of, declared_words, each_formula_of, element_named, formula_of, is_max, joined_as, linear_of, named_of, number_named, pair_of, paired_as, quantity_of, refinement_named, statement_of, sum_named, term_of, truth_named, weight_of};
+ghost use Rattle.cgm_text.specs.Meaning.{compared_as, condition_of, declared_words, each_formula_of, element_named, formula_of, is_max, joined_as, linear_of, named_of, number_named, pair_of, paired_as, quantity_of, refinement_named, statement_of, sum_named, term_of, truth_named, statement_of_weight};
 ghost use Rattle.cgm_text.specs.Trees.{formula_in, linear_in, term_in, word_in};
 ghost use Rattle.cgm_text.specs.Parsed.{statement_in};
 
@@ -291,7 +291,7 @@ fn condition(what: ConditionWord, name: Truth, formula: Formula) -> Rule
 }
 
 fn weight(what: WeightWord, weighing: Weighing) -> Statement
-    ensures { result ≡ weight_of what weighing }
+    ensures { result ≡ statement_of_weight what weighing }
 {
     match what {
         WeightWord::Reward => Statement::Reward(weighing),

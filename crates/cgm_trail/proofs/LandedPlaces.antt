@@ -3,9 +3,9 @@ use Rattle.std.proofs.Common.{◌≡◌, ℕ, suc, ◌+◌, ◌-◌, ◌^◌, �
 use Rattle.cgm_atom.specs.declared.entries.Hint.{Hint}
 use Rattle.cgm_atom.specs.declared.entries.Hint.TheVariants as hint
 use Rattle.cgm_atom.specs.Placing.{CanBePlaced, placed}
-use Rattle.cgm_trail.specs.Landing.{CanLand, landed}
+use Rattle.cgm_trail.specs.Landing.{CanLand, hint_landed}
 
-pub landed_is_placed : (n : ℕ) (h : Hint) → landed (suc n) h ≡ placed n h
+pub landed_is_placed : (n : ℕ) (h : Hint) → hint_landed (suc n) h ≡ placed n h
 landed_is_placed n (hint.Clause number) = refl
 landed_is_placed n (hint.Row number) = refl
 landed_is_placed n (hint.Entry place) = refl

@@ -9,7 +9,7 @@ use Rattle.cgm_atom.specs.Narrowing.{made_true}
 use Rattle.cgm_trail.specs.declared.changes.Change.{Change}
 use Rattle.cgm_trail.specs.declared.changes.Reason.{Reason}
 use Rattle.cgm_trail.specs.declared.changes.Reason.TheVariants.{Decision, By}
-use Rattle.cgm_trail.specs.Landing.{landed, landed_change, landed_reason}
+use Rattle.cgm_trail.specs.Landing.{hint_landed, landed_change, landed_reason}
 use Rattle.cgm_trail.specs.Steps.{AreReasoned, AreSteps, IsGiven, IsPropagated, IsReason, IsStep, grown}
 use Rattle.cgm_trail.specs.TrailState.{TrailState, box_after, box_of, change_of, cut_to, decided, jumped, tightened}
 use Rattle.cgm_trail.proofs.Cuts.{cut_taken}
@@ -130,12 +130,12 @@ reasoned_by_more Names Names' b [] f h = tt
 reasoned_by_more Names Names' b (c ∷ changes) f h =
     (reason_of_more Names Names' b c.atom c.reason f h.0, reasoned_by_more Names Names' (made_true b c.atom) changes f h.1)
 
-reason_landed : (Names Names' : Hint → Constraint → Type 0) (first : ℕ) (b : Bounds) (a : Atom) (r : Reason) → ((h : Hint) (k : Constraint) → Names h k → Names' (landed first h) k) → IsReason Names b a r → IsReason Names' b a (landed_reason first r)
+reason_landed : (Names Names' : Hint → Constraint → Type 0) (first : ℕ) (b : Bounds) (a : Atom) (r : Reason) → ((h : Hint) (k : Constraint) → Names h k → Names' (hint_landed first h) k) → IsReason Names b a r → IsReason Names' b a (landed_reason first r)
 reason_landed Names Names' first b a Decision f h = tt
 reason_landed Names Names' first b a (By by) f h = (h.0, f by h.0 h.1, h.2)
 
--- the reasons after landing, where a landed hint names what the hint named
-pub reasoned_landed : (Names Names' : Hint → Constraint → Type 0) (first : ℕ) (b : Bounds) (changes : List Change) → ((h : Hint) (k : Constraint) → Names h k → Names' (landed first h) k) → AreReasoned Names b changes → AreReasoned Names' b (map (landed_change first) changes)
+-- the reasons after landing, where a hint_landed hint names what the hint named
+pub reasoned_landed : (Names Names' : Hint → Constraint → Type 0) (first : ℕ) (b : Bounds) (changes : List Change) → ((h : Hint) (k : Constraint) → Names h k → Names' (hint_landed first h) k) → AreReasoned Names b changes → AreReasoned Names' b (map (landed_change first) changes)
 reasoned_landed Names Names' first b [] f h = tt
 reasoned_landed Names Names' first b (c ∷ changes) f h =
     (reason_landed Names Names' first b c.atom c.reason f h.0, reasoned_landed Names Names' first (made_true b c.atom) changes f h.1)

@@ -6,7 +6,7 @@ use Rattle.std.proofs.lemmas.Nat.{pow_pos}
 use Rattle.std.proofs.Math.Nat.{add-mul, mul-le-mul, pow-succ'}
 use Rattle.cgm_atom.specs.declared.constraints.Atom.{Atom}
 use Rattle.cgm_atom.specs.declared.entries.Hint.{Hint}
-use Rattle.cgm_atom.specs.Bounds.{Bounds, IsBoxOf, IsProper}
+use Rattle.cgm_atom.specs.Bounds.{Bounds, IsBoxOf, AreProperBounds}
 use Rattle.cgm_atom.specs.Narrowing.{made_true}
 use Rattle.cgm_atom.specs.Relaxing.{bound_of}
 use Rattle.cgm_trail.specs.declared.changes.Change.{Change}
@@ -92,13 +92,13 @@ pub rank_raised : (b : Bounds) (changes : List Change) (c : Change) → rank b c
 rank_raised b changes c =
     omega (arith, rank-append b changes (c ∷ []), letter_at_least (not (is_decision c)) (slack b - length (letters changes)))
 
-pub rank_limit : (b : Bounds) (changes : List Change) → IsProper b → AreChanges b changes → rank b changes + 2 ≤ 2 ^ suc (slack b)
+pub rank_limit : (b : Bounds) (changes : List Change) → AreProperBounds b → AreChanges b changes → rank b changes + 2 ≤ 2 ^ suc (slack b)
 unfolding rank
 rank_limit b changes proper h =
     rank_from-limit (slack b) (letters changes) (omega (arith, letters_slack b b changes (box_of_itself b proper) h))
 
 -- a tightening in the place of a decision and all that follows it raises the rank
-pub jump_raises : (b : Bounds) (before after : List Change) (d c : Change) → IsProper b → AreChanges b (before ++ d ∷ after) → is_decision d ≡ true → is_decision c ≡ false → rank b (before ++ d ∷ after) + 1 ≤ rank b (before ++ c ∷ [])
+pub jump_raises : (b : Bounds) (before after : List Change) (d c : Change) → AreProperBounds b → AreChanges b (before ++ d ∷ after) → is_decision d ≡ true → is_decision c ≡ false → rank b (before ++ d ∷ after) + 1 ≤ rank b (before ++ c ∷ [])
 jump_raises b before after d c proper h e f =
     let left : ℕ = slack b - length (letters before) in
     let all : length (letters (before ++ d ∷ after)) ≤ slack b = omega (arith, letters_slack b b (before ++ d ∷ after) (box_of_itself b proper) h) in
@@ -109,7 +109,7 @@ jump_raises b before after d c proper h e f =
     omega (arith, rank-append b before (d ∷ after), rank-append b before (c ∷ []), less, more)
 
 -- so does a jump
-pub rank_jumped : (b : Bounds) (changes : List Change) (level : ℕ) (a : Atom) (reason : Reason) → IsProper b → AreChanges b changes → level < level_of changes → is_decision_reason reason ≡ false → rank b changes + 1 ≤ rank b (cut_to level changes ++ change_of (box_after b (cut_to level changes)) a reason ∷ [])
+pub rank_jumped : (b : Bounds) (changes : List Change) (level : ℕ) (a : Atom) (reason : Reason) → AreProperBounds b → AreChanges b changes → level < level_of changes → is_decision_reason reason ≡ false → rank b changes + 1 ≤ rank b (cut_to level changes ++ change_of (box_after b (cut_to level changes)) a reason ∷ [])
 rank_jumped b changes level a reason proper h k e =
     let c : Change = change_of (box_after b (cut_to level changes)) a reason in
     let n : ℕ = length (cut_to level changes) in

@@ -10,7 +10,7 @@ use Rattle.cgm_atom.specs.Placing.{placed}
 use Rattle.cgm_trail.specs.declared.changes.Change.{Change}
 use Rattle.cgm_trail.specs.declared.changes.Reason.{Reason}
 use Rattle.cgm_trail.specs.declared.changes.Reason.TheVariants.{Decision, By}
-use Rattle.cgm_trail.specs.Landing.{landed, landed_change, landed_reason}
+use Rattle.cgm_trail.specs.Landing.{hint_landed, landed_change, landed_reason}
 use Rattle.cgm_trail.specs.PathParts.{IsLed}
 use Rattle.cgm_trail.specs.Rank.{letters, rank}
 use Rattle.cgm_trail.specs.TrailState.{AreChanges, box_after, decision_places, is_decision_reason}
@@ -54,8 +54,8 @@ pub rank_landed : (first : ℕ) (b : Bounds) (changes : List Change) → rank b 
 unfolding rank
 rank_landed first b changes = rw letters_landed refl
 
--- a landed hint is the hint placed after the entries before the first of the lemmas
-pub landed_is_placed : (n : ℕ) (h : Hint) → landed (n + 1) h ≡ placed n h
+-- a hint_landed hint is the hint placed after the entries before the first of the lemmas
+pub landed_is_placed : (n : ℕ) (h : Hint) → hint_landed (n + 1) h ≡ placed n h
 landed_is_placed n (hint.Clause number) = refl
 landed_is_placed n (hint.Row number) = refl
 landed_is_placed n (hint.Entry place) = refl

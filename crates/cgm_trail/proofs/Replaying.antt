@@ -5,7 +5,7 @@ use Rattle.std.proofs.lemmas.Int.{ints}
 use Rattle.std.proofs.lemmas.List.{take_more}
 use Rattle.cgm_atom.specs.declared.constraints.Atom.{Atom}
 use Rattle.cgm_atom.specs.declared.constraints.Var.{Var}
-use Rattle.cgm_atom.specs.Bounds.{Bounds, IsBoxOf, IsProper, lower_of, upper_of}
+use Rattle.cgm_atom.specs.Bounds.{Bounds, IsBoxOf, AreProperBounds, lower_of, upper_of}
 use Rattle.cgm_atom.specs.Laws.{IsSmaller}
 use Rattle.cgm_atom.specs.Narrowing.{is_false_in, is_true_in, made_true}
 use Rattle.cgm_atom.specs.Relaxing.{at_bound_of, relaxed}
@@ -94,7 +94,7 @@ box_after-of limits b (c ∷ changes) place h =
 same_bound : (z : ℤ) → z ≤ℤ z
 same_bound z = omega (arith, ints)
 
-pub box_of_itself : (b : Bounds) → IsProper b → IsBoxOf b b
+pub box_of_itself : (b : Bounds) → AreProperBounds b → IsBoxOf b b
 box_of_itself b h = record {
   lower_count = refl;
   upper_count = h.same_count;

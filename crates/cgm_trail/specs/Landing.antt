@@ -1,4 +1,4 @@
--- Landing: hints to lemmas that had no place yet name the places where these landed, and nothing else changes.
+-- Landing: hints to lemmas that had no place yet name the places where these hint_landed, and nothing else changes.
 use Rattle.std.specs.Prelude.{ℕ, ◌+◌, ◌-◌, ◌^◌, ◌<◌, ◌≤◌, List, map}
 use Rattle.std.specs.List.{All}
 use Rattle.cgm_atom.specs.declared.entries.Hint.{Hint}
@@ -8,17 +8,17 @@ use Rattle.cgm_trail.specs.declared.changes.Reason.{Reason}
 use Rattle.cgm_trail.specs.declared.changes.Reason.TheVariants.{Decision, By}
 use Rattle.cgm_trail.specs.TrailState.{TrailState}
 
--- the first of the lemmas, which count from 1, landed at place `first`
-abbrev pub landed : ℕ → Hint → Hint
-landed first (hint.Clause n) = hint.Clause n
-landed first (hint.Row n) = hint.Row n
-landed first (hint.Entry place) = hint.Entry place
-landed first (hint.Own i) = hint.Entry (first + i - 1)
-landed first (hint.Cut best part) = hint.Cut best part
+-- the first of the lemmas, which count from 1, hint_landed at place `first`
+abbrev pub hint_landed : ℕ → Hint → Hint
+hint_landed first (hint.Clause n) = hint.Clause n
+hint_landed first (hint.Row n) = hint.Row n
+hint_landed first (hint.Entry place) = hint.Entry place
+hint_landed first (hint.Own i) = hint.Entry (first + i - 1)
+hint_landed first (hint.Cut best part) = hint.Cut best part
 
 abbrev pub landed_reason : ℕ → Reason → Reason
 landed_reason first Decision = Decision
-landed_reason first (By h) = By (landed first h)
+landed_reason first (By h) = By (hint_landed first h)
 
 abbrev pub landed_change : ℕ → Change → Change
 landed_change first c = record c { reason = landed_reason first c.reason }

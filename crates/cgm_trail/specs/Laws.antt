@@ -5,16 +5,16 @@ use Rattle.cgm_atom.specs.declared.constraints.Atom.{Atom}
 use Rattle.cgm_atom.specs.declared.entries.Hint.{Hint}
 use Rattle.cgm_atom.specs.Placing.{placed}
 use Rattle.cgm_trail.specs.declared.changes.Change.{Change}
-use Rattle.cgm_trail.specs.Landing.{landed}
+use Rattle.cgm_trail.specs.Landing.{hint_landed}
 use Rattle.cgm_trail.specs.Rank.{IsTrail, rank_of, slack}
 use Rattle.cgm_trail.specs.TrailState.{TrailState, cut_to, decided, jumped, level_of, levels_of, tightened}
 
 -- the changes of the levels, one level after another
-abbrev pub joined : List (List Change) → List Change
-joined levels = flat_map (λ level. level) levels
+abbrev pub levels_joined : List (List Change) → List Change
+levels_joined levels = flat_map (λ level. level) levels
 
 abbrev pub LevelsAreChanges : Type 0
-LevelsAreChanges = (changes : List Change) → joined (levels_of changes) ≡ changes
+LevelsAreChanges = (changes : List Change) → levels_joined (levels_of changes) ≡ changes
 
 abbrev pub LevelsAreCounted : Type 0
 LevelsAreCounted = (changes : List Change) → length (levels_of changes) ≡ level_of changes + 1
@@ -22,7 +22,7 @@ LevelsAreCounted = (changes : List Change) → length (levels_of changes) ≡ le
 -- level 0 is one of them
 abbrev pub CutsKeepLevels : Type 0
 CutsKeepLevels =
-    (level : ℕ) (changes : List Change) → cut_to level changes ≡ joined (take (level + 1) (levels_of changes))
+    (level : ℕ) (changes : List Change) → cut_to level changes ≡ levels_joined (take (level + 1) (levels_of changes))
 
 abbrev pub MovesRaiseRank : Type 0
 MovesRaiseRank =
@@ -44,4 +44,4 @@ MovesAreFew =
 
 -- where n entries stand before the first of the lemmas, landing gives them the places that they have as pending lemmas
 abbrev pub LandedHintsArePlaced : Type 0
-LandedHintsArePlaced = (n : ℕ) (h : Hint) → landed (n + 1) h ≡ placed n h
+LandedHintsArePlaced = (n : ℕ) (h : Hint) → hint_landed (n + 1) h ≡ placed n h

@@ -2,7 +2,7 @@
 use Rattle.std.specs.Prelude.{Bool, true, not, cond, ℕ, ◌+◌, ◌-◌, ◌*◌, ◌^◌, ◌≤◌, ℤ, ◌-ℤ◌, unsigned_abs, List, [], ◌∷◌, replicate}
 use Rattle.std.specs.List.{flat_map}
 use Rattle.cgm_atom.specs.Bounds.{Bounds, IsBoxOf}
-use Rattle.cgm_atom.specs.Limits.{IsWellFormed}
+use Rattle.cgm_atom.specs.Limits.{IsWellFormedProblem}
 use Rattle.cgm_trail.specs.declared.changes.Change.{Change}
 use Rattle.cgm_trail.specs.TrailState.{AreChanges, TrailState, box_of, is_decision}
 
@@ -39,7 +39,7 @@ rank_of t = rank t.problem.bounds t.changes
 
 -- what holds of every trail
 pub record IsTrail (t : TrailState) : Type 0 where
-  pub problem : IsWellFormed t.problem
+  pub problem : IsWellFormedProblem t.problem
   pub changes : AreChanges t.problem.bounds t.changes
   pub place : IsBoxOf t.problem.bounds (box_of t)
   pub counted : t.moves ≤ t.restarts * (2 ^ (slack t.problem.bounds + 1) - 1) + rank_of t

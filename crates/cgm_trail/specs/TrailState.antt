@@ -105,8 +105,8 @@ level_start level changes =
 abbrev pub change_of : Bounds → Atom → Reason → Change
 change_of b a reason = record { atom = a; was = bound_of b a; reason = reason }
 
-abbrev pub started : Instance → TrailState
-started p = record { problem = p; changes = []; moves = 0; restarts = 0 }
+abbrev pub trail_started : Instance → TrailState
+trail_started p = record { problem = p; changes = []; moves = 0; restarts = 0 }
 
 abbrev pub with_change : TrailState → Atom → Reason → TrailState
 with_change t a reason =

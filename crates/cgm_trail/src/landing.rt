@@ -1,6 +1,6 @@
 //! Hints to lemmas that landed on the log.
 ghost use Rattle.std.specs.Prelude.{◌≡◌};
-ghost use Rattle.cgm_trail.specs.Landing.{CanLand, CanReasonLand, landed as landed_hint, landed_change};
+ghost use Rattle.cgm_trail.specs.Landing.{CanLand, CanReasonLand, hint_landed as landed_hint, landed_change};
 
 use crate::changes::{Change, Reason};
 use cgm_atom::Hint;

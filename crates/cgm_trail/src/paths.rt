@@ -1,7 +1,7 @@
 //! The changes of a trail, with the box that they lead to.
 ghost use Rattle.std.specs.Prelude.{◌≡◌, ◌++◌, [], ◌∷◌, ◌<◌, ◌≤◌, length, take, map, IfOk, OnOk, OnErr};
 ghost use Rattle.cgm_atom.specs.Bounds.{IsBoxOf};
-ghost use Rattle.cgm_atom.specs.Limits.{IsWellFormed};
+ghost use Rattle.cgm_atom.specs.Limits.{IsWellFormedProblem};
 ghost use Rattle.cgm_trail.specs.Landing.{CanChangesLand, landed_change};
 ghost use Rattle.cgm_trail.specs.TrailState.{AreChanges, IsOpenIn, box_after, change_of, cut_path, decision_places, level_of, path_with};
 
@@ -50,7 +50,7 @@ impl Path {
     /// What holds of every path, for the proof of a caller.
     pub(crate) fn recall_path(&self)
         ensures changes { AreChanges self.now.problem.bounds self.now.changes }
-        ensures valid { IsWellFormed self.now.problem }
+        ensures valid { IsWellFormedProblem self.now.problem }
         ensures place { IsBoxOf self.now.problem.bounds (box_after self.now.problem.bounds self.now.changes) }
     {
         let _changes = self.changes.len();

@@ -2,7 +2,7 @@
 ghost use Rattle.std.specs.Prelude.{◌≡◌, ◌+◌, ◌^◌, ◌<◌, ◌≤◌, length, slice_get, slice_index, IfOk, IsOk, OnOk, OnErr};
 ghost use Rattle.cgm_trail.specs.Landing.{CanChangesLand, landed_trail};
 ghost use Rattle.cgm_trail.specs.Rank.{IsTrail};
-ghost use Rattle.cgm_trail.specs.TrailState.{IsAtRest, IsOpenIn, box_of, cut_trail, decided, jumped, level_of, level_start, restarted, started, tightened};
+ghost use Rattle.cgm_trail.specs.TrailState.{IsAtRest, IsOpenIn, box_of, cut_trail, decided, jumped, level_of, level_start, restarted, trail_started, tightened};
 
 use crate::changes::Change;
 use crate::paths::Path;
@@ -34,7 +34,7 @@ impl Model for Trail {
 impl Trail {
     /// A trail without changes, over a copy of the problem.
     pub fn new(alloc: Global, problem: &Problem) -> Result<Trail, OutOfMemory>
-        ensures { IfOk result (λ t. t ≡ started problem.now) }
+        ensures { IfOk result (λ t. t ≡ trail_started problem.now) }
     {
         let path = Path::new(alloc, problem)?;
         Ok(Trail {

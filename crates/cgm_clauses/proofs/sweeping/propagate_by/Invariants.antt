@@ -1,11 +1,11 @@
 use Rattle.std.proofs.Common.{◌≡◌, ◌+◌, ◌++◌, ◌^◌, ◌≤◌}
 use Rattle.cgm_trail.specs.Steps.{IsPropagated}
-use Rattle.cgm_clauses.specs.StoreState.{IsNamedIn}
+use Rattle.cgm_clauses.specs.StoreState.{IsPairIn}
 use Rattle.cgm_clauses.proofs.sweeping.propagate_by.Given as goal
 
 abbrev pub invariant-loop-h : goal.invariant-loop-h
 invariant-loop-h l = record {
-  made : IsPropagated (IsNamedIn (l.clauses ++ l.added)) l.fn.t l.trail l.fn.left l.left;
+  made : IsPropagated (IsPairIn (l.clauses ++ l.added)) l.fn.t l.trail l.fn.left l.left;
   problem : l.trail.problem ≡ l.fn.t.problem;
   room : l.trail.moves + l.left ≤ 2 ^ 62;
 }

@@ -14,7 +14,7 @@ use Rattle.cgm_enc_formula.specs.Building.{HasRoomFor, definition_part, with_par
 use Rattle.cgm_enc_formula.specs.Definitions.{Definition, all_of, any_of, same_as}
 use Rattle.cgm_enc_formula.specs.Literals.{opposite, positive}
 use Rattle.cgm_enc_formula.specs.Naming.{Named, naming}
-use Rattle.cgm_enc_formula.specs.Terms.{IsEncodable, IsEncodableFormula, model_variables}
+use Rattle.cgm_enc_formula.specs.Terms.{AreRowTerms, IsEncodableFormula, model_variables}
 use Rattle.cgm_enc_formula.proofs.NamingSteps.{Adds, AreNamed, Fits, count_after, encodable_conjunction, encodable_disjunction, encodable_equivalence, encodable_implication, encodable_name, encodable_negation, first_of_two, front_fits, iff_definition, implies_definition, literal_within, literals_within, naming-And, naming-Iff, naming-Implies, naming-Not, naming-Or, named_more, next_fits, next_known, parts_at, second_at, second_naming, second_of_two, two_added, two_definitions, whole_added, whole_fits}
 use Rattle.cgm_enc_formula.proofs.names.+naming.Goals as goal
 
@@ -133,8 +133,8 @@ name_formula-name_at_most-requires-clause-comparison t c =
     let n = var_count b in
     let f = c.args.formula.now in
     let k : to_z w64 (of_z w64 c.in-AtMost.k) ≡ c.in-AtMost.k = search rules in
-    subst (λ (z : ℤ). IsEncodable m (c.in-AtMost.linear, z)) (sym k)
-    (of_at_most (IsEncodable m) c.in-AtMost.linear c.in-AtMost.k (subst (IsEncodableFormula m) c.in-AtMost.is c.requires.formula).comparisons)
+    subst (λ (z : ℤ). AreRowTerms m (c.in-AtMost.linear, z)) (sym k)
+    (of_at_most (AreRowTerms m) c.in-AtMost.linear c.in-AtMost.k (subst (IsEncodableFormula m) c.in-AtMost.is c.requires.formula).comparisons)
 
 pub name_formula-name_at_least-requires-clause-comparison :
     goal.name_formula-name_at_least-requires-clause-comparison
@@ -144,8 +144,8 @@ name_formula-name_at_least-requires-clause-comparison t c =
     let n = var_count b in
     let f = c.args.formula.now in
     let k : to_z w64 (of_z w64 c.in-AtLeast.k) ≡ c.in-AtLeast.k = search rules in
-    subst (λ (z : ℤ). IsEncodable m (c.in-AtLeast.linear, z)) (sym k)
-    (of_at_least (IsEncodable m) c.in-AtLeast.linear c.in-AtLeast.k (subst (IsEncodableFormula m) c.in-AtLeast.is c.requires.formula).comparisons)
+    subst (λ (z : ℤ). AreRowTerms m (c.in-AtLeast.linear, z)) (sym k)
+    (of_at_least (AreRowTerms m) c.in-AtLeast.linear c.in-AtLeast.k (subst (IsEncodableFormula m) c.in-AtLeast.is c.requires.formula).comparisons)
 
 pub name_formula-name_equal-requires-clause-comparison :
     goal.name_formula-name_equal-requires-clause-comparison
@@ -155,8 +155,8 @@ name_formula-name_equal-requires-clause-comparison t c =
     let n = var_count b in
     let f = c.args.formula.now in
     let k : to_z w64 (of_z w64 c.in-Equal.k) ≡ c.in-Equal.k = search rules in
-    subst (λ (z : ℤ). IsEncodable m (c.in-Equal.linear, z)) (sym k)
-    (of_equality (IsEncodable m) c.in-Equal.linear c.in-Equal.k (subst (IsEncodableFormula m) c.in-Equal.is c.requires.formula).comparisons)
+    subst (λ (z : ℤ). AreRowTerms m (c.in-Equal.linear, z)) (sym k)
+    (of_equality (AreRowTerms m) c.in-Equal.linear c.in-Equal.k (subst (IsEncodableFormula m) c.in-Equal.is c.requires.formula).comparisons)
 
 pub name_formula-define_all-requires-clause-known :
     goal.name_formula-define_all-requires-clause-known

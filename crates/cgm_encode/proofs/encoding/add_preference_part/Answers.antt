@@ -7,7 +7,7 @@ use Rattle.cgm_atom.specs.Adding.{CanTake, with_written}
 use Rattle.cgm_atom.specs.Instance.{Instance, var_count}
 use Rattle.cgm_model.specs.declared.lists.Preference.{Preference}
 use Rattle.cgm_model.specs.Model.{lists_of}
-use Rattle.cgm_model.specs.Statement.{IsPreference}
+use Rattle.cgm_model.specs.Statement.{IsProperPreference}
 use Rattle.cgm_encode.specs.Building.{with_ranges}
 use Rattle.cgm_encode.specs.Problem.{bits, preference_clauses}
 use Rattle.cgm_encode.specs.Stages.{rules_instance}
@@ -58,7 +58,7 @@ pub add_preferences-requires-clause-known : goal.add_preferences-requires-clause
 add_preferences-requires-clause-known c =
     let m = lists_of c.args.model.now in
     let parts = known_parts m c.args.model.now.well_formed in
-    subst (λ (ps : List Preference). All (IsPreference m) ps) (sym c.as_slice-prefers.ensures) (λ k d l. (parts.better k d l, parts.worse k d l))
+    subst (λ (ps : List Preference). All (IsProperPreference m) ps) (sym c.as_slice-prefers.ensures) (λ k d l. (parts.better k d l, parts.worse k d l))
 
 pub returns-clause-added : goal.returns-clause-added
 returns-clause-added c =

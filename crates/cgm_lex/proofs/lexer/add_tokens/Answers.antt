@@ -1,6 +1,6 @@
 use Rattle.std.proofs.Common.{◌+◌, ◌≤◌, ◌-◌, ◌≡◌, length, slice_range, subst, sym, arith}
 use Rattle.std.proofs.lemmas.List.Edits.{length-between}
-use Rattle.cgm_lex.specs.Lexemes.{StandInOrder}
+use Rattle.cgm_lex.specs.Lexemes.{TokensStandInOrder}
 use Rattle.cgm_lex.proofs.Adding.{going_none, going_on, order_wider}
 use Rattle.cgm_lex.proofs.lexer.add_tokens.Goals as goal
 
@@ -33,4 +33,4 @@ returns-clause-order c = λ before.
 pub returns-in-Err-clause-order : goal.returns-in-Err-clause-order
 returns-in-Err-clause-order c = λ before.
     let kept : c.truncate.new.self.items ≡ c.args.tokens.now.items = cc (c.truncate.ensures.items, c.len-count.ensures, c.loop-piece.invariant.front) in
-    order_wider c.args.text.now 0 c.args.start c.args.end c.truncate.new.self.items (subst (λ ts. StandInOrder c.args.text.now 0 c.args.start ts) (sym kept) before) c.requires.order
+    order_wider c.args.text.now 0 c.args.start c.args.end c.truncate.new.self.items (subst (λ ts. TokensStandInOrder c.args.text.now 0 c.args.start ts) (sym kept) before) c.requires.order

@@ -1,12 +1,12 @@
 use Rattle.std.proofs.Common.{refl}
 use Rattle.std.proofs.lemmas.Bool.{false≢true, iff_false}
-use Rattle.cgm_model.specs.Assignment.{IsWithin}
+use Rattle.cgm_model.specs.Assignment.{IsWithinBounds}
 use Rattle.cgm_model.proofs.Places.{first_from_settled, never_both}
 use Rattle.cgm_model.proofs.assignment.are_within.Goals as goal
 
 pub returns-then-not-is_within : goal.returns-then-not-is_within
 returns-then-not-is_within c =
-    let P = IsWithin c.args.values.now in
+    let P = IsWithinBounds c.args.values.now in
     let vars = c.args.vars.now in
     let i = c.loop-place.place in (
       λ e. absurd (false≢true e),

@@ -4,8 +4,8 @@ use Rattle.cgm_model.specs.declared.aids.Aids.{Aids}
 use Rattle.cgm_model.specs.declared.lists.Refinement.{Refinement}
 use Rattle.cgm_model.specs.declared.lists.Thing.TheVariants as things
 use Rattle.cgm_model.specs.Keeping.{AreFor}
-use Rattle.cgm_model.specs.NameTable.{found}
-use Rattle.cgm_model.specs.TargetIndex.{IsIndexOf}
+use Rattle.cgm_model.specs.NameTable.{thing_found}
+use Rattle.cgm_model.specs.TargetIndex.{IsTargetIndexOf}
 use Rattle.cgm_model.proofs.Aiding.{AreFor-graph, AreFor-names, AreFor-declared, AreFor-refinement, after_push, ok_clause}
 use Rattle.cgm_model.proofs.Fresh.{fresh_refinement}
 use Rattle.cgm_model.proofs.builder.push_refinement.Goals as goal
@@ -28,10 +28,10 @@ returns-clause-aids c =
     let linked : Aids = record old { graph = c.link.new.graph } in
     let new : Aids = record linked { names = c.declare.new.names } in
     let h = AreFor-graph m old c.link.new.graph c.link.ensures.kept c.link.ensures.room c.requires.aids in
-    let S : List ℕ → ℕ → Type 0 = λ n k. (q : List ℕ) → found c.declare.new.names q ≡ cond (bytes_eq q n) (Some (things.Refinement k)) (found old.names q) in
+    let S : List ℕ → ℕ → Type 0 = λ n k. (q : List ℕ) → thing_found c.declare.new.names q ≡ cond (bytes_eq q n) (Some (things.Refinement k)) (thing_found old.names q) in
     let set : S r.name (length m.refinements) = subst (λ n. S n (length m.refinements)) c.as_slice-2.ensures (subst (λ (xs : List Refinement). S c.as_slice-2.result.now (length xs)) c.as_slice.ensures c.in_ok-declare.ensures.set) in
     let fresh = fresh_refinement m r c.requires.allowed in
-    let all : IsIndexOf (m.refinements ++ r ∷ []) c.link.new.graph = ok_clause ((rs : List Refinement) → length c.as_slice.result.now ≡ length rs → IsIndexOf rs old.graph → IsIndexOf (rs ++ r ∷ []) c.link.new.graph) c.link.result c.in_ok-map_err.ensures.variant c.link.ensures.linked m.refinements (ap (λ (xs : List Refinement). length xs) c.as_slice.ensures) c.requires.aids.graph in
+    let all : IsTargetIndexOf (m.refinements ++ r ∷ []) c.link.new.graph = ok_clause ((rs : List Refinement) → length c.as_slice.result.now ≡ length rs → IsTargetIndexOf rs old.graph → IsTargetIndexOf (rs ++ r ∷ []) c.link.new.graph) c.link.result c.in_ok-map_err.ensures.variant c.link.ensures.linked m.refinements (ap (λ (xs : List Refinement). length xs) c.as_slice.ensures) c.requires.aids.graph in
     let before = AreFor-declared m r.name (things.Refinement (length m.refinements)) linked c.declare.new.names set fresh h in
     let after = AreFor-refinement m r linked c.declare.new.names set fresh all h in
     after_push (λ (xs : List Refinement). AreFor (record m { refinements = xs }) new) (is_ok c.push.result) m.refinements r c.push.new.self c.push.ensures.items before after

@@ -4,7 +4,7 @@ use Rattle.cgm_model.specs.declared.aids.Aids.{Aids}
 use Rattle.cgm_model.specs.declared.lists.Variable.{Variable}
 use Rattle.cgm_model.specs.declared.lists.Thing.TheVariants as things
 use Rattle.cgm_model.specs.Keeping.{AreFor}
-use Rattle.cgm_model.specs.NameTable.{found}
+use Rattle.cgm_model.specs.NameTable.{thing_found}
 use Rattle.cgm_model.proofs.Aiding.{AreFor-names, AreFor-declared, AreFor-variable, after_push}
 use Rattle.cgm_model.proofs.Fresh.{fresh_variable}
 use Rattle.cgm_model.proofs.builder.push_variable.Goals as goal
@@ -19,7 +19,7 @@ returns-clause-aids c =
     let v = c.args.variable in
     let old : Aids = c.args.aids.now in
     let new : Aids = record old { names = c.declare.new.names } in
-    let S : List ℕ → ℕ → Type 0 = λ n k. (q : List ℕ) → found c.declare.new.names q ≡ cond (bytes_eq q n) (Some (things.Var k)) (found old.names q) in
+    let S : List ℕ → ℕ → Type 0 = λ n k. (q : List ℕ) → thing_found c.declare.new.names q ≡ cond (bytes_eq q n) (Some (things.Var k)) (thing_found old.names q) in
     let set : S v.name (length m.vars) = subst (λ n. S n (length m.vars)) c.as_slice-2.ensures (subst (λ (xs : List Variable). S c.as_slice-2.result.now (length xs)) c.as_slice.ensures c.in_ok-declare.ensures.set) in
     let fresh = fresh_variable m v c.requires.allowed in
     let before = AreFor-declared m v.name (things.Var (length m.vars)) old c.declare.new.names set fresh c.requires.aids in

@@ -1,5 +1,5 @@
 use Rattle.std.proofs.Common.{All, ◌<◌, length, sym, subst}
-use Rattle.cgm_model.specs.Graph.{IsKnown}
+use Rattle.cgm_model.specs.Graph.{HasKnownElements}
 use Rattle.cgm_model.specs.Search.{state, MarksEach}
 use Rattle.cgm_model.proofs.Marking.{Visits-nothing, Visits-other, Visits-sources, item_at}
 use Rattle.cgm_model.proofs.graph.visit_one.Goals as goal
@@ -10,7 +10,7 @@ returns-in-None c =
 
 pub mark_each-requires-clause-known : goal.mark_each-requires-clause-known
 mark_each-requires-clause-known c =
-    let known : IsKnown (length c.args.marks.now) c.in-Some.r.now = item_at (IsKnown (length c.args.marks.now)) c.args.refinements.now c.args.number c.in-Some.r.now c.requires.known (sym c.in-Some.ensures) in
+    let known : HasKnownElements (length c.args.marks.now) c.in-Some.r.now = item_at (HasKnownElements (length c.args.marks.now)) c.args.refinements.now c.args.number c.in-Some.r.now c.requires.known (sym c.in-Some.ensures) in
     subst (λ xs. All (λ x. x < length c.args.marks.now) xs) (sym c.as_slice.ensures) known.sources
 
 pub returns-then-r-element : goal.returns-then-r-element

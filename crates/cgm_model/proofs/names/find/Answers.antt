@@ -1,7 +1,7 @@
 use Rattle.std.proofs.Common.{◌≡◌, sym, ◌∙◌, subst}
 use Rattle.std.proofs.lemmas.Bool.{iff_false}
 use Rattle.std.proofs.lemmas.Option.{none-some, same_Some}
-use Rattle.cgm_model.specs.Named.{IsNamed}
+use Rattle.cgm_model.specs.Named.{IsNamedThing}
 use Rattle.cgm_model.proofs.Lookups.{thing_named-from_named, thing_named-none}
 use Rattle.cgm_model.proofs.names.find.Goals as goal
 
@@ -21,4 +21,4 @@ returns-else-is_named c =
     let name = c.args.name.now in
     sym (thing_named-none m name (λ t h.
     let same : c.in-Some.thing ≡ t = same_Some c.in-Some.thing t (c.in-Some.ensures ∙ c.requires.aids.names name t h) in
-    iff_false c.is_named.ensures c.if-is_named.false (subst (IsNamed m name) (sym same) h)))
+    iff_false c.is_named.ensures c.if-is_named.false (subst (IsNamedThing m name) (sym same) h)))

@@ -3,7 +3,7 @@ use Rattle.cgm_model.specs.declared.lists.Sum.{Sum}
 use Rattle.cgm_model.specs.declared.lists.Statement.TheVariants as statements
 use Rattle.cgm_model.specs.Model.{lists_of}
 use Rattle.cgm_print.specs.Canonical.{statement_lines}
-use Rattle.cgm_print.specs.Printing.{followed}
+use Rattle.cgm_print.specs.Printing.{text_followed}
 use Rattle.cgm_print.proofs.Spaces.{line_more, lines_done}
 use Rattle.cgm_print.proofs.model_printer.sums.Goals as goal
 
@@ -12,7 +12,7 @@ loop-one-preserved c =
     let m = lists_of c.args.model.now in
     let xs = c.args.all.now in
     line_more m (λ (x : Sum). statements.Sum x) xs c.loop-one.one-index c.one-item.result c.loop-one-test.true c.one-item.is
-    (c.args.printer.now.text.items ++ statement_lines m (map (λ (x : Sum). statements.Sum x) xs)) c.loop-one.printer.text.items (followed c.sum.new.printer []) c.end_line.new.self.text.items
+    (c.args.printer.now.text.items ++ statement_lines m (map (λ (x : Sum). statements.Sum x) xs)) c.loop-one.printer.text.items (text_followed c.sum.new.printer []) c.end_line.new.self.text.items
     c.loop-one.invariant c.in_ok-sum.ensures c.in_ok-end_line.ensures
 
 pub returns : goal.returns

@@ -1,5 +1,5 @@
 use Rattle.std.proofs.Common.{◌<◌, length, subst}
-use Rattle.cgm_atom.specs.Bounds.{IsProper}
+use Rattle.cgm_atom.specs.Bounds.{AreProperBounds}
 use Rattle.cgm_split.proofs.Choosing.{IsChoice, choice_known, choice_lowest, choice_unfixed, none_exactly}
 use Rattle.cgm_split.proofs.orders.first_choice.Goals as goal
 
@@ -7,7 +7,7 @@ choice : (c : goal.After-first_of_both) → IsChoice c.args.bounds.now c.args.or
 choice c = record {
   valid = c.objectives.ensures.valid;
   count = c.requires;
-  proper = subst (λ vs. 0 < length vs → IsProper c.args.bounds.now) c.variables-variables.ensures.variables c.is_proper.ensures;
+  proper = subst (λ vs. 0 < length vs → AreProperBounds c.args.bounds.now) c.variables-variables.ensures.variables c.is_proper.ensures;
   first = cc (c.first_of_both.ensures, c.objectives.ensures.objectives, c.variables-variables.ensures.variables);
 }
 

@@ -2,7 +2,7 @@ use Rattle.std.proofs.Common.{◌∷◌, IfErr, sym, ap, ◌∙◌, subst}
 use Rattle.cgm_lex.specs.Lexemes.{word}
 use Rattle.cgm_model.specs.declared.lists.Lists.{Lists}
 use Rattle.cgm_text.specs.Line.{AreJudged}
-use Rattle.cgm_text.specs.Progress.{IsStop}
+use Rattle.cgm_text.specs.Progress.{IsFaultOrMemory}
 use Rattle.cgm_print.specs.Statements.{sort_word}
 use Rattle.cgm_text.specs.Trees.{seen_all}
 use Rattle.cgm_text.proofs.Judging.{word_stop}
@@ -19,4 +19,4 @@ returns-in-Some-sort_of_word-clause-stop c =
     let rest = seen_all line c.in-Some.rest.now in
     let first = sym c.bytes_in.ensures ∙ c.in-Some-sort_of_word.ensures.found in
     let begins = c.in-Some.ensures.found line ∙ ap (λ w. word w ∷ rest) first in
-    subst (λ ts. IfErr c.form_of_sort.result (λ stop. (m : Lists) → IsStop (AreJudged m ts) stop)) (sym begins) c.form_of_sort.ensures.stop
+    subst (λ ts. IfErr c.form_of_sort.result (λ stop. (m : Lists) → IsFaultOrMemory (AreJudged m ts) stop)) (sym begins) c.form_of_sort.ensures.stop

@@ -1,7 +1,7 @@
 use Rattle.std.proofs.Common.{ℕ, Bool, List, Vec, Global, cond, Some, refl, ap, ◌∙◌}
 use Rattle.std.specs.Map.{lookup}
 use Rattle.std.specs.Str.{bytes_eq}
-use Rattle.cgm_evolve.specs.Index.{found}
+use Rattle.cgm_evolve.specs.Index.{pair_found}
 use Rattle.cgm_model.proofs.Entries.{lookup-insert}
 use Rattle.cgm_evolve.proofs.index.Index.set.Goals as goal
 
@@ -10,4 +10,4 @@ returns c = λ q.
     let test = λ (k : Vec ℕ Global). bytes_eq q k.items in
     ap (λ (es : List (Vec ℕ Global × Bool)). lookup test es) c.in_ok-insert.ensures.entries
     ∙ (lookup-insert (λ (x : Vec ℕ Global) (y : Vec ℕ Global). bytes_eq x.items y.items) (λ (k : Vec ℕ Global). k.items) (λ a b. refl) c.args.self.now.entries.entries c.in_ok-key.key c.args.truth q
-    ∙ ap (λ (n : List ℕ). cond (bytes_eq q n) (Some c.args.truth) (found c.args.self.now q)) c.in_ok-key.ensures.items)
+    ∙ ap (λ (n : List ℕ). cond (bytes_eq q n) (Some c.args.truth) (pair_found c.args.self.now q)) c.in_ok-key.ensures.items)

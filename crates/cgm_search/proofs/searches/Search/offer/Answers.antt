@@ -1,7 +1,7 @@
 use Rattle.std.proofs.Common.{List, ap, subst, sym, ◌∙◌}
 use Rattle.std.specs.Prelude.{ℤ}
 use Rattle.cgm_log.specs.declared.batches.Batch.{Batch}
-use Rattle.cgm_log.specs.Landing.{IsProper}
+use Rattle.cgm_log.specs.Landing.{IsProperBatch}
 use Rattle.cgm_search.specs.Knowing.{seen}
 use Rattle.cgm_search.proofs.FixedBoxes.{settled_is_solution}
 use Rattle.cgm_search.proofs.Offers.{candidate_batch, offered_on_ok, proper_candidate, trail_box}
@@ -11,7 +11,7 @@ use Rattle.cgm_trail.specs.TrailState.{box_of}
 pub exchange-requires-clause-proper : goal.exchange-requires-clause-proper
 exchange-requires-clause-proper g c = λ _ _.
     let box = trail_box c.args.self.now c.requires.ready c.recall_trail.ensures in
-    subst (λ (b : Batch). IsProper c.args.self.now.known.problem (seen c.args.self.now.known) b)
+    subst (λ (b : Batch). IsProperBatch c.args.self.now.known.problem (seen c.args.self.now.known) b)
     (sym (c.candidate_batch-batch.ensures ∙ ap (λ (values : List ℤ). candidate_batch c.args.self.now.worker values) (c.in_ok-values.ensures ∙ ap (λ b. b.lower) c.state.ensures.state)))
     (proper_candidate c.args.self.now.known.problem (seen c.args.self.now.known) c.args.self.now.worker (box_of c.args.self.now.trail).lower c.requires.ready.worker
     (settled_is_solution c.args.self.now.known.problem (box_of c.args.self.now.trail) box c.requires.point c.requires.rest))

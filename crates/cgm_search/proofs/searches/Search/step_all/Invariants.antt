@@ -1,5 +1,5 @@
 use Rattle.std.proofs.Common.{◌+◌, ◌-◌, ◌≤◌}
-use Rattle.cgm_search.specs.Searching.{IsKept, IsReady, Sits, need}
+use Rattle.cgm_search.specs.Searching.{IsKeptSearch, IsReady, Sits, need}
 use Rattle.cgm_log.specs.Seats.{KeepsSeat}
 use Rattle.cgm_search.proofs.searches.Search.step_all.Given as goal
 
@@ -9,7 +9,7 @@ invariant-loop-stopped g l = record {
   seat : Sits l.self (g.T.Trader.seat l.trader);
   enough : need l.self ≤ (g.T.Trader.seat l.trader).trades;
   few : need l.self + (g.T.Trader.seat l.fn.trader).trades ≤ need l.fn.self + (g.T.Trader.seat l.trader).trades;
-  kept : IsKept l.fn.self l.self;
+  kept : IsKeptSearch l.fn.self l.self;
   kept_seat : KeepsSeat (need l.fn.self) (g.T.Trader.seat l.fn.trader) (g.T.Trader.seat l.trader);
 }
 

@@ -6,7 +6,8 @@ ghost use Rattle.cgm_atom.specs.Relaxing.{IsNumberWithin, relaxed};
 
 use crate::constraints::{Atom, Var};
 use crate::problems::Problem;
-use std::alloc::{AllocError as OutOfMemory, Global};
+use cgm_base::OutOfMemory;
+use std::alloc::Global;
 use std::marker::Model;
 
 /// A least and a greatest value for each variable of a problem.

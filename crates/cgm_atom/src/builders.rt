@@ -10,7 +10,8 @@ use crate::constraints::{Atom, Clause, Row, Var};
 use crate::limits::{MAX_BOUND, MAX_LEAST, MAX_MEASURE};
 use crate::lists::Seq;
 use crate::problems::Problem;
-use std::alloc::{AllocError as OutOfMemory, Global};
+use cgm_base::OutOfMemory;
+use std::alloc::Global;
 use std::collections::BTreeSet;
 use std::marker::Model;
 

@@ -2,7 +2,8 @@
 ghost use Rattle.std.specs.Prelude.{◌≡◌, IfOk};
 
 use crate::lists::Seq;
-use std::alloc::{AllocError as OutOfMemory, Global};
+use cgm_base::OutOfMemory;
+use std::alloc::Global;
 
 /// A variable, by its number from 0.
 #[derive(Clone, Copy, Debug, PartialEq, Eq, PartialOrd, Ord)]

@@ -5,7 +5,8 @@ ghost use Rattle.cgm_atom.specs.StepWords.{step_words};
 
 use crate::constraints::Clause;
 use crate::lists::Seq;
-use std::alloc::{AllocError as OutOfMemory, Global};
+use cgm_base::OutOfMemory;
+use std::alloc::Global;
 
 /// What one step of a refutation narrows by.
 #[derive(Clone, Copy, Debug, PartialEq, Eq)]

@@ -34,7 +34,6 @@ pub use outcome::Narrowed;
 pub use placing::place_all;
 pub use problems::Problem;
 pub use rows::{greatest_activity, kept_by_term, narrow_by_row};
-pub use std::alloc::AllocError as OutOfMemory;
 use std::marker::{Send, Sync};
 
 // A problem, a box and an entry can be moved to a thread, and a problem can be shared between threads.

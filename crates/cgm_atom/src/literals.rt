@@ -6,7 +6,8 @@ ghost use Rattle.cgm_atom.specs.Literals.{clause, implication, literal as litera
 use crate::builders::ProblemBuilder;
 use crate::constraints::{Atom, Clause, Var};
 use crate::lists::Seq;
-use std::alloc::{AllocError as OutOfMemory, Global};
+use cgm_base::OutOfMemory;
+use std::alloc::Global;
 
 /// That a variable of 0 or 1 is 1: `x >= 1`.
 pub fn literal(x: u32) -> Atom

@@ -6,7 +6,8 @@ ghost use Rattle.cgm_atom.specs.Instance.{var_count};
 ghost use Rattle.cgm_atom.specs.Limits.{AreTermsOf, IsBound, IsClauseOf, IsRowOf, IsWellFormedProblem, max_objectives};
 
 use crate::constraints::{Clause, Row, Var};
-use std::alloc::{AllocError as OutOfMemory, Global};
+use cgm_base::OutOfMemory;
+use std::alloc::Global;
 use std::marker::Model;
 
 /// Variables with bounds, clauses, rows and up to eight objectives, each of which is a variable.

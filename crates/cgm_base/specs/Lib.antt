@@ -1,4 +1,5 @@
 pub mod Order
+pub mod Place
 pub mod Printed
 pub mod Status
 pub mod Words

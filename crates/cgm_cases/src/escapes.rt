@@ -2,12 +2,13 @@
 ghost use Rattle.std.specs.Prelude.{◌≡◌, ◌<◌, ◌≤◌, [], ◌∷◌, ◌++◌, length, IfOk, IfSome, MatchOption, None, Some, option_map};
 ghost use Rattle.cgm_cases.specs.Content.{after_backslash, after_byte, after_x, digit_value, digits_byte, is_plain as may_stand, letter_byte, unescaped};
 
-use std::alloc::{AllocError, Global};
+use cgm_base::OutOfMemory;
+use std::alloc::Global;
 use std::fmt::Write;
 
 /// The bytes that the line spells, or none where it has an escape that isn't one or a byte that wants
 /// an escape.
-pub(crate) fn unescape(alloc: Global, line: &[u8]) -> Result<Option<Vec<u8>>, AllocError>
+pub(crate) fn unescape(alloc: Global, line: &[u8]) -> Result<Option<Vec<u8>>, OutOfMemory>
     ensures { IfOk result (λ found. option_map (λ bytes. bytes.items) found ≡ unescaped line.now) }
 {
     let mut bytes = Vec::new(alloc);
@@ -138,14 +139,14 @@ fn digit(byte: u8) -> Option<u8>
 }
 
 /// Adds the spelling of bytes to a text, as content lines have it.
-pub(crate) fn spell(text: &mut String, bytes: &[u8]) -> Result<(), AllocError> {
+pub(crate) fn spell(text: &mut String, bytes: &[u8]) -> Result<(), OutOfMemory> {
     for byte in bytes {
         spell_byte(text, *byte)?;
     }
     Ok(())
 }
 
-fn spell_byte(text: &mut String, byte: u8) -> Result<(), AllocError> {
+fn spell_byte(text: &mut String, byte: u8) -> Result<(), OutOfMemory> {
     match byte {
         b'\\' => text.push_str("\\\\")?,
         b'\t' => text.push_str("\\t")?,

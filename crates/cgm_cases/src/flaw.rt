@@ -2,7 +2,8 @@
 ghost use Rattle.std.specs.Prelude.{◌≡◌};
 ghost use Rattle.cgm_cases.specs.declared.flaw.Flaw.TheVariants as flaws;
 
-use std::alloc::{AllocError, AllocFailed};
+use cgm_base::OutOfMemory;
+use std::alloc::AllocFailed;
 
 /// What is wrong with a line.
 #[derive(Clone, Copy, Debug, PartialEq, Eq)]
@@ -56,10 +57,10 @@ pub(crate) enum Flaw {
     Memory,
 }
 
-impl From<AllocError> for Flaw {
+impl From<OutOfMemory> for Flaw {
     ghost from_gives = { λ _ flaw. flaw ≡ flaws.Memory };
 
-    fn from(_error: AllocError) -> Flaw {
+    fn from(_error: OutOfMemory) -> Flaw {
         Flaw::Memory
     }
 }

@@ -3,8 +3,9 @@ ghost use Rattle.std.specs.Prelude.{◌≡◌, OnOk};
 ghost use Rattle.std.specs.Option.{option_copied};
 ghost use Rattle.cgm_shelf.specs.Shelf.{OnlyChanges};
 
+use cgm_base::OutOfMemory;
 use cgm_shelf::MemShelf;
-use std::alloc::{AllocError, Global};
+use std::alloc::Global;
 
 /// How many bytes a call of a shelf moves at most where nothing else is said.
 pub(crate) const LARGE: usize = 1 << 30;
@@ -29,7 +30,7 @@ impl Folder {
     }
 
     /// Sets the bytes of a file, whether it was there or not.
-    pub(crate) fn set(&mut self, name: &str, bytes: &[u8]) -> Result<(), AllocError>
+    pub(crate) fn set(&mut self, name: &str, bytes: &[u8]) -> Result<(), OutOfMemory>
         ensures { OnOk result (OnlyChanges (files_of self.old) (files_of self.new) name.now bytes.now) }
     {
         self.names.push(String::from_str(self.alloc, name)?)?;
@@ -44,7 +45,7 @@ impl Folder {
     }
 
     /// Puts all files onto a shelf.
-    pub(crate) fn put_all(&self, shelf: &mut MemShelf) -> Result<(), AllocError> {
+    pub(crate) fn put_all(&self, shelf: &mut MemShelf) -> Result<(), OutOfMemory> {
         for name in &self.names {
             match self.held.bytes(name.as_str()) {
                 Some(bytes) => shelf.put(name.as_str(), bytes)?,
@@ -59,7 +60,7 @@ impl Folder {
         &mut self,
         shelf: &MemShelf,
         names: Vec<String>,
-    ) -> Result<(), AllocError> {
+    ) -> Result<(), OutOfMemory> {
         for name in &names {
             match shelf.bytes(name.as_str()) {
                 Some(bytes) => self.held.put(name.as_str(), bytes)?,
@@ -72,7 +73,7 @@ impl Folder {
 
     /// The names of the files, and those that words may give: each word, and what stands after its
     /// first `=`.
-    pub(crate) fn names_with(&self, words: &[String]) -> Result<Vec<String>, AllocError> {
+    pub(crate) fn names_with(&self, words: &[String]) -> Result<Vec<String>, OutOfMemory> {
         let mut names = Vec::new(self.alloc);
         for name in &self.names {
             names.push(String::from_str(self.alloc, name.as_str())?)?;

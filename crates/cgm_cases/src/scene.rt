@@ -3,11 +3,11 @@ use crate::case::{Case, FailingCall, Piece, Run, Step};
 use crate::comparison::{Ended, first_difference};
 use crate::folder::{Folder, LARGE};
 use crate::telling::{Told, tell_difference};
-use cgm_base::Status;
+use cgm_base::{OutOfMemory, Status};
 use cgm_cli::run_quiet;
 use cgm_shelf::{MemShelf, MemSink};
 use cgm_trail::Work;
-use std::alloc::{AllocError, Global};
+use std::alloc::Global;
 use std::mem;
 
 /// Where a case stands: its files, and what the next run's shelf and sink do.
@@ -22,7 +22,7 @@ struct Scene {
 }
 
 /// Runs a case to its first difference, and tells that one; none where the case agrees.
-pub(crate) fn run_case(alloc: Global, case: &Case) -> Result<Option<Told>, AllocError> {
+pub(crate) fn run_case(alloc: Global, case: &Case) -> Result<Option<Told>, OutOfMemory> {
     let mut scene = Scene::new(alloc);
     for step in &case.steps {
         match scene.take_step(step)? {
@@ -56,7 +56,7 @@ impl Scene {
         }
     }
 
-    fn take_step(&mut self, step: &Step) -> Result<Option<Told>, AllocError> {
+    fn take_step(&mut self, step: &Step) -> Result<Option<Told>, OutOfMemory> {
         match step {
             Step::Run(run) => return self.play(run),
             Step::File(file) => self.folder.set(file.name.as_str(), file.bytes.as_slice())?,
@@ -70,7 +70,7 @@ impl Scene {
     /// Has a call of the next run fail. A shelf in memory numbers starts and appends together, and a
     /// run starts one file at most, before it appends to it. So the start has number 1, there is no
     /// other one that could fail, and append K has number K + 1.
-    fn fail(&mut self, call: FailingCall) -> Result<(), AllocError> {
+    fn fail(&mut self, call: FailingCall) -> Result<(), OutOfMemory> {
         match call {
             FailingCall::Read(number) => self.failing_reads.push(number)?,
             FailingCall::Start(1) => self.failing_writes.push(1)?,
@@ -82,7 +82,7 @@ impl Scene {
     }
 
     /// Runs the program over the folder's files, and takes back what it left.
-    fn play(&mut self, run: &Run) -> Result<Option<Told>, AllocError> {
+    fn play(&mut self, run: &Run) -> Result<Option<Told>, OutOfMemory> {
         let mut shelf = self.next_shelf()?;
         let mut sink = self.next_sink();
         let status = run_program(self.alloc, run.words.as_slice(), &mut shelf, &mut sink);
@@ -93,7 +93,7 @@ impl Scene {
     }
 
     /// The shelf of the next run, with the folder's files.
-    fn next_shelf(&mut self) -> Result<MemShelf, AllocError> {
+    fn next_shelf(&mut self) -> Result<MemShelf, OutOfMemory> {
         let reads = mem::replace(&mut self.failing_reads, Vec::new(self.alloc));
         let writes = mem::replace(&mut self.failing_writes, Vec::new(self.alloc));
         let mut shelf = MemShelf::new(self.alloc, self.piece.size, reads, writes);
@@ -115,7 +115,7 @@ impl Scene {
         sink: &MemSink,
         shelf: &MemShelf,
         names: &[String],
-    ) -> Result<Option<Told>, AllocError> {
+    ) -> Result<Option<Told>, OutOfMemory> {
         let ended = Ended {
             status,
             printed: sink.written(),

@@ -1,7 +1,8 @@
 //! Why the program ends before its cases.
 use crate::flaw::Fault;
+use cgm_base::OutOfMemory;
 use cgm_shelf::{Sink, write_whole};
-use std::alloc::{AllocError, AllocFailed, Global};
+use std::alloc::{AllocFailed, Global};
 
 /// Why the program can't run its cases.
 #[derive(Drop)]
@@ -26,8 +27,8 @@ pub(crate) enum Stop {
     Memory,
 }
 
-impl From<AllocError> for Stop {
-    fn from(_error: AllocError) -> Stop {
+impl From<OutOfMemory> for Stop {
+    fn from(_error: OutOfMemory) -> Stop {
         Stop::Memory
     }
 }
@@ -50,7 +51,7 @@ fn print_front<O: Sink>(out: &mut O, text: &[u8]) {
     let _ = write_whole(out, text);
 }
 
-fn stop_text(alloc: Global, stop: &Stop) -> Result<String, AllocError> {
+fn stop_text(alloc: Global, stop: &Stop) -> Result<String, OutOfMemory> {
     match stop {
         Stop::Usage => String::from_str(
             alloc,
@@ -70,7 +71,7 @@ pub(crate) fn form_text(
     name: &str,
     line: u64,
     fault: Fault,
-) -> Result<String, AllocError> {
+) -> Result<String, OutOfMemory> {
     let words = fault.words();
     format!(in alloc; "{name}: line {line}: {words}\n")
 }

@@ -4,8 +4,9 @@ ghost use Rattle.std.specs.Prelude.{◌≤◌, length};
 use crate::case::{Run, WantedFile};
 use crate::comparison::{Difference, Ended};
 use crate::escapes::spell;
+use cgm_base::OutOfMemory;
 use cgm_shelf::MemShelf;
-use std::alloc::{AllocError, Global};
+use std::alloc::Global;
 use std::fmt::Write;
 
 /// A difference that is told: the line of its directive, and what was wanted and what came.
@@ -21,7 +22,7 @@ pub(crate) fn tell_difference(
     run: &Run,
     ended: &Ended<'_>,
     found: Difference<'_>,
-) -> Result<Told, AllocError> {
+) -> Result<Told, OutOfMemory> {
     match found {
         Difference::Status => tell_status(alloc, run, ended),
         Difference::Output => tell_output(alloc, run, ended),
@@ -30,7 +31,7 @@ pub(crate) fn tell_difference(
     }
 }
 
-fn tell_status(alloc: Global, run: &Run, ended: &Ended<'_>) -> Result<Told, AllocError> {
+fn tell_status(alloc: Global, run: &Run, ended: &Ended<'_>) -> Result<Told, OutOfMemory> {
     let wanted = run.status.code;
     let came = ended.status.code();
     let mut text = format!(in alloc; "status {wanted} is wanted, came {came} with ")?;
@@ -41,14 +42,14 @@ fn tell_status(alloc: Global, run: &Run, ended: &Ended<'_>) -> Result<Told, Allo
     })
 }
 
-fn tell_output(alloc: Global, run: &Run, ended: &Ended<'_>) -> Result<Told, AllocError> {
+fn tell_output(alloc: Global, run: &Run, ended: &Ended<'_>) -> Result<Told, OutOfMemory> {
     Ok(Told {
         line: run.output.line,
         text: tell_bytes(alloc, "output", run.output.bytes.as_slice(), ended.printed)?,
     })
 }
 
-fn tell_file(alloc: Global, file: &WantedFile, shelf: &MemShelf) -> Result<Told, AllocError> {
+fn tell_file(alloc: Global, file: &WantedFile, shelf: &MemShelf) -> Result<Told, OutOfMemory> {
     let name = file.name.as_str();
     let text = match (&file.bytes, shelf.bytes(name)) {
         (Some(wanted), Some(came)) => tell_bytes(alloc, name, wanted.as_slice(), came)?,
@@ -61,13 +62,13 @@ fn tell_file(alloc: Global, file: &WantedFile, shelf: &MemShelf) -> Result<Told,
     })
 }
 
-fn tell_changed(alloc: Global, line: u64, name: &str) -> Result<Told, AllocError> {
+fn tell_changed(alloc: Global, line: u64, name: &str) -> Result<Told, OutOfMemory> {
     let text = format!(in alloc; "{name} was changed, and no word names it")?;
     Ok(Told { line, text })
 }
 
 /// Tells the first line in which two contents differ, as content lines have it.
-fn tell_bytes(alloc: Global, what: &str, wanted: &[u8], came: &[u8]) -> Result<String, AllocError> {
+fn tell_bytes(alloc: Global, what: &str, wanted: &[u8], came: &[u8]) -> Result<String, OutOfMemory> {
     let (same, _) = wanted.split_at(common_length(wanted, came));
     let start = last_line_start(same);
     let number = feeds_in(same).saturating_add(1);
@@ -107,7 +108,7 @@ fn feeds_in(bytes: &[u8]) -> usize {
 }
 
 /// Spells the line that begins at a place; a backslash ends it where it has no line feed.
-fn spell_line(text: &mut String, bytes: &[u8], start: usize) -> Result<(), AllocError>
+fn spell_line(text: &mut String, bytes: &[u8], start: usize) -> Result<(), OutOfMemory>
     requires { start ≤ length bytes.now }
 {
     let (_, rest) = bytes.split_at(start);

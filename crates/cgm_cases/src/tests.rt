@@ -1,8 +1,9 @@
 //! Whole runs of the program over transcripts in memory.
 use crate::ending::Ending;
 use crate::program::run_program;
+use cgm_base::OutOfMemory;
 use cgm_shelf::{MemShelf, MemSink};
-use std::alloc::{AllocError, Global};
+use std::alloc::Global;
 use std::rt::Files;
 use std::test::Fail;
 
@@ -64,7 +65,7 @@ const ROWS: &[(&str, Ending, &str)] = &[
     ("good --no", Ending::Unfit, USAGE),
 ];
 
-fn owned_words(alloc: Global, words: &str) -> Result<Vec<String>, AllocError> {
+fn owned_words(alloc: Global, words: &str) -> Result<Vec<String>, OutOfMemory> {
     let mut owned = Vec::new(alloc);
     for word in words.split(' ') {
         owned.push(String::from_str(alloc, word)?)?;
@@ -73,7 +74,7 @@ fn owned_words(alloc: Global, words: &str) -> Result<Vec<String>, AllocError> {
 }
 
 /// A shelf with the transcripts.
-fn shelf_of(alloc: Global) -> Result<MemShelf, AllocError> {
+fn shelf_of(alloc: Global) -> Result<MemShelf, OutOfMemory> {
     let mut shelf = MemShelf::new(alloc, 4096, Vec::new(alloc), Vec::new(alloc));
     for (name, text) in TEXTS {
         shelf.put(name, text.as_bytes())?;
@@ -86,7 +87,7 @@ fn ends_with<R: Files + AllocGlobal + Clone + Drop>(
     rt: &R,
     words: &str,
     printed: &str,
-) -> Result<(Ending, bool), AllocError> {
+) -> Result<(Ending, bool), OutOfMemory> {
     let alloc = rt.alloc();
     let mut shelf = shelf_of(alloc)?;
     let mut sink = MemSink::new(alloc, 4096, Vec::new(alloc));

@@ -8,7 +8,8 @@ use crate::cuts::{first_word, is, next_word};
 use crate::numbers::{number_of, number_within};
 use crate::word_lists::{atoms_of, hints_of, values_of};
 use cgm_atom::{Clause, Entry, MAX_WORKERS, Seq};
-use std::alloc::{AllocError as OutOfMemory, Global};
+use cgm_base::OutOfMemory;
+use std::alloc::Global;
 
 /// The greatest number of a worker.
 const LAST_WORKER: u32 = MAX_WORKERS - 1;

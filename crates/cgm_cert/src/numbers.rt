@@ -3,9 +3,9 @@ ghost use Rattle.std.specs.Prelude.{◌≡◌, ◌≢◌, ◌<◌, ◌≤◌, �
 ghost use Rattle.std.specs.Fmt.{signed_decimal};
 
 use crate::cuts::is;
+use cgm_base::OutOfMemory;
 use fast_float::{parse_i64, parse_u64};
 use itoa::Buffer;
-use std::alloc::AllocError as OutOfMemory;
 
 /// The number that the word spells.
 pub(crate) fn number_of(word: &[u8]) -> Option<u64>

@@ -10,7 +10,8 @@ ghost use Rattle.cgm_cert.specs.Spelling.{hint_word, entry_line};
 use crate::numbers::{push_number, push_value};
 use crate::words::{push_atom, push_hint};
 use cgm_atom::{Atom, Entry, Hint};
-use std::alloc::{AllocError as OutOfMemory, Global};
+use cgm_base::OutOfMemory;
+use std::alloc::Global;
 
 /// Adds each value, after a space.
 fn push_values(out: &mut Vec<u8>, values: &[i64]) -> Result<(), OutOfMemory>

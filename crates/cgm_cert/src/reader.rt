@@ -11,7 +11,8 @@ use crate::cuts::{cut, is};
 use crate::entry_reader::entry_of;
 use crate::stop::{CertKind, CertStop};
 use cgm_atom::Entry;
-use std::alloc::{AllocError as OutOfMemory, Global};
+use cgm_base::OutOfMemory;
+use std::alloc::Global;
 
 /// Takes the first line off a text, without its line feed; none where the text has no line feed.
 fn split_line(text: &[u8]) -> Option<(&[u8], &[u8])>

@@ -13,7 +13,8 @@ ghost use Rattle.cgm_cert.specs.Spelling.{hint_word, further_words};
 use crate::cuts::{is, next_word};
 use crate::words::{atom_of, hint_of, value_of};
 use cgm_atom::{Atom, Hint};
-use std::alloc::{AllocError as OutOfMemory, Global};
+use cgm_base::OutOfMemory;
+use std::alloc::Global;
 
 /// The values that the words of `rest` spell.
 pub(crate) fn values_of(alloc: Global, rest: &[u8]) -> Result<Option<Vec<i64>>, OutOfMemory>

@@ -12,7 +12,7 @@ ghost use Rattle.cgm_cert.specs.Spelling.{hint_word};
 use crate::cuts::cut;
 use crate::numbers::{number_of, number_within, push_number, push_value, value_within};
 use cgm_atom::{Atom, Hint, MAX_ATOM_NUMBER, MAX_BOUND, Var};
-use std::alloc::AllocError as OutOfMemory;
+use cgm_base::OutOfMemory;
 
 /// The value that the word spells.
 pub(crate) fn value_of(word: &[u8]) -> Option<i64>

@@ -3,7 +3,8 @@ ghost use Rattle.std.specs.Prelude.{◌≡◌, option_copied, IfOk};
 ghost use Rattle.cgm_check.specs.Verdicts.{IsEndOf};
 
 use crate::Verdict;
-use cgm_atom::{OutOfMemory, Seq};
+use cgm_atom::Seq;
+use cgm_base::OutOfMemory;
 use cgm_step::IndexedLog;
 use std::alloc::Global;
 

@@ -6,7 +6,8 @@ ghost use Rattle.cgm_check.specs.Verdicts.{IsVerdictOf};
 
 mod ending;
 
-use cgm_atom::{BadStep, BoxState, Entry, OutOfMemory, Problem, Seq};
+use cgm_atom::{BadStep, BoxState, Entry, Problem, Seq};
+use cgm_base::OutOfMemory;
 use cgm_step::{IndexedLog, LogIndex, accepts_next};
 use ending::conclude;
 use std::alloc::Global;

@@ -7,7 +7,6 @@ mod standing;
 mod stores;
 mod sweeping;
 
-pub use cgm_trail::OutOfMemory;
 use std::marker::Send;
 pub use stores::ClauseStore;
 

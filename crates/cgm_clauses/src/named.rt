@@ -3,7 +3,8 @@ ghost use Rattle.std.specs.Prelude.{◌≡◌, ◌<◌, ◌≤◌, ◌≢◌, le
 ghost use Rattle.std.specs.List.{All, AllWithin, HoldsAt};
 ghost use Rattle.cgm_clauses.specs.StoreState.{CanNamesLand, IsForgotten, landed_named, numbered};
 
-use cgm_atom::{Clause, Hint, OutOfMemory, Problem};
+use cgm_atom::{Clause, Hint, Problem};
+use cgm_base::OutOfMemory;
 use cgm_trail::landed;
 use std::alloc::Global;
 

@@ -8,7 +8,8 @@ ghost use Rattle.cgm_clauses.specs.Sweeping.{IsSwept};
 
 use crate::named::{Named, clauses_of, forget_first, land_all};
 use crate::sweeping::propagate_by;
-use cgm_atom::{Clause, Hint, OutOfMemory, Problem};
+use cgm_atom::{Clause, Hint, Problem};
+use cgm_base::OutOfMemory;
 use cgm_trail::{Swept, Trail};
 use std::alloc::Global;
 use std::marker::Model;

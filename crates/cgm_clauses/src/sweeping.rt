@@ -10,7 +10,7 @@ ghost use Rattle.cgm_clauses.specs.Sweeping.{IsOneSweep, IsSwept};
 
 use crate::named::Named;
 use crate::standing::{Standing, standing_in};
-use cgm_atom::OutOfMemory;
+use cgm_base::OutOfMemory;
 use cgm_trail::{Swept, Trail, step};
 
 /// Sweeps over both lists until nothing is made.

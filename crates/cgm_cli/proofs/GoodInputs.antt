@@ -7,7 +7,7 @@ use Rattle.cgm_shelf.specs.Faults.{Rose}
 use Rattle.cgm_shelf.specs.Shelf.{CantRead, Files, IsMissing, ShelfState, WhereTold}
 use Rattle.cgm_shelf.specs.Sink.{SinkState}
 use Rattle.cgm_model.specs.declared.lists.Lists.{Lists}
-use Rattle.cgm_model.specs.Place.{EachFrom, FirstFailsFrom}
+use Rattle.cgm_base.specs.Place.{EachFrom, FirstFailsFrom}
 use Rattle.cgm_lex.specs.declared.stops.LineFault.TheVariants as line_faults
 use Rattle.cgm_text.specs.Text.{IsTextOf}
 use Rattle.cgm_text.proofs.Outcomes as models

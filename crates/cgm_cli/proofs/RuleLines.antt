@@ -10,7 +10,7 @@ use Rattle.cgm_model.specs.declared.lists.Lists.{Lists}
 use Rattle.cgm_model.specs.declared.lists.Statement.{Statement}
 use Rattle.cgm_model.specs.declared.lists.Statement.TheVariants as statements
 use Rattle.cgm_model.specs.Lists.{no_lists, added}
-use Rattle.cgm_model.specs.Place.{FirstFailsFrom, FirstFails}
+use Rattle.cgm_base.specs.Place.{FirstFailsFrom, FirstFails}
 use Rattle.cgm_text.specs.Text.{LineStatement, all_added, model_of, rule_line, rule_lines, IsReading}
 use Rattle.cgm_shelf.specs.Sink.{SinkState}
 use Rattle.cgm_cli.specs.Effects.{TellsOrLacksMemory}

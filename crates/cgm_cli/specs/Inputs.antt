@@ -9,7 +9,7 @@ use Rattle.cgm_base.specs.Words.{limit_number, most_bytes}
 use Rattle.cgm_shelf.specs.Shelf.{CantRead, Files, WhereTold}
 use Rattle.cgm_shelf.specs.Sink.{SinkState}
 use Rattle.cgm_model.specs.declared.lists.Lists.{Lists}
-use Rattle.cgm_model.specs.Place.{FirstFails}
+use Rattle.cgm_base.specs.Place.{FirstFails}
 use Rattle.cgm_lex.specs.declared.stops.LineFault.TheVariants as line_faults
 use Rattle.cgm_text.specs.Text.{IsReading, IsTextOf, HasFault}
 use Rattle.cgm_evolve.specs.Pairs.{Pair}

@@ -10,9 +10,10 @@ use crate::numbers::number_or;
 use crate::options::{
     check_options, encode_options, given, show_options, solve_options, text_given,
 };
+use cgm_base::OutOfMemory;
 use cgm_search::{MAX_BUDGET, MAX_RESTARTS, Plan};
 use clap::ArgMatches;
-use std::alloc::{AllocError, Global};
+use std::alloc::Global;
 
 /// The most workers.
 const MAX_WORKERS: u64 = 16;
@@ -95,7 +96,7 @@ impl<'w> Command<'w> {
 pub(crate) fn command_in<'w>(
     alloc: Global,
     words: &'w [String],
-) -> Result<Option<Command<'w>>, AllocError>
+) -> Result<Option<Command<'w>>, OutOfMemory>
     ensures command { IfOk result
         (λ found. option_map told_by found ≡ command_line (map string_bytes words.now)) }
     ensures plan { IfOk result (λ found. IfSome found HasPlan) }
@@ -111,7 +112,7 @@ fn command_of<'w>(
     alloc: Global,
     word: &str,
     words: &'w [String],
-) -> Result<Option<Command<'w>>, AllocError>
+) -> Result<Option<Command<'w>>, OutOfMemory>
     ensures command { IfOk result
         (λ found. option_map told_by found ≡ command_of word.now (map string_bytes words.now)) }
     ensures plan { IfOk result (λ found. IfSome found HasPlan) }
@@ -129,7 +130,7 @@ fn command_of<'w>(
     }
 }
 
-fn solve_in<'w>(alloc: Global, words: &'w [String]) -> Result<Option<Command<'w>>, AllocError>
+fn solve_in<'w>(alloc: Global, words: &'w [String]) -> Result<Option<Command<'w>>, OutOfMemory>
     ensures command { IfOk result (λ found. option_map told_by found
         ≡ option_and_then solve_with (given solve_options (map string_bytes words.now))) }
     ensures plan { IfOk result (λ found. IfSome found HasPlan) }
@@ -195,7 +196,7 @@ fn plan_given(matches: &ArgMatches<'_>) -> Option<Plan>
     })
 }
 
-fn check_in<'w>(alloc: Global, words: &'w [String]) -> Result<Option<Command<'w>>, AllocError>
+fn check_in<'w>(alloc: Global, words: &'w [String]) -> Result<Option<Command<'w>>, OutOfMemory>
     ensures command { IfOk result (λ found. option_map told_by found
         ≡ option_and_then check_with (given check_options (map string_bytes words.now))) }
     ensures plan { IfOk result (λ found. IfSome found HasPlan) }
@@ -220,7 +221,7 @@ fn check_with<'w>(matches: &ArgMatches<'w>) -> Option<Command<'w>>
     }))
 }
 
-fn show_in<'w>(alloc: Global, words: &'w [String]) -> Result<Option<Command<'w>>, AllocError>
+fn show_in<'w>(alloc: Global, words: &'w [String]) -> Result<Option<Command<'w>>, OutOfMemory>
     ensures command { IfOk result (λ found. option_map told_by found
         ≡ option_and_then show_with (given show_options (map string_bytes words.now))) }
     ensures plan { IfOk result (λ found. IfSome found HasPlan) }
@@ -241,7 +242,7 @@ fn show_with<'w>(matches: &ArgMatches<'w>) -> Option<Command<'w>>
     }
 }
 
-fn encode_in<'w>(alloc: Global, words: &'w [String]) -> Result<Option<Command<'w>>, AllocError>
+fn encode_in<'w>(alloc: Global, words: &'w [String]) -> Result<Option<Command<'w>>, OutOfMemory>
     ensures command { IfOk result (λ found. option_map told_by found
         ≡ option_and_then encode_with (given encode_options (map string_bytes words.now))) }
     ensures plan { IfOk result (λ found. IfSome found HasPlan) }

@@ -4,7 +4,7 @@ ghost use Rattle.cgm_enc_formula.specs.Measures.{IsWithinMeasure};
 ghost use Rattle.cgm_encode.specs.Encoding.{IsEncodable, IsEncodingOf, number_box};
 ghost use Rattle.cgm_encode.specs.ProblemText.{problem_text};
 ghost use Rattle.cgm_model.specs.Model.{lists_of};
-ghost use Rattle.cgm_model.specs.Place.{FirstFails};
+ghost use Rattle.cgm_base.specs.Place.{FirstFails};
 ghost use Rattle.cgm_cli.specs.Inputs.{HasNoProblem};
 ghost use Rattle.cgm_cli.specs.Outcome.{HasTextOutcome};
 

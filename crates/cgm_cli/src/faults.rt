@@ -7,10 +7,10 @@ ghost use Rattle.cgm_cli.specs.Placed.{placed_line, placed_status};
 
 use crate::print::{tell, tell_memory};
 use cgm_atom::BadStep;
-use cgm_base::{BadKind, Limit, Status};
+use cgm_base::{BadKind, Limit, OutOfMemory, Status};
 use cgm_cert::CertKind;
 use cgm_shelf::Sink;
-use std::alloc::{AllocError, Global};
+use std::alloc::Global;
 
 /// A fault whose line tells what is faulty and where.
 #[derive(Clone, Copy)]
@@ -40,7 +40,7 @@ impl PlacedFault {
         }
     }
 
-    fn line(self, alloc: Global) -> Result<String, AllocError>
+    fn line(self, alloc: Global) -> Result<String, OutOfMemory>
         ensures { IfOk result (λ line. string_bytes line ≡ placed_line self) }
     {
         match self {
@@ -53,21 +53,21 @@ impl PlacedFault {
     }
 }
 
-fn text_line(alloc: Global, line: u32, kind: BadKind) -> Result<String, AllocError>
+fn text_line(alloc: Global, line: u32, kind: BadKind) -> Result<String, OutOfMemory>
     ensures { IfOk result (λ told. string_bytes told ≡ text_fault line kind) }
 {
     let word = kind.word();
     format!(in alloc; "fault text {line} {word}\n")
 }
 
-fn earlier_line(alloc: Global, line: u32, kind: BadKind) -> Result<String, AllocError>
+fn earlier_line(alloc: Global, line: u32, kind: BadKind) -> Result<String, OutOfMemory>
     ensures { IfOk result (λ told. string_bytes told ≡ earlier_fault line kind) }
 {
     let word = kind.word();
     format!(in alloc; "fault earlier {line} {word}\n")
 }
 
-fn limit_line(alloc: Global, limit: Limit) -> Result<String, AllocError>
+fn limit_line(alloc: Global, limit: Limit) -> Result<String, OutOfMemory>
     ensures { IfOk result (λ told. string_bytes told ≡ limit_fault limit) }
 {
     let Limit { which, line, .. } = limit;
@@ -76,14 +76,14 @@ fn limit_line(alloc: Global, limit: Limit) -> Result<String, AllocError>
     format!(in alloc; "fault limit {word} {number} {line}\n")
 }
 
-fn certificate_line(alloc: Global, line: u64, kind: CertKind) -> Result<String, AllocError>
+fn certificate_line(alloc: Global, line: u64, kind: CertKind) -> Result<String, OutOfMemory>
     ensures { IfOk result (λ told. string_bytes told ≡ certificate_fault line kind) }
 {
     let word = kind.word();
     format!(in alloc; "fault certificate line {line} {word}\n")
 }
 
-fn entry_line(alloc: Global, number: u64, why: BadStep) -> Result<String, AllocError>
+fn entry_line(alloc: Global, number: u64, why: BadStep) -> Result<String, OutOfMemory>
     ensures { IfOk result (λ told. string_bytes told ≡ entry_fault number why) }
 {
     let words = why.words(alloc)?;

@@ -5,16 +5,17 @@ ghost use Rattle.clap.specs.Words.{app_of, first_of, found_of, is_simple_and_fre
 ghost use Rattle.cgm_cli.specs.Adding.{with_numbers};
 ghost use Rattle.cgm_cli.specs.CommandLine.{check_options, encode_options, given, option, options_of, positional, show_options, solve_options};
 
+use cgm_base::OutOfMemory;
 use clap::error::ErrorKind;
 use clap::{Arg, ArgMatches, Command, Error};
-use std::alloc::{AllocError, Global};
+use std::alloc::Global;
 
 /// The options with one more word that is wanted in its place.
 fn with_positional<'w>(
     alloc: Global,
     options: Command<'w>,
     id: &'w str,
-) -> Result<Command<'w>, AllocError>
+) -> Result<Command<'w>, OutOfMemory>
     ensures { IfOk result
         (λ more. app_of more ≡ with_rule (app_of options.entry) (positional id.now)) }
 {
@@ -26,7 +27,7 @@ fn with_option<'w>(
     alloc: Global,
     options: Command<'w>,
     name: &'w str,
-) -> Result<Command<'w>, AllocError>
+) -> Result<Command<'w>, OutOfMemory>
     ensures { IfOk result
         (λ more. app_of more ≡ with_rule (app_of options.entry) (option name.now)) }
 {
@@ -34,7 +35,7 @@ fn with_option<'w>(
 }
 
 /// The options with `--workers=N --budget=N --restarts=N --seed=N`.
-fn with_numbers<'w>(alloc: Global, options: Command<'w>) -> Result<Command<'w>, AllocError>
+fn with_numbers<'w>(alloc: Global, options: Command<'w>) -> Result<Command<'w>, OutOfMemory>
     ensures { IfOk result (λ more. app_of more ≡ with_numbers (app_of options.entry)) }
 {
     let with_workers = with_option(alloc, options, "workers")?;
@@ -44,7 +45,7 @@ fn with_numbers<'w>(alloc: Global, options: Command<'w>) -> Result<Command<'w>, 
 }
 
 /// `WORD MODEL`, with which each command begins.
-fn model_options<'w>(alloc: Global, word: &'w str) -> Result<Command<'w>, AllocError>
+fn model_options<'w>(alloc: Global, word: &'w str) -> Result<Command<'w>, OutOfMemory>
     ensures { IfOk result
         (λ options. app_of options ≡ options_of word.now (codes "model" ∷ []) []) }
 {
@@ -53,7 +54,7 @@ fn model_options<'w>(alloc: Global, word: &'w str) -> Result<Command<'w>, AllocE
 }
 
 /// `solve MODEL --earlier=FILE --cert=FILE --workers=N --budget=N --restarts=N --seed=N`
-pub(crate) fn solve_options<'w>(alloc: Global) -> Result<Command<'w>, AllocError>
+pub(crate) fn solve_options<'w>(alloc: Global) -> Result<Command<'w>, OutOfMemory>
     ensures { IfOk result (λ options. app_of options ≡ solve_options) }
 {
     let with_model = model_options(alloc, "solve")?;
@@ -63,7 +64,7 @@ pub(crate) fn solve_options<'w>(alloc: Global) -> Result<Command<'w>, AllocError
 }
 
 /// `check MODEL CERT --earlier=FILE`
-pub(crate) fn check_options<'w>(alloc: Global) -> Result<Command<'w>, AllocError>
+pub(crate) fn check_options<'w>(alloc: Global) -> Result<Command<'w>, OutOfMemory>
     ensures { IfOk result (λ options. app_of options ≡ check_options) }
 {
     let with_model = model_options(alloc, "check")?;
@@ -72,14 +73,14 @@ pub(crate) fn check_options<'w>(alloc: Global) -> Result<Command<'w>, AllocError
 }
 
 /// `show MODEL`
-pub(crate) fn show_options<'w>(alloc: Global) -> Result<Command<'w>, AllocError>
+pub(crate) fn show_options<'w>(alloc: Global) -> Result<Command<'w>, OutOfMemory>
     ensures { IfOk result (λ options. app_of options ≡ show_options) }
 {
     model_options(alloc, "show")
 }
 
 /// `encode MODEL --earlier=FILE`
-pub(crate) fn encode_options<'w>(alloc: Global) -> Result<Command<'w>, AllocError>
+pub(crate) fn encode_options<'w>(alloc: Global) -> Result<Command<'w>, OutOfMemory>
     ensures { IfOk result (λ options. app_of options ≡ encode_options) }
 {
     let with_model = model_options(alloc, "encode")?;
@@ -91,7 +92,7 @@ pub(crate) fn encode_options<'w>(alloc: Global) -> Result<Command<'w>, AllocErro
 pub(crate) fn given<'w>(
     options: Command<'w>,
     words: &'w [String],
-) -> Result<Option<ArgMatches<'w>>, AllocError>
+) -> Result<Option<ArgMatches<'w>>, OutOfMemory>
     requires { is_simple_and_free (app_of options) ≡ true }
     ensures { IfOk result (λ found. option_map (λ matches. rows_of (found_of matches)) found
         ≡ given (app_of options.entry) (map string_bytes words.now)) }
@@ -99,7 +100,7 @@ pub(crate) fn given<'w>(
     match options.try_get_matches_from(words) {
         Ok(matches) => Ok(Some(matches)),
         Err(error) => match error.kind() {
-            ErrorKind::OutOfMemory => Err(AllocError),
+            ErrorKind::OutOfMemory => Err(OutOfMemory),
             _ => Ok(None),
         },
     }

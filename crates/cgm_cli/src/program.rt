@@ -13,10 +13,10 @@ ghost use Rattle.cgm_cli.specs.Outcome.{Runs};
 
 use crate::print::tell_memory;
 use crate::run::run_quiet;
-use cgm_base::Status;
+use cgm_base::{OutOfMemory, Status};
 use cgm_shelf::{Shelf, Sink};
 use cgm_trail::Work;
-use std::alloc::{AllocError, Global};
+use std::alloc::Global;
 use std::env::Args;
 use std::io;
 use std::process::ExitCode;
@@ -50,7 +50,7 @@ pub fn run_program<F: Shelf, O: Sink>(
 /// The words after the program's own name, all in their order. Arguments that can't be had because
 /// they aren't text give no words, which are no command line. Want of memory for the arguments stays
 /// want of memory.
-pub fn words_after_name(alloc: Global, args: io::Result<Args>) -> Result<Vec<String>, AllocError>
+pub fn words_after_name(alloc: Global, args: io::Result<Args>) -> Result<Vec<String>, OutOfMemory>
     ensures words { IfOk args (λ args. IfOk result (λ words. words.items ≡ drop 1 (into_iter_items
         args))) }
     ensures none { IfErr args (λ _. IfOk result (λ words. words.items ≡ [])) }
@@ -63,7 +63,7 @@ pub fn words_after_name(alloc: Global, args: io::Result<Args>) -> Result<Vec<Str
 }
 
 /// All arguments but the first.
-fn rest_of(alloc: Global, mut args: Args) -> Result<Vec<String>, AllocError>
+fn rest_of(alloc: Global, mut args: Args) -> Result<Vec<String>, OutOfMemory>
     ensures { IfOk result (λ words. words.items ≡ drop 1 (into_iter_items args)) }
 {
     let _program_name = args.next();
@@ -75,12 +75,12 @@ fn rest_of(alloc: Global, mut args: Args) -> Result<Vec<String>, AllocError>
 }
 
 /// No words, where the arguments were refused for another reason than want of memory.
-fn no_words(alloc: Global, kind: io::ErrorKind) -> Result<Vec<String>, AllocError>
+fn no_words(alloc: Global, kind: io::ErrorKind) -> Result<Vec<String>, OutOfMemory>
     ensures none { IfOk result (λ words. words.items ≡ []) }
     ensures memory { IsErr result ↔ (kind ≡ kinds.OutOfMemory) }
 {
     match kind {
-        io::ErrorKind::OutOfMemory => Err(AllocError),
+        io::ErrorKind::OutOfMemory => Err(OutOfMemory),
         _ => Ok(Vec::new(alloc)),
     }
 }

@@ -15,7 +15,7 @@ use Rattle.cgm_formula.specs.Nodes.{comparisons}
 use Rattle.cgm_model.specs.declared.lists.Lists.{Lists}
 use Rattle.cgm_model.specs.declared.lists.Rule.{Rule}
 use Rattle.cgm_model.specs.Formulas.{formula_of, has_distinct_terms, has_small_terms, is_small}
-use Rattle.cgm_model.specs.Place.{Each, EachFrom}
+use Rattle.cgm_base.specs.Place.{Each, EachFrom}
 use Rattle.cgm_model.specs.WellFormed.{IsRule, IsWellFormedModel}
 use Rattle.cgm_enc_formula.specs.Building.{HasRoomFor, rules_part}
 use Rattle.cgm_enc_formula.specs.Measures.{HasKnownNumbers, IsWithinMeasure, comparison_measure, has_small_measures}

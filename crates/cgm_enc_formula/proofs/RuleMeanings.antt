@@ -21,7 +21,7 @@ use Rattle.cgm_model.specs.declared.lists.Lists.{Lists}
 use Rattle.cgm_model.specs.declared.lists.Rule.{Rule}
 use Rattle.cgm_model.specs.declared.lists.Rule.TheVariants as rules
 use Rattle.cgm_model.specs.Formulas.{IsKnownNumber, IsKnownTruth, IsProperRule, formula_of}
-use Rattle.cgm_model.specs.Place.{Each, EachFrom}
+use Rattle.cgm_base.specs.Place.{Each, EachFrom}
 use Rattle.cgm_model.specs.Realization.{KeepsRule}
 use Rattle.cgm_model.specs.TruthVariables.{StandFor, variable_of}
 use Rattle.cgm_model.specs.WellFormed.{IsWellFormedModel}

@@ -9,7 +9,7 @@ use Rattle.cgm_base.specs.Words.{limit_number}
 use Rattle.cgm_formula.specs.declared.assignment.Assignment.{Assignment}
 use Rattle.cgm_formula.specs.declared.formula.Number.TheVariants as number
 use Rattle.cgm_model.specs.declared.lists.Lists.{Lists}
-use Rattle.cgm_model.specs.Place.{Each}
+use Rattle.cgm_base.specs.Place.{Each}
 use Rattle.cgm_model.specs.Realization.{KeepsRule}
 use Rattle.cgm_model.specs.TruthVariables.{StandFor}
 use Rattle.cgm_model.specs.WellFormed.{IsWellFormedModel}

@@ -10,7 +10,7 @@ use Rattle.cgm_formula.specs.Nodes.{comparisons}
 use Rattle.cgm_model.specs.declared.lists.Lists.{Lists}
 use Rattle.cgm_model.specs.declared.lists.Rule.{Rule}
 use Rattle.cgm_model.specs.Formulas.{IsKnownNumber, formula_of}
-use Rattle.cgm_model.specs.Place.{Each, FirstFails}
+use Rattle.cgm_base.specs.Place.{Each, FirstFails}
 use Rattle.cgm_enc_formula.specs.declared.stop.EncodeStop.{EncodeStop}
 use Rattle.cgm_enc_formula.specs.declared.stop.EncodeStop.TheVariants as stops
 use Rattle.cgm_enc_formula.specs.Building.{rules_part, with_part}

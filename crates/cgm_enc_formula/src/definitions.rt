@@ -11,7 +11,8 @@ ghost use Rattle.cgm_enc_formula.specs.Literals.{opposite as opposite_of, positi
 use crate::literals::{Literal, atom, opposite, positive};
 use crate::terms::negative;
 use cgm_atom::literals::{add_clause, literal, negated};
-use cgm_atom::{Atom, BuildStop, OutOfMemory, ProblemBuilder, Row, Seq, Var};
+use cgm_atom::{Atom, BuildStop, ProblemBuilder, Row, Seq, Var};
+use cgm_base::OutOfMemory;
 use std::alloc::Global;
 
 /// A variable that is true exactly where all literals are.

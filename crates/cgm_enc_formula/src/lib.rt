@@ -11,6 +11,5 @@ mod rules;
 mod stop;
 mod terms;
 
-pub use cgm_atom::OutOfMemory;
 pub use rules::add_rules;
 pub use stop::EncodeStop;

@@ -5,7 +5,7 @@ ghost use Rattle.cgm_atom.specs.Instance.{var_count};
 ghost use Rattle.cgm_atom.specs.Limits.{greatest_size, max_measure, measure};
 ghost use Rattle.cgm_model.specs.Formulas.{IsKnownNumber, formula_of};
 ghost use Rattle.cgm_model.specs.Model.{lists_of};
-ghost use Rattle.cgm_model.specs.Place.{Each, FirstFails};
+ghost use Rattle.cgm_base.specs.Place.{Each, FirstFails};
 ghost use Rattle.cgm_enc_formula.specs.Measures.{HasKnownNumbers, IsWithinMeasure, comparison_measure, has_small_measures as has_small_measures_in};
 ghost use Rattle.cgm_enc_formula.specs.Terms.{model_variables, number_variable as variable_in, variable_terms};
 

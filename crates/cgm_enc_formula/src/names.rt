@@ -13,7 +13,8 @@ ghost use Rattle.cgm_enc_formula.specs.Terms.{AreRowTerms, IsEncodableFormula, m
 use crate::definitions::{define_all, define_any, define_at_least, define_at_most, define_same};
 use crate::literals::{Literal, opposite, positive};
 use crate::terms::row_terms;
-use cgm_atom::{OutOfMemory, ProblemBuilder};
+use cgm_atom::ProblemBuilder;
+use cgm_base::OutOfMemory;
 use cgm_formula::{Formula, Linear, Truth};
 use cgm_model::Model;
 use std::alloc::Global;

@@ -8,7 +8,7 @@ ghost use Rattle.cgm_formula.specs.Truth.{linear_value, same_truth};
 ghost use Rattle.cgm_model.specs.Formulas.{formula_of as formula_of_rule};
 ghost use Rattle.cgm_enc_formula.specs.NamingValues.{all_truths, rule_truths, told};
 
-use cgm_atom::OutOfMemory;
+use cgm_base::OutOfMemory;
 use cgm_formula::{Assignment, Formula, Linear, is_true, value};
 use cgm_model::Rule;
 use std::alloc::Global;

@@ -12,7 +12,8 @@ use crate::measures::first_past;
 use crate::names::{name_formula, truth_variable};
 use crate::stop::EncodeStop;
 use cgm_atom::literals::{add_clause, literal, negated};
-use cgm_atom::{OutOfMemory, ProblemBuilder};
+use cgm_atom::ProblemBuilder;
+use cgm_base::OutOfMemory;
 use cgm_model::{Model, Rule};
 use std::alloc::Global;
 

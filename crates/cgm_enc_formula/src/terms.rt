@@ -5,7 +5,8 @@ ghost use Rattle.cgm_model.specs.Model.{lists_of};
 ghost use Rattle.cgm_enc_formula.specs.Definitions.{negative as negative_of};
 ghost use Rattle.cgm_enc_formula.specs.Terms.{AreApart, all_terms_placed, as_terms, model_variables, nonzero, number_variable as variable_in, row_terms as row_terms_of, variable_terms};
 
-use cgm_atom::{OutOfMemory, Var};
+use cgm_atom::Var;
+use cgm_base::OutOfMemory;
 use cgm_formula::{Linear, Number};
 use cgm_model::Model;
 use std::alloc::Global;

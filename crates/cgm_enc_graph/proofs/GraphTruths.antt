@@ -13,7 +13,7 @@ use Rattle.cgm_formula.specs.declared.assignment.Assignment.{Assignment}
 use Rattle.cgm_model.specs.declared.lists.Element.{Element}
 use Rattle.cgm_model.specs.declared.lists.Lists.{Lists}
 use Rattle.cgm_model.specs.Graph.{HasKnownElements}
-use Rattle.cgm_model.specs.Place.{Each}
+use Rattle.cgm_base.specs.Place.{Each}
 use Rattle.cgm_model.specs.Realization.{IsRealization, KeepsAssertion, KeepsBind, KeepsConflict, KeepsContrib, KeepsElement, KeepsMust, KeepsRefinement, KeepsRule}
 use Rattle.cgm_model.specs.Statement.{IsEdgeOf}
 use Rattle.cgm_model.specs.TruthVariables.{StandFor}

@@ -9,7 +9,7 @@ use Rattle.std.proofs.lemmas.List.Folds.{list_all-append}
 use Rattle.cgm_atom.specs.declared.constraints.Clause.{Clause}
 use Rattle.cgm_atom.specs.Atoms.{clause_true}
 use Rattle.cgm_atom.proofs.Additions.{Steps}
-use Rattle.cgm_model.specs.Place.{EachFrom}
+use Rattle.cgm_base.specs.Place.{EachFrom}
 
 -- the clauses are all true exactly where P holds
 abbrev pub Mean : List ℤ → List Clause → Type 0 → Type 0

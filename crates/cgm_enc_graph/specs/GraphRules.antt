@@ -1,7 +1,7 @@
 -- The rules of a goal graph.
 use Rattle.cgm_formula.specs.declared.assignment.Assignment.{Assignment}
 use Rattle.cgm_model.specs.declared.lists.Lists.{Lists}
-use Rattle.cgm_model.specs.Place.{Each}
+use Rattle.cgm_base.specs.Place.{Each}
 use Rattle.cgm_model.specs.Realization.{KeepsAssertion, KeepsBind, KeepsConflict, KeepsContrib, KeepsElement, KeepsMust, KeepsRefinement}
 
 -- each rule of a realization but those that the model states as formulas

@@ -9,7 +9,7 @@ use Rattle.cgm_base.specs.Words.{limit_number}
 use Rattle.cgm_formula.specs.declared.assignment.Assignment.{Assignment}
 use Rattle.cgm_model.specs.declared.lists.Lists.{Lists}
 use Rattle.cgm_model.specs.Realization.{IsRealization, KeepsRule}
-use Rattle.cgm_model.specs.Place.{Each}
+use Rattle.cgm_base.specs.Place.{Each}
 use Rattle.cgm_model.specs.TruthVariables.{StandFor, truth_variables}
 use Rattle.cgm_model.specs.WellFormed.{IsWellFormedModel}
 use Rattle.cgm_enc_graph.specs.GraphClauses.{graph_clauses}

@@ -8,7 +8,8 @@ ghost use Rattle.cgm_model.specs.TruthVariables.{variable_of};
 ghost use Rattle.cgm_enc_graph.specs.GraphClauses.{bind_clauses, conflict_clause, contrib_clause, target_of as target_in};
 
 use cgm_atom::literals::{add_clause, add_implication, literal, negated};
-use cgm_atom::{OutOfMemory, ProblemBuilder};
+use cgm_atom::ProblemBuilder;
+use cgm_base::OutOfMemory;
 use cgm_model::{Edge, Model};
 use std::alloc::Global;
 

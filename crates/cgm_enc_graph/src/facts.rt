@@ -5,7 +5,8 @@ ghost use Rattle.cgm_atom.specs.Adding.{CanTake, with_written};
 ghost use Rattle.cgm_enc_graph.specs.GraphClauses.{assertion_clause, must_clauses};
 
 use cgm_atom::literals::{add_clause, literal, negated};
-use cgm_atom::{OutOfMemory, ProblemBuilder};
+use cgm_atom::ProblemBuilder;
+use cgm_base::OutOfMemory;
 use cgm_model::{Assertion, Element};
 use std::alloc::Global;
 

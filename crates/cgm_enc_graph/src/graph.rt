@@ -10,7 +10,8 @@ use crate::edges::{add_binds, add_conflicts, add_contribs};
 use crate::facts::{add_asserts, add_musts};
 use crate::refinements::{add_elements, add_refinements};
 use crate::targets::by_target;
-use cgm_atom::{OutOfMemory, ProblemBuilder};
+use cgm_atom::ProblemBuilder;
+use cgm_base::OutOfMemory;
 use cgm_model::Model;
 use std::alloc::Global;
 

@@ -8,5 +8,4 @@ pub mod laws;
 mod refinements;
 mod targets;
 
-pub use cgm_atom::OutOfMemory;
 pub use graph::add_graph;

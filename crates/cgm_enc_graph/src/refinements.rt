@@ -8,7 +8,8 @@ ghost use Rattle.cgm_enc_graph.specs.GraphClauses.{element_clauses, refinement_c
 use cgm_atom::literals::{
     add_clause, add_implication, literal, negated, push_literals, push_negated,
 };
-use cgm_atom::{OutOfMemory, ProblemBuilder};
+use cgm_atom::ProblemBuilder;
+use cgm_base::OutOfMemory;
 use cgm_formula::Parts;
 use cgm_model::Refinement;
 use std::alloc::Global;

@@ -3,7 +3,7 @@ ghost use Rattle.std.specs.Prelude.{◌≡◌, ℕ, ◌+◌, ◌<◌, ◌≤◌,
 ghost use Rattle.std.specs.List.{enumerate_from};
 ghost use Rattle.cgm_enc_graph.specs.GraphClauses.{variables_for};
 
-use cgm_atom::OutOfMemory;
+use cgm_base::OutOfMemory;
 use cgm_formula::Parts;
 use cgm_model::Refinement;
 use std::alloc::Global;

@@ -13,7 +13,7 @@ use Rattle.cgm_atom.specs.Narrowing.{greatest_activity, greatest_term}
 use Rattle.cgm_atom.proofs.Keeping.{greatest_term-pos}
 use Rattle.cgm_atom.proofs.SignedSteps.{lt_is_false, scaled_down, scaled_up, sum_at_most}
 use Rattle.cgm_enc_formula.specs.Terms.{is_zero, nonzero}
-use Rattle.cgm_model.specs.Place.{EachFrom}
+use Rattle.cgm_base.specs.Place.{EachFrom}
 use Rattle.cgm_encode.specs.Problem.{box_of_problem}
 use Rattle.cgm_encode.specs.Totals.{Range, Share, Total, combined, combined_terms, least_activity, least_term, total_range, total_value}
 use Rattle.cgm_encode.proofs.Boxes.{Lies, lies_at}

@@ -5,7 +5,7 @@ use Rattle.std.proofs.lemmas.Bool.{cases_lt}
 use Rattle.std.proofs.lemmas.Int.{ints}
 use Rattle.std.proofs.lemmas.List.{get_or-map, get_or_past, length-map, map-append}
 use Rattle.cgm_atom.specs.Bounds.{Bounds, IsWithin, lower_of, upper_of, value_of}
-use Rattle.cgm_model.specs.Place.{EachFrom}
+use Rattle.cgm_base.specs.Place.{EachFrom}
 use Rattle.cgm_encode.specs.Problem.{bits, box_of_problem}
 use Rattle.cgm_encode.specs.Totals.{Range}
 use Rattle.cgm_encode.proofs.GroupPlaces.{each_at, each_of, moved}

@@ -24,7 +24,7 @@ use Rattle.cgm_model.specs.declared.lists.Objective.{Objective}
 use Rattle.cgm_model.specs.declared.lists.Preference.{Preference}
 use Rattle.cgm_model.specs.Assignment.{Fits, IsWithinBounds as IsWithinVariable}
 use Rattle.cgm_model.specs.Formulas.{IsKnownTruth}
-use Rattle.cgm_model.specs.Place.{EachFrom}
+use Rattle.cgm_base.specs.Place.{EachFrom}
 use Rattle.cgm_model.specs.Sums.{sum_value, sums_of}
 use Rattle.cgm_model.specs.TruthVariables.{truth_variables, variable_of}
 use Rattle.cgm_model.specs.WellFormed.{IsWellFormedModel}

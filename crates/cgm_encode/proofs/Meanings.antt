@@ -19,7 +19,7 @@ use Rattle.cgm_model.specs.declared.lists.Lists.{Lists}
 use Rattle.cgm_model.specs.declared.lists.Objective.{Objective}
 use Rattle.cgm_model.specs.declared.lists.Preference.{Preference}
 use Rattle.cgm_model.specs.Formulas.{IsKnownTruth}
-use Rattle.cgm_model.specs.Place.{EachFrom}
+use Rattle.cgm_base.specs.Place.{EachFrom}
 use Rattle.cgm_model.specs.Sums.{sums_of}
 use Rattle.cgm_model.specs.TruthVariables.{StandFor, truth_variables, variable_of}
 use Rattle.cgm_model.proofs.Sizes.{sum_at}

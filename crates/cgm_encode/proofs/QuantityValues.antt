@@ -22,7 +22,7 @@ use Rattle.cgm_model.specs.declared.lists.SumValue.{SumValue}
 use Rattle.cgm_model.specs.declared.lists.Weighing.{Weighing}
 use Rattle.cgm_model.specs.Formulas.{IsKnownTruth}
 use Rattle.cgm_model.specs.Leaves.{element_numbers, is_leaf_task, leaf_tasks}
-use Rattle.cgm_model.specs.Place.{EachFrom}
+use Rattle.cgm_base.specs.Place.{EachFrom}
 use Rattle.cgm_model.specs.Statement.{IsKnownQuantity}
 use Rattle.cgm_model.specs.Sums.{sum_value, sums_of, total_by, value_for, weight_for}
 use Rattle.cgm_model.specs.TruthVariables.{variable_of}

@@ -2,7 +2,7 @@
 use Rattle.std.specs.Prelude.{◌≡◌, List, length, Result, Ok, Err}
 use Rattle.cgm_atom.specs.Bounds.{Bounds}
 use Rattle.cgm_model.specs.declared.lists.Lists.{Lists}
-use Rattle.cgm_model.specs.Place.{Each, FirstFails}
+use Rattle.cgm_base.specs.Place.{Each, FirstFails}
 use Rattle.cgm_evolve.specs.Pairs.{Pair}
 use Rattle.cgm_enc_formula.specs.declared.stop.EncodeStop.{EncodeStop}
 use Rattle.cgm_enc_formula.specs.declared.stop.EncodeStop.TheVariants as stops

@@ -4,7 +4,7 @@ use Rattle.std.specs.List.{enumerate_from}
 use Rattle.cgm_atom.specs.Building.{without_repeats}
 use Rattle.cgm_atom.specs.Instance.{Instance, var_count}
 use Rattle.cgm_model.specs.declared.lists.Lists.{Lists}
-use Rattle.cgm_model.specs.Place.{FirstFails}
+use Rattle.cgm_base.specs.Place.{FirstFails}
 use Rattle.cgm_evolve.specs.Pairs.{Pair}
 use Rattle.cgm_enc_formula.specs.declared.stop.EncodeStop.{EncodeStop}
 use Rattle.cgm_enc_formula.specs.declared.stop.EncodeStop.TheVariants as stops

@@ -8,7 +8,7 @@ ghost use Rattle.cgm_encode.specs.Assignments.{assignment_of};
 ghost use Rattle.cgm_encode.specs.Decoding.{IsDecoded};
 
 use crate::answer::Encoded;
-use cgm_atom::OutOfMemory;
+use cgm_base::OutOfMemory;
 use cgm_formula::{Assignment, Parts};
 use std::alloc::Global;
 

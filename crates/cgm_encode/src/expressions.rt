@@ -7,7 +7,8 @@ ghost use Rattle.cgm_enc_formula.specs.Terms.{as_terms, nonzero};
 ghost use Rattle.cgm_encode.specs.Building.{number_at, share_size};
 ghost use Rattle.cgm_encode.specs.Totals.{combined, combined_terms as terms_of};
 
-use cgm_atom::{OutOfMemory, Seq, Var};
+use cgm_atom::{Seq, Var};
+use cgm_base::OutOfMemory;
 use std::alloc::Global;
 use std::collections::BTreeMap;
 

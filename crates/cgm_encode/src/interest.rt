@@ -7,7 +7,7 @@ ghost use Rattle.cgm_obj.specs.Counts as counts;
 ghost use Rattle.cgm_encode.specs.Quantities as quantities;
 
 use crate::names::element_count;
-use cgm_atom::OutOfMemory;
+use cgm_base::OutOfMemory;
 use cgm_evolve::Earlier;
 use cgm_model::Model;
 use cgm_obj::is_free_requirement;

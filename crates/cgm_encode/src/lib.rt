@@ -21,7 +21,6 @@ mod words;
 
 pub use answer::{Answer, Encoded, Found};
 pub use assignments::decode;
-pub use cgm_atom::OutOfMemory;
 pub use cgm_enc_formula::{EncodeStop, EncodeStop as SolveStop};
 pub use encoding::encode;
 pub use printer::print_problem;

@@ -8,7 +8,8 @@ ghost use Rattle.cgm_encode.specs.Problem.{preference_clauses};
 
 use crate::names::truth_variable;
 use cgm_atom::literals::{add_clause, literal, negated};
-use cgm_atom::{OutOfMemory, ProblemBuilder};
+use cgm_atom::ProblemBuilder;
+use cgm_base::OutOfMemory;
 use cgm_model::{Model, Preference};
 use std::alloc::Global;
 

@@ -6,7 +6,8 @@ ghost use Rattle.cgm_atom.specs.AtomWords.{atom_word, spaced};
 ghost use Rattle.cgm_encode.specs.ProblemText.{clause_line, clause_lines as lines_of_clauses, objective_line, problem_text, range_line, row_line, row_lines as lines_of_rows, term_word, var_line, var_lines as lines_of_variables};
 
 use crate::words::{push_atom, push_guard, push_number, push_term, push_value};
-use cgm_atom::{Atom, Clause, OutOfMemory, Problem, Row, Var};
+use cgm_atom::{Atom, Clause, Problem, Row, Var};
+use cgm_base::OutOfMemory;
 use std::alloc::Global;
 
 /// Prints a problem: `cgm-problem 1`, then `var V LO HI` for each variable, `clause C` and its atoms

@@ -15,7 +15,8 @@ use crate::interest::{
     elements_of_interest, free_requirements, leaf_tasks, possible_work, was_true_before,
 };
 use crate::names::{own_variable, sum_variable};
-use cgm_atom::{OutOfMemory, Seq};
+use cgm_atom::Seq;
+use cgm_base::OutOfMemory;
 use cgm_evolve::Earlier;
 use cgm_model::{Model, Objective, Quantity, Weighing};
 use std::alloc::Global;

@@ -8,7 +8,8 @@ ghost use Rattle.cgm_encode.specs.Building.{IsMeasured, expression_range};
 ghost use Rattle.cgm_encode.specs.Totals.{least_activity as least_in, least_term as least_term_in};
 
 use crate::expressions::Expression;
-use cgm_atom::{OutOfMemory, ProblemBuilder, Var};
+use cgm_atom::{ProblemBuilder, Var};
+use cgm_base::OutOfMemory;
 use std::alloc::Global;
 
 /// The range of each expression.

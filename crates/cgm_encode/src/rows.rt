@@ -8,7 +8,8 @@ ghost use Rattle.cgm_encode.specs.Building.{HasBoundSize, IsDefining, defining_r
 ghost use Rattle.cgm_encode.specs.Totals.{row_of};
 
 use crate::expressions::{Expression, negative};
-use cgm_atom::{BuildStop, OutOfMemory, ProblemBuilder, Row, Seq, Var};
+use cgm_atom::{BuildStop, ProblemBuilder, Row, Seq, Var};
+use cgm_base::OutOfMemory;
 use std::alloc::Global;
 
 /// Adds the rows by which each variable is the value of the expression at its place.

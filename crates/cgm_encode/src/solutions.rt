@@ -6,7 +6,8 @@ ghost use Rattle.cgm_encode.specs.Decoding.{ForEncoded, IsDecodedFound};
 
 use crate::answer::{Encoded, Found};
 use crate::assignments::decode;
-use cgm_atom::{OutOfMemory, Seq, Var};
+use cgm_atom::{Seq, Var};
+use cgm_base::OutOfMemory;
 use cgm_formula::number_at;
 use std::alloc::Global;
 

@@ -8,7 +8,8 @@ ghost use Rattle.cgm_encode.specs.Quantities.{plain, sum_total};
 
 use crate::expressions::{Expression, combined_terms};
 use crate::names::truth_variable;
-use cgm_atom::{OutOfMemory, Seq};
+use cgm_atom::Seq;
+use cgm_base::OutOfMemory;
 use cgm_formula::Parts;
 use cgm_model::Model;
 use std::alloc::Global;

@@ -15,7 +15,7 @@ ghost use Rattle.cgm_encode.specs.Decoding.{IsExtended};
 ghost use Rattle.cgm_encode.specs.Encoding.{IsEncodingOf};
 
 use crate::answer::Encoded;
-use cgm_atom::OutOfMemory;
+use cgm_base::OutOfMemory;
 use cgm_enc_formula::naming_values::{push_bit, push_rules};
 use cgm_evolve::Earlier;
 use cgm_formula::{Assignment, is_true};

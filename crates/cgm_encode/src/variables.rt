@@ -6,7 +6,8 @@ ghost use Rattle.cgm_atom.specs.Instance.{var_count};
 ghost use Rattle.cgm_encode.specs.Building.{AreBounds, with_ranges};
 ghost use Rattle.cgm_encode.specs.Problem.{bits, own_range};
 
-use cgm_atom::{BuildStop, OutOfMemory, ProblemBuilder};
+use cgm_atom::{BuildStop, ProblemBuilder};
+use cgm_base::OutOfMemory;
 use cgm_model::Variable;
 use std::alloc::Global;
 

@@ -4,7 +4,8 @@ ghost use Rattle.std.specs.Fmt.{signed_decimal};
 ghost use Rattle.cgm_atom.specs.AtomWords.{atom_word};
 ghost use Rattle.cgm_encode.specs.ProblemText.{guard_word, term_word};
 
-use cgm_atom::{Atom, OutOfMemory, Var};
+use cgm_atom::{Atom, Var};
+use cgm_base::OutOfMemory;
 use itoa::Buffer;
 
 fn push_digits(out: &mut Vec<u8>, n: u32) -> Result<(), OutOfMemory>

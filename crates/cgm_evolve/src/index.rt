@@ -3,7 +3,7 @@ ghost use Rattle.std.specs.Prelude.{◌≡◌, List, ℕ, OnOk, if◌then◌else
 ghost use Rattle.std.specs.Str.{bytes_eq};
 ghost use Rattle.cgm_evolve.specs.Index.{pair_found};
 
-use cgm_formula::OutOfMemory;
+use cgm_base::OutOfMemory;
 use indexmap::IndexMap;
 use std::alloc::Global;
 

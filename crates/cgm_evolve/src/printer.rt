@@ -3,8 +3,8 @@ ghost use Rattle.std.specs.Prelude.{◌≡◌, ◌++◌, IfOk, OnOk};
 ghost use Rattle.cgm_evolve.specs.Text.{canonical_text, pair_line};
 
 use crate::earlier::Earlier;
-use cgm_base::truth_word;
-use cgm_formula::{Name, OutOfMemory};
+use cgm_base::{OutOfMemory, truth_word};
+use cgm_formula::Name;
 use std::alloc::Global;
 
 /// Writes the line of a pair.

@@ -2,8 +2,9 @@
 ghost use Rattle.std.specs.Prelude.{◌≡◌, IfOk};
 
 use crate::parts::Parts;
+use cgm_base::OutOfMemory;
 use sqlite_items::Boxed;
-use std::alloc::{AllocError as OutOfMemory, Global};
+use std::alloc::Global;
 
 /// An element or a refinement, by its number.
 #[derive(Clone, Copy, PartialEq, Eq)]

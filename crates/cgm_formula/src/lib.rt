@@ -12,4 +12,3 @@ pub use formula::{Formula, Linear, Number, Truth};
 pub use meaning::{holds, is_true, value};
 pub use name::Name;
 pub use parts::Parts;
-pub use std::alloc::AllocError as OutOfMemory;

@@ -2,7 +2,7 @@
 ghost use Rattle.std.specs.Prelude.{◌≡◌, ◌++◌, ◌↔◌, IsTrue, encode_utf8, is_ok, if◌then◌else◌};
 ghost use Rattle.std.specs.String.{string_bytes};
 
-use std::alloc::AllocError;
+use cgm_base::OutOfMemory;
 use std::marker::Model;
 
 /// A `String` that contracts see as the list of its bytes.
@@ -44,7 +44,7 @@ impl Name {
     }
 
     /// Adds a character at the end.
-    pub fn push(&mut self, ch: char) -> Result<(), AllocError>
+    pub fn push(&mut self, ch: char) -> Result<(), OutOfMemory>
         ensures bytes { self.new ≡ (if is_ok result then self.old ++ encode_utf8 ch else self.old) }
     {
         self.text.push(ch)

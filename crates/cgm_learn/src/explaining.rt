@@ -11,7 +11,8 @@ ghost use Rattle.cgm_trail.specs.TrailState.{IsOpenIn};
 ghost use Rattle.cgm_step.specs.Naming.{IsNamedIn, constraint_of};
 
 use crate::rows::{explain_row_atom, explain_row_conflict};
-use cgm_atom::{Atom, BoxState, ClauseAtoms, OutOfMemory, Problem, is_false, negated};
+use cgm_atom::{Atom, BoxState, ClauseAtoms, Problem, is_false, negated};
+use cgm_base::OutOfMemory;
 use cgm_step::Named;
 use std::alloc::Global;
 

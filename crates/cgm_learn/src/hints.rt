@@ -2,7 +2,8 @@
 ghost use Rattle.std.specs.Prelude.{◌≡◌, ◌++◌, ◌∷◌, ◌<◌, ◌^◌, [], max, OnOk};
 ghost use Rattle.cgm_atom.specs.Ranges.{IsHintInRange};
 
-use cgm_atom::{Hint, OutOfMemory};
+use cgm_atom::Hint;
+use cgm_base::OutOfMemory;
 use std::alloc::Global;
 
 /// Hints, the last one of the replay first, and the greatest ordinal that they carry.

@@ -13,7 +13,6 @@ mod rows;
 mod walks;
 
 pub use analysis::analyse;
-pub use cgm_atom::OutOfMemory;
 pub use learned::Learned;
 use std::marker::Send;
 

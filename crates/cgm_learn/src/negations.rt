@@ -8,7 +8,8 @@ ghost use Rattle.cgm_atom.specs.Ranges.{IsAtomInRange};
 ghost use Rattle.cgm_atom.specs.Steps.{AreBounds};
 ghost use Rattle.cgm_learn.specs.Walking.{AreNegations, lower_negation, upper_negation};
 
-use cgm_atom::{Atom, BoxState, OutOfMemory, Problem, Var};
+use cgm_atom::{Atom, BoxState, Problem, Var};
+use cgm_base::OutOfMemory;
 use std::alloc::Global;
 
 /// The negation of an atom whose number is within the limit of a bound.

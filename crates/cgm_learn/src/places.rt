@@ -5,7 +5,8 @@ ghost use Rattle.cgm_atom.specs.Laws.{IsSmaller};
 ghost use Rattle.cgm_trail.specs.TrailState.{is_decision as is_decision_change};
 ghost use Rattle.cgm_learn.specs.Walking.{IsDecisionAt, IsInsideAt, IsPlaceOf, is_met_before as is_met_before_change};
 
-use cgm_atom::{BoxState, OutOfMemory, Var};
+use cgm_atom::{BoxState, Var};
+use cgm_base::OutOfMemory;
 use cgm_trail::{Change, Reason, Trail};
 use std::alloc::Global;
 

@@ -12,7 +12,8 @@ ghost use Rattle.cgm_trail.specs.TrailState.{IsOpenIn};
 
 use crate::explaining::need_atom;
 use crate::negations::opposite;
-use cgm_atom::{Atom, BoxState, OutOfMemory, Row, Var, greatest_activity};
+use cgm_atom::{Atom, BoxState, Row, Var, greatest_activity};
+use cgm_base::OutOfMemory;
 use std::alloc::Global;
 
 /// The bound of a variable that the greatest value of its term reads.

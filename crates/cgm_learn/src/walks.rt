@@ -11,7 +11,8 @@ use crate::explaining::{explain_atom, explain_conflict};
 use crate::grounds::Ground;
 use crate::hints::{Used, recall_range};
 use crate::places::{Place, before_level, is_before_decision, is_inside, is_met_before};
-use cgm_atom::{Atom, BoxState, Hint, OutOfMemory, Problem};
+use cgm_atom::{Atom, BoxState, Hint, Problem};
+use cgm_base::OutOfMemory;
 use cgm_trail::{Reason, Trail};
 use std::alloc::Global;
 

@@ -9,7 +9,8 @@ ghost use Rattle.cgm_lex.specs.Spans.{line_spans, span_of, text_spans};
 use crate::line::{Span, content, line_end, next_piece};
 use crate::number::kind_of;
 use crate::token::{Kind, LexFault, LexStop, Lexed, Token, fault_of};
-use std::alloc::{AllocError, Global};
+use cgm_base::OutOfMemory;
+use std::alloc::Global;
 
 /// The token of a piece of the line that begins at the place `start`.
 fn token_at(line: u32, start: usize, piece: Span, kind: Kind) -> Token
@@ -36,7 +37,7 @@ fn add_tokens(
     start: usize,
     end: usize,
     line: u32,
-) -> Result<Option<LexFault>, AllocError>
+) -> Result<Option<LexFault>, OutOfMemory>
     requires order { start ≤ end }
     requires inside { end ≤ length text.now }
     requires small { length text.now ≤ most_bytes }
@@ -88,7 +89,7 @@ pub fn tokens_of_line(alloc: Global, line: &[u8], number: u32) -> Result<Vec<Tok
 
 /// The tokens of a text of at most 16 MiB: those of the lines before the first faulty one, and its
 /// fault.
-pub fn tokens(alloc: Global, bytes: &[u8]) -> Result<Lexed, AllocError>
+pub fn tokens(alloc: Global, bytes: &[u8]) -> Result<Lexed, OutOfMemory>
     requires { length bytes.now ≤ most_bytes }
     ensures tokens { IfOk result (λ lexed. map (token_placed bytes.now) lexed.tokens.items
         ≡ text_lexemes 1 (lines bytes.now)) }

@@ -4,5 +4,4 @@
 mod rows;
 mod steps;
 
-pub use cgm_trail::OutOfMemory;
 pub use rows::propagate_row;

@@ -9,10 +9,8 @@ ghost use Rattle.cgm_trail.specs.Steps.{IsOnly, IsPropagated};
 ghost use Rattle.cgm_trail.specs.TrailState.{box_of};
 
 use crate::steps::make;
-use cgm_atom::{
-    Atom, BoxState, Hint, OutOfMemory, Problem, Row, greatest_activity, is_true, kept_by_term,
-    negated,
-};
+use cgm_atom::{Atom, BoxState, Hint, Problem, Row, greatest_activity, is_true, kept_by_term, negated};
+use cgm_base::OutOfMemory;
 use cgm_trail::{Swept, Trail};
 
 /// Does to the box of a trail what narrowing by the row with a number does, as single tightenings

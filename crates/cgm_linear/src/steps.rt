@@ -6,7 +6,8 @@ ghost use Rattle.cgm_linear.specs.Making.{IsMadeTrue};
 ghost use Rattle.cgm_trail.specs.Steps.{IsGiven, IsOnly, IsPropagated};
 ghost use Rattle.cgm_trail.specs.TrailState.{box_of};
 
-use cgm_atom::{Atom, Hint, OutOfMemory, is_true};
+use cgm_atom::{Atom, Hint, is_true};
+use cgm_base::OutOfMemory;
 use cgm_trail::{Trail, step};
 
 /// Makes an atom true that isn't false, as narrowing by the hint does, and tells whether it is true

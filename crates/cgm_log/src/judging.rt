@@ -6,7 +6,8 @@ ghost use Rattle.cgm_atom.specs.LogState.{last_best};
 ghost use Rattle.cgm_log.specs.Landing.{fate_after, fate_of, kept_candidate, kept_entry};
 
 use crate::batches::Fate;
-use cgm_atom::{Entry, OutOfMemory, Problem, Seq};
+use cgm_atom::{Entry, Problem, Seq};
+use cgm_base::OutOfMemory;
 use cgm_step::{IndexedLog, is_less};
 use std::alloc::Global;
 

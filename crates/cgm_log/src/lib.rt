@@ -7,7 +7,6 @@ mod logs;
 mod traders;
 
 pub use batches::{Batch, Fate, Refund, Traded};
-pub use cgm_atom::OutOfMemory;
 pub use logs::Log;
 use std::marker::Send;
 pub use traders::{Alone, MAX_TRADES, Trader};

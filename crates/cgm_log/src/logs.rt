@@ -14,7 +14,8 @@ ghost use Rattle.cgm_log.specs.Trading.{IsAnswer, news_of};
 
 use crate::batches::{Batch, Refund, Traded};
 use crate::judging::{Judged, judge};
-use cgm_atom::{Entry, OutOfMemory, Problem, Seq, copy_entries, place_all};
+use cgm_atom::{Entry, Problem, Seq, copy_entries, place_all};
+use cgm_base::OutOfMemory;
 use cgm_step::{IndexedLog, LogIndex};
 use std::alloc::Global;
 use std::marker::Model;

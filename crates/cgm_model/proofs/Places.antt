@@ -1,7 +1,7 @@
 -- A loop that tests the items of a list in order: what the rest of the list settles for the whole.
 use Rattle.std.proofs.Common.{◌≡◌, ℕ, ◌+◌, ◌<◌, List, ◌∷◌, length, drop, get_or, refl, sym, subst, inl, inr, ◌∙◌, ap, [], ⊎_elim}
 use Rattle.std.proofs.lemmas.List.{drop_more}
-use Rattle.cgm_model.specs.Place.{EachFrom, FirstFailsFrom, Each, FirstFails}
+use Rattle.cgm_base.specs.Place.{EachFrom, FirstFailsFrom, Each, FirstFails}
 
 -- what holds of the rest from this place on holds of the whole, and so does what fails first
 pub record Settles {X : Type 0} (P : ℕ → X → Type 0) (xs rest : List X) (place : ℕ) : Type 0 where

@@ -26,7 +26,7 @@ use Rattle.cgm_model.specs.declared.lists.Rule.TheVariants as rules
 use Rattle.cgm_model.specs.declared.lists.Variable.{Variable}
 use Rattle.cgm_model.specs.Assignment.{Fits, IsWithinBounds}
 use Rattle.cgm_model.specs.Formulas.{formula_of, every_linear, has_small_terms, node_total}
-use Rattle.cgm_model.specs.Place.{EachFrom}
+use Rattle.cgm_base.specs.Place.{EachFrom}
 use Rattle.cgm_model.specs.Realization.{KeepsRule}
 use Rattle.cgm_model.specs.Sums.{sums_of}
 use Rattle.cgm_model.specs.WellFormed.{IsVariable, IsWellFormedModel}

@@ -4,7 +4,7 @@ use Rattle.std.specs.List.{slice_index_or}
 use Rattle.cgm_formula.specs.declared.assignment.Assignment.{Assignment}
 use Rattle.cgm_model.specs.declared.lists.Lists.{Lists}
 use Rattle.cgm_model.specs.declared.lists.Variable.{Variable}
-use Rattle.cgm_model.specs.Place.{Each}
+use Rattle.cgm_base.specs.Place.{Each}
 
 -- the value at the variable's place is within its bounds
 pub record IsWithinBounds (values : List ℤ) (place : ℕ) (v : Variable) : Type 0 where

@@ -13,7 +13,6 @@ pub mod Model
 pub mod Name
 pub mod NameTable
 pub mod Named
-pub mod Place
 pub mod QuantityWords
 pub mod Realization
 pub mod Search

@@ -14,7 +14,7 @@ use Rattle.cgm_model.specs.declared.lists.Rule.{Rule}
 use Rattle.cgm_model.specs.declared.lists.Rule.TheVariants as rules
 use Rattle.cgm_model.specs.declared.realization.Broken.{Broken}
 use Rattle.cgm_model.specs.declared.realization.Broken.TheVariants as broken
-use Rattle.cgm_model.specs.Place.{Each, FirstFails}
+use Rattle.cgm_base.specs.Place.{Each, FirstFails}
 use Rattle.cgm_model.specs.Assignment.{ElementIsTrue, RefinementIsTrue}
 
 -- a refinement is true exactly where all its sources are, and then its target is true

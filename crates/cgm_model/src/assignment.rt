@@ -2,7 +2,7 @@
 ghost use Rattle.std.specs.Prelude.{◌↔◌, ◌≡◌, ◌<◌, length, IsTrue};
 ghost use Rattle.cgm_model.specs.Assignment.{Fits, IsWithinBounds};
 ghost use Rattle.cgm_model.specs.Model.{lists_of};
-ghost use Rattle.cgm_model.specs.Place.{Each};
+ghost use Rattle.cgm_base.specs.Place.{Each};
 
 use crate::lists::Variable;
 use crate::model::Model;

@@ -7,7 +7,7 @@ ghost use Rattle.cgm_model.specs.Search.{IsMarked, IsSearch, MarksEach, Visits, 
 ghost use Rattle.cgm_model.specs.TargetIndex.{IsTargetIndexOf, HasTargetRoomFor};
 
 use crate::lists::Refinement;
-use cgm_formula::OutOfMemory;
+use cgm_base::OutOfMemory;
 use sqlite_items::{Items, at};
 use std::alloc::Global;
 

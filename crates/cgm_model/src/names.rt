@@ -10,7 +10,7 @@ ghost use Rattle.cgm_model.specs.WellFormed.{IsWellFormedModel};
 use crate::aids::Aids;
 use crate::lists::{Lists, Thing};
 use crate::stop::AddStop;
-use cgm_formula::OutOfMemory;
+use cgm_base::OutOfMemory;
 use indexmap::IndexMap;
 use sqlite_items::at;
 use std::alloc::Global;

@@ -8,7 +8,7 @@ ghost use Rattle.cgm_formula.specs.Sizes.{AreSmallIn};
 ghost use Rattle.cgm_model.specs.Assignment.{Fits, ElementIsTrue, RefinementIsTrue};
 ghost use Rattle.cgm_model.specs.Formulas.{formula_of};
 ghost use Rattle.cgm_model.specs.Model.{lists_of};
-ghost use Rattle.cgm_model.specs.Place.{Each, FirstFails};
+ghost use Rattle.cgm_base.specs.Place.{Each, FirstFails};
 ghost use Rattle.cgm_model.specs.Sums.{sums_of};
 ghost use Rattle.cgm_model.specs.Realization.{IsRealization, IsFirstBroken, KeepsRefinement, KeepsElement, KeepsContrib, KeepsConflict, KeepsBind, KeepsMust, KeepsAssertion, KeepsRule, Refines, TargetIsTrue};
 

@@ -9,12 +9,13 @@ ghost use Rattle.cgm_model.specs.Sums.{sums_of, value_for};
 use crate::lists::SumValue;
 use crate::model::Model;
 use crate::realization;
+use cgm_base::OutOfMemory;
 use cgm_formula::Assignment;
-use std::alloc::{AllocError, Global};
+use std::alloc::Global;
 
 /// The value of each sum, in order: the numbers of its value lines whose element or refinement is
 /// true, added up. Condition: the assignment fits.
-pub fn sums(alloc: Global, model: &Model, assignment: &Assignment) -> Result<Vec<i64>, AllocError>
+pub fn sums(alloc: Global, model: &Model, assignment: &Assignment) -> Result<Vec<i64>, OutOfMemory>
     requires { Fits (lists_of model.now) assignment.now }
     ensures { IfOk result (λ sums. sums.items ≡ sums_of (lists_of model.now) assignment.now) }
 {

@@ -12,7 +12,7 @@ use Rattle.cgm_model.specs.declared.lists.Preference.{Preference}
 use Rattle.cgm_model.specs.declared.lists.Quantity.{Quantity}
 use Rattle.cgm_model.specs.declared.lists.Quantity.TheVariants as quantities
 use Rattle.cgm_model.specs.Assignment.{Fits, IsWithinBounds}
-use Rattle.cgm_model.specs.Place.{EachFrom}
+use Rattle.cgm_base.specs.Place.{EachFrom}
 use Rattle.cgm_model.specs.WellFormed.{IsVariable, IsWellFormedModel}
 use Rattle.cgm_model.proofs.Sizes.{sums_size, weight_size}
 use Rattle.cgm_evolve.specs.Costs.{is_changed, is_new_work, is_true}

@@ -6,9 +6,10 @@ ghost use Rattle.cgm_model.specs.Sums.{sums_of};
 ghost use Rattle.cgm_obj.specs.Vector.{objective_number as number_of_objective, vector_of};
 
 use crate::quantities::quantity;
+use cgm_base::OutOfMemory;
 use cgm_evolve::Earlier;
 use cgm_model::{Assignment, Model, Objective};
-use std::alloc::{AllocError, Global};
+use std::alloc::Global;
 
 fn negated(x: i64) -> i64
     requires { unsigned_abs x ≤ 1000000000000 }
@@ -45,7 +46,7 @@ pub fn vector(
     earlier: &Earlier,
     assignment: &Assignment,
     sums: &[i64],
-) -> Result<Vec<i64>, AllocError>
+) -> Result<Vec<i64>, OutOfMemory>
     requires fits { Fits (lists_of model.now) assignment.now }
     requires sums { sums.now ≡ sums_of (lists_of model.now) assignment.now }
     ensures { IfOk result (λ numbers. numbers.items ≡ vector_of (lists_of model.now) earlier.now.pairs assignment.now) }

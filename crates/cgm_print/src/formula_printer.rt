@@ -8,8 +8,8 @@ ghost use Rattle.cgm_print.specs.Written.{compared as written_comparison, spelle
 use crate::names::{number_name, truth_name};
 use crate::printer::Printer;
 use crate::words::{Comparison, Joint};
+use cgm_base::OutOfMemory;
 use cgm_model::{Formula, Linear, Model, Number};
-use std::alloc::AllocError as OutOfMemory;
 
 fn term(printer: &mut Printer, model: &Model, term: (i64, Number)) -> Result<(), OutOfMemory>
     ensures { OnOk result (Writes printer.old printer.new (spelled_term (written_term (lists_of model.now) term))) }

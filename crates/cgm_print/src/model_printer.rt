@@ -10,11 +10,12 @@ use crate::statement_printer::{
     assertion, binding, conflict, contribution, element, interest, objective, penalty, preference,
     refinement, reward, rule, sum, value, variable,
 };
+use cgm_base::OutOfMemory;
 use cgm_model::{
     Assertion, Edge, Element, Model, Objective, Preference, Refinement, Rule, Sum, SumValue,
     Variable, Weighing,
 };
-use std::alloc::{AllocError as OutOfMemory, Global};
+use std::alloc::Global;
 
 fn elements(printer: &mut Printer, model: &Model, all: &[Element]) -> Result<(), OutOfMemory>
     ensures { OnOk result (printer.new.text.items ≡ printer.old.text.items ++ statement_lines (lists_of model.now)

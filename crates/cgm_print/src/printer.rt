@@ -4,8 +4,9 @@ ghost use Rattle.cgm_lex.specs.Lexemes.{Lexeme, opening, closing, colon, number,
 ghost use Rattle.cgm_lex.specs.Spelling.{spelled_line};
 ghost use Rattle.cgm_print.specs.Printing.{Writes, text_followed};
 
+use cgm_base::OutOfMemory;
 use itoa::Buffer;
-use std::alloc::{AllocError as OutOfMemory, Global};
+use std::alloc::Global;
 
 /// A text that is being written, token by token.
 #[derive(Drop)]

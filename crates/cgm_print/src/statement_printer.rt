@@ -12,12 +12,11 @@ use crate::formula_printer::formula;
 use crate::names::{element_name, quantity_name, refinement_name, sum_name, truth_name};
 use crate::printer::Printer;
 use crate::words::{ConditionWord, Direction, NameWord, PairWord, Sort, WeightWord};
-use cgm_base::truth_word;
+use cgm_base::{OutOfMemory, truth_word};
 use cgm_model::{
     Assertion, Edge, Element, ElementKind, Formula, Model, Objective, Preference, Refinement, Rule,
     Sum, SumValue, Truth, Variable, Weighing,
 };
-use std::alloc::AllocError as OutOfMemory;
 
 /// Begins the line of a statement of this sort.
 fn begin_statement(printer: &mut Printer, sort: Sort) -> Result<(), OutOfMemory>

@@ -6,8 +6,8 @@ ghost use Rattle.cgm_report.specs.Answers.{IsReportable, best_lines, exhausted, 
 ghost use Rattle.cgm_report.specs.Shown.{IsShowable, shown_report};
 
 use crate::found::push_found;
+use cgm_base::OutOfMemory;
 use cgm_encode::{Answer, Found};
-use cgm_formula::OutOfMemory;
 use cgm_model::Model;
 use std::alloc::Global;
 

@@ -4,9 +4,8 @@ ghost use Rattle.cgm_model.specs.Model.{lists_of};
 ghost use Rattle.cgm_report.specs.Report.{element_word, objective_word, found_line, number_line, element_lines, refinement_lines, variable_lines, sum_lines};
 ghost use Rattle.cgm_report.specs.Shown.{IsShowable, shown, shown_line, shown_lines, vector_lines};
 
-use cgm_base::truth_word;
+use cgm_base::{OutOfMemory, truth_word};
 use cgm_encode::Found;
-use cgm_formula::OutOfMemory;
 use cgm_model::{Element, ElementKind, Model, Objective, Refinement, Sum, Variable, sums};
 use cgm_print::names::quantity_name;
 use std::alloc::Global;

@@ -6,5 +6,4 @@ mod found;
 pub mod laws;
 
 pub use answers::report;
-pub use cgm_formula::OutOfMemory;
 pub use found::found_lines;

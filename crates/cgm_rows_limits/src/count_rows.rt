@@ -1,9 +1,9 @@
 // What no text tells: faults that are counted, trails that are left, and two outputs that are alike.
 use crate::runs::{Ended, FIRST, has_answered, run_printing, run_words, shelf_of};
-use cgm_base::Status;
+use cgm_base::{OutOfMemory, Status};
 use cgm_shelf::{MemShelf, MemSink};
 use cgm_trail::{Trail, Work};
-use std::alloc::{AllocError, Global};
+use std::alloc::Global;
 use std::test::Fail;
 
 /// Which read, which start or append, and which write of the report fails; none where it is 0.
@@ -13,7 +13,7 @@ type Failing = (u64, u64, u64);
 type FaultRow = (&'static str, Failing, Status, (u64, u64, u64));
 
 /// The numbers of the calls that fail.
-fn failing(alloc: Global, number: u64) -> Result<Vec<u64>, AllocError> {
+fn failing(alloc: Global, number: u64) -> Result<Vec<u64>, OutOfMemory> {
     let mut numbers = Vec::new(alloc);
     if number > 0 {
         numbers.push(number)?;
@@ -22,7 +22,7 @@ fn failing(alloc: Global, number: u64) -> Result<Vec<u64>, AllocError> {
 }
 
 /// A shelf with a model, of whose calls these fail.
-fn failing_shelf(alloc: Global, read: u64, write: u64) -> Result<MemShelf, AllocError> {
+fn failing_shelf(alloc: Global, read: u64, write: u64) -> Result<MemShelf, OutOfMemory> {
     let reads = failing(alloc, read)?;
     let mut shelf = MemShelf::new(alloc, 8, reads, failing(alloc, write)?);
     shelf.put("first.cgm", FIRST.as_bytes())?;
@@ -36,7 +36,7 @@ fn is_counted(
     (read, write, print): Failing,
     status: Status,
     faults: (u64, u64, u64),
-) -> Result<bool, AllocError> {
+) -> Result<bool, OutOfMemory> {
     let mut shelf = failing_shelf(alloc, read, write)?;
     let sink = MemSink::new(alloc, 8, failing(alloc, print)?);
     is_counted_by(alloc, line, &mut shelf, sink, status, faults)
@@ -49,7 +49,7 @@ fn is_counted_by(
     sink: MemSink,
     status: Status,
     faults: (u64, u64, u64),
-) -> Result<bool, AllocError> {
+) -> Result<bool, OutOfMemory> {
     let ended = run_printing(alloc, line, shelf, sink)?;
     Ok(has_counts(&ended, shelf, status, faults))
 }
@@ -129,7 +129,7 @@ fn counts(trail: &Trail) -> (u64, u32) {
 }
 
 /// Whether a run over a model leaves just this trail, or none.
-fn is_left(alloc: Global, line: &str, wanted: Option<(u64, u32)>) -> Result<bool, AllocError> {
+fn is_left(alloc: Global, line: &str, wanted: Option<(u64, u32)>) -> Result<bool, OutOfMemory> {
     let mut shelf = shelf_of(alloc, FIRST.as_bytes(), "c.txt", b"cgm-cert 1\n")?;
     is_left_over(alloc, line, &mut shelf, wanted)
 }
@@ -139,7 +139,7 @@ fn is_left_over(
     line: &str,
     shelf: &mut MemShelf,
     wanted: Option<(u64, u32)>,
-) -> Result<bool, AllocError> {
+) -> Result<bool, OutOfMemory> {
     let ended = run_words(alloc, line, shelf)?;
     Ok(leaves(&ended.work, wanted))
 }
@@ -160,7 +160,7 @@ const CHEAP_REPORT: &str =
     "realized\nobjective min cost 5\ngoal G true\ntask A false\ntask B true\nrefine R1 false\nrefine R2 true\nsum cost 5\n";
 
 /// Whether a search of this budget and a check of its certificate end alike.
-fn is_alike(alloc: Global, budget: u64) -> Result<bool, AllocError> {
+fn is_alike(alloc: Global, budget: u64) -> Result<bool, OutOfMemory> {
     let line = format!(in alloc; "solve model.cgm --cert=c.txt --budget={budget}")?;
     let mut shelf = shelf_of(alloc, CHEAP.as_bytes(), "old.txt", b"earlier 1\n")?;
     is_alike_over(alloc, budget, line.as_str(), &mut shelf)
@@ -171,7 +171,7 @@ fn is_alike_over(
     budget: u64,
     line: &str,
     shelf: &mut MemShelf,
-) -> Result<bool, AllocError> {
+) -> Result<bool, OutOfMemory> {
     let solved = run_words(alloc, line, shelf)?;
     is_checked_alike(alloc, budget, &solved, shelf)
 }
@@ -181,7 +181,7 @@ fn is_checked_alike(
     budget: u64,
     solved: &Ended,
     shelf: &mut MemShelf,
-) -> Result<bool, AllocError> {
+) -> Result<bool, OutOfMemory> {
     let checked = run_words(alloc, "check model.cgm c.txt", shelf)?;
     are_alike(alloc, budget, solved, &checked)
 }
@@ -193,7 +193,7 @@ fn are_alike(
     budget: u64,
     solved: &Ended,
     checked: &Ended,
-) -> Result<bool, AllocError> {
+) -> Result<bool, OutOfMemory> {
     if solved.status == Status::Open {
         return are_open_alike(alloc, budget, solved, checked);
     }
@@ -208,7 +208,7 @@ fn are_open_alike(
     budget: u64,
     solved: &Ended,
     checked: &Ended,
-) -> Result<bool, AllocError> {
+) -> Result<bool, OutOfMemory> {
     let front = format!(in alloc; "exhausted\nspent 0 {budget}\n")?;
     let best = solved.sink.written().strip_prefix(front.as_bytes());
     Ok(checked.status == Status::Open && has_open_best(checked.sink.written(), best))

@@ -1,12 +1,12 @@
 // Each limit that only a long text meets, at its number and one past it.
 use crate::runs::prints;
 use crate::texts::{padded, push_all_numbered, repeated};
-use cgm_base::Status;
-use std::alloc::{AllocError, Global};
+use cgm_base::{OutOfMemory, Status};
+use std::alloc::Global;
 use std::test::Fail;
 
 /// Whether `show` of the model ends with the status and prints these bytes.
-fn shows(alloc: Global, model: &[u8], status: Status, printed: &[u8]) -> Result<bool, AllocError> {
+fn shows(alloc: Global, model: &[u8], status: Status, printed: &[u8]) -> Result<bool, OutOfMemory> {
     prints(
         alloc,
         "show model.cgm",
@@ -22,7 +22,7 @@ fn is_limited(
     text: &mut Vec<u8>,
     line: &str,
     fault: &str,
-) -> Result<bool, AllocError> {
+) -> Result<bool, OutOfMemory> {
     if !shows(alloc, text.as_slice(), Status::Done, text.as_slice())? {
         return Ok(false);
     }
@@ -53,7 +53,7 @@ fn is_repeated(
     line: &str,
     most: u32,
     fault: &str,
-) -> Result<bool, AllocError> {
+) -> Result<bool, OutOfMemory> {
     let mut text = repeated(alloc, front, line, most)?;
     is_limited(alloc, &mut text, line, fault)
 }
@@ -92,7 +92,7 @@ fn is_numbered(
     around: (&str, &str),
     line: &str,
     fault: &str,
-) -> Result<bool, AllocError> {
+) -> Result<bool, OutOfMemory> {
     let mut text = Vec::from_slice(alloc, front.as_bytes())?;
     push_all_numbered(alloc, &mut text, around, 20_000)?;
     is_limited(alloc, &mut text, line, fault)
@@ -216,7 +216,7 @@ const LONG: &[LongRow] = &[
 ];
 
 /// Whether a run over a long file ends with the status and prints this.
-fn is_long(alloc: Global, row: &LongRow) -> Result<bool, AllocError> {
+fn is_long(alloc: Global, row: &LongRow) -> Result<bool, OutOfMemory> {
     let (line, name, front, byte, count, status, printed) = *row;
     let bytes = padded(alloc, front, byte, count)?;
     prints(
@@ -238,7 +238,7 @@ fn long_files(rt: HostRuntime) -> Result<(), Fail> {
 
 /// The header, 4,000 variables on the lines 2 to 4001, and a rule whose measure is 4·10^18 and the
 /// size of `most`.
-fn push_big_model(alloc: Global, text: &mut Vec<u8>, most: i64) -> Result<(), AllocError> {
+fn push_big_model(alloc: Global, text: &mut Vec<u8>, most: i64) -> Result<(), OutOfMemory> {
     text.extend_from_slice(b"cgm 1\n")?;
     push_all_numbered(alloc, text, ("var x", " -1000000000 1000000000\n"), 4_000)?;
     text.extend_from_slice(b"require (<= (+")?;
@@ -248,7 +248,7 @@ fn push_big_model(alloc: Global, text: &mut Vec<u8>, most: i64) -> Result<(), Al
 }
 
 /// The text of the problem of that model with the most value 0.
-fn push_big_problem(alloc: Global, text: &mut Vec<u8>) -> Result<(), AllocError> {
+fn push_big_problem(alloc: Global, text: &mut Vec<u8>) -> Result<(), OutOfMemory> {
     text.extend_from_slice(b"cgm-problem 1\n")?;
     push_all_numbered(alloc, text, ("var ", " -1000000000 1000000000\n"), 4_000)?;
     text.extend_from_slice(b"var 4000 0 1\nclause 0 4000>=1\nrow 0 4000>=1 0")?;
@@ -265,7 +265,7 @@ fn is_big(
     most: i64,
     status: Status,
     printed: &[u8],
-) -> Result<bool, AllocError> {
+) -> Result<bool, OutOfMemory> {
     let mut model = Vec::new(alloc);
     push_big_model(alloc, &mut model, most)?;
     prints(
@@ -278,7 +278,7 @@ fn is_big(
 }
 
 /// Whether `encode` prints the problem at the limit.
-fn is_encoded(alloc: Global) -> Result<bool, AllocError> {
+fn is_encoded(alloc: Global) -> Result<bool, OutOfMemory> {
     let mut problem = Vec::new(alloc);
     push_big_problem(alloc, &mut problem)?;
     is_big(

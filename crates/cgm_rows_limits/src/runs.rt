@@ -1,9 +1,9 @@
 // Runs of the program over shelves and sinks in memory.
-use cgm_base::Status;
+use cgm_base::{OutOfMemory, Status};
 use cgm_cli::run_quiet;
 use cgm_shelf::{MemShelf, MemSink};
 use cgm_trail::Work;
-use std::alloc::{AllocError, Global};
+use std::alloc::Global;
 
 pub(crate) const FIRST: &str = "cgm 1\ngoal G must\ntask T\nrefine R G : T\n";
 
@@ -16,7 +16,7 @@ pub(crate) struct Ended {
 }
 
 /// The words of a line, which single spaces part.
-fn owned_words(alloc: Global, line: &str) -> Result<Vec<String>, AllocError> {
+fn owned_words(alloc: Global, line: &str) -> Result<Vec<String>, OutOfMemory> {
     let mut owned = Vec::new(alloc);
     for word in line.split(' ') {
         owned.push(String::from_str(alloc, word)?)?;
@@ -30,7 +30,7 @@ pub(crate) fn run_printing(
     line: &str,
     shelf: &mut MemShelf,
     sink: MemSink,
-) -> Result<Ended, AllocError> {
+) -> Result<Ended, OutOfMemory> {
     let words = owned_words(alloc, line)?;
     Ok(run_to_end(alloc, words.as_slice(), shelf, sink))
 }
@@ -46,7 +46,7 @@ pub(crate) fn run_words(
     alloc: Global,
     line: &str,
     shelf: &mut MemShelf,
-) -> Result<Ended, AllocError> {
+) -> Result<Ended, OutOfMemory> {
     run_printing(
         alloc,
         line,
@@ -61,7 +61,7 @@ pub(crate) fn shelf_of(
     model: &[u8],
     name: &str,
     bytes: &[u8],
-) -> Result<MemShelf, AllocError> {
+) -> Result<MemShelf, OutOfMemory> {
     let mut shelf = MemShelf::new(alloc, 65_536, Vec::new(alloc), Vec::new(alloc));
     shelf.put("model.cgm", model)?;
     shelf.put(name, bytes)?;
@@ -80,7 +80,7 @@ pub(crate) fn prints(
     model: &[u8],
     (name, bytes): (&str, &[u8]),
     (status, printed): (Status, &[u8]),
-) -> Result<bool, AllocError> {
+) -> Result<bool, OutOfMemory> {
     let mut shelf = shelf_of(alloc, model, name, bytes)?;
     prints_over(alloc, line, &mut shelf, status, printed)
 }
@@ -91,7 +91,7 @@ fn prints_over(
     shelf: &mut MemShelf,
     status: Status,
     printed: &[u8],
-) -> Result<bool, AllocError> {
+) -> Result<bool, OutOfMemory> {
     let ended = run_words(alloc, line, shelf)?;
     Ok(has_answered(&ended, status, printed))
 }

@@ -1,9 +1,10 @@
 //! Shelves and sinks by themselves: what came before a fault is kept, and faults are counted.
+use cgm_base::OutOfMemory;
 use cgm_shelf::{
     FileShelf, MemShelf, MemSink, NullSink, OutSink, ReadStop, Shelf, Sink, read_whole, write_file,
     write_whole,
 };
-use std::alloc::{AllocError, Global};
+use std::alloc::Global;
 use std::rt::Files;
 use std::test::Fail;
 
@@ -12,7 +13,7 @@ fn shelf_of_ten(
     alloc: Global,
     fail_reads: Vec<u64>,
     fail_writes: Vec<u64>,
-) -> Result<MemShelf, AllocError> {
+) -> Result<MemShelf, OutOfMemory> {
     let mut shelf = MemShelf::new(alloc, 4, fail_reads, fail_writes);
     shelf.put("ten", b"0123456789")?;
     Ok(shelf)
@@ -117,7 +118,7 @@ fn writes_of_texts(rt: HostRuntime) -> Result<(), Fail> {
 }
 
 /// A read of a whole file of so many bytes, of whose reads one fails: does it end with all of them?
-fn ends_whole(alloc: Global, size: usize, failing: u64) -> Result<bool, AllocError> {
+fn ends_whole(alloc: Global, size: usize, failing: u64) -> Result<bool, OutOfMemory> {
     let bytes = vec![in alloc; b'a'; size]?;
     let mut shelf = MemShelf::new(alloc, 1_000_000, vec![in alloc; failing]?, Vec::new(alloc));
     shelf.put("file", bytes.as_slice())?;

@@ -1,5 +1,6 @@
 // Texts that are long because a line of them repeats.
-use std::alloc::{AllocError, Global};
+use cgm_base::OutOfMemory;
+use std::alloc::Global;
 
 /// The front, and behind it the line, again and again.
 pub(crate) fn repeated(
@@ -7,7 +8,7 @@ pub(crate) fn repeated(
     front: &str,
     line: &str,
     count: u32,
-) -> Result<Vec<u8>, AllocError> {
+) -> Result<Vec<u8>, OutOfMemory> {
     let mut text = Vec::from_slice(alloc, front.as_bytes())?;
     for _ in 0..count {
         text.extend_from_slice(line.as_bytes())?;
@@ -21,7 +22,7 @@ fn push_numbered(
     text: &mut Vec<u8>,
     (head, tail): (&str, &str),
     number: u32,
-) -> Result<(), AllocError> {
+) -> Result<(), OutOfMemory> {
     let line = format!(in alloc; "{head}{number}{tail}")?;
     text.extend_from_slice(line.as_bytes())
 }
@@ -32,7 +33,7 @@ pub(crate) fn push_all_numbered(
     text: &mut Vec<u8>,
     around: (&str, &str),
     count: u32,
-) -> Result<(), AllocError> {
+) -> Result<(), OutOfMemory> {
     for number in 0..count {
         push_numbered(alloc, text, around, number)?;
     }
@@ -45,7 +46,7 @@ pub(crate) fn padded(
     front: &str,
     byte: u8,
     count: usize,
-) -> Result<Vec<u8>, AllocError> {
+) -> Result<Vec<u8>, OutOfMemory> {
     let mut text = Vec::from_slice(alloc, front.as_bytes())?;
     let rest = vec![in alloc; byte; count]?;
     text.extend_from_slice(rest.as_slice())?;

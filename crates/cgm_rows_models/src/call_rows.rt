@@ -1,9 +1,9 @@
 // Small calls: codes of statuses, lists, names, tokens and the order of vectors.
-use cgm_base::Status;
+use cgm_base::{OutOfMemory, Status};
 use cgm_lex::tokens;
 use cgm_model::{Name, Parts};
 use cgm_obj::less;
-use std::alloc::{AllocError, Global};
+use std::alloc::Global;
 use std::test::Fail;
 
 const CODES: &[(Status, u8)] = &[
@@ -28,7 +28,7 @@ fn codes(rt: HostRuntime) {
 }
 
 /// Whether a list grows, and gives back what it has.
-fn grows(alloc: Global) -> Result<bool, AllocError> {
+fn grows(alloc: Global) -> Result<bool, OutOfMemory> {
     let mut parts = Parts::of(vec![in alloc; 3, 5]?);
     parts.push(7)?;
     let is_seen = parts.as_slice() == [3, 5, 7].as_slice();
@@ -36,7 +36,7 @@ fn grows(alloc: Global) -> Result<bool, AllocError> {
 }
 
 /// Whether a name grows, and gives back what it has.
-fn grows_in_name(alloc: Global) -> Result<bool, AllocError> {
+fn grows_in_name(alloc: Global) -> Result<bool, OutOfMemory> {
     let mut name = Name::of(String::from_str(alloc, "R")?);
     name.push('1')?;
     let is_seen = name.as_slice() == b"R1".as_slice();

@@ -1,6 +1,7 @@
 // Models, and what is asked of them. The questions are those of `questions`.
 use crate::models::{Asked, answers};
-use std::alloc::{AllocError, Global};
+use cgm_base::OutOfMemory;
+use std::alloc::Global;
 use std::test::Fail;
 
 /// Model texts and their questions.
@@ -54,7 +55,7 @@ fn models(rt: HostRuntime) -> Result<(), Fail> {
 
 /// A requirement that so many variables of 1000000000, each times 1000000, are at most the greatest
 /// number of 64 bits.
-fn text_of_a_great_sum(alloc: Global, count: u32) -> Result<String, AllocError> {
+fn text_of_a_great_sum(alloc: Global, count: u32) -> Result<String, OutOfMemory> {
     let mut text = String::from_str(alloc, "cgm 1\n")?;
     push_variables(alloc, &mut text, count)?;
     text.push_str("require (<= (+")?;
@@ -63,7 +64,7 @@ fn text_of_a_great_sum(alloc: Global, count: u32) -> Result<String, AllocError> 
     Ok(text)
 }
 
-fn push_variables(alloc: Global, text: &mut String, count: u32) -> Result<(), AllocError> {
+fn push_variables(alloc: Global, text: &mut String, count: u32) -> Result<(), OutOfMemory> {
     for number in 1..=count {
         let line = format!(in alloc; "var X{number} 0 1000000000\n")?;
         text.push_str(line.as_str())?;
@@ -71,7 +72,7 @@ fn push_variables(alloc: Global, text: &mut String, count: u32) -> Result<(), Al
     Ok(())
 }
 
-fn push_terms(alloc: Global, text: &mut String, count: u32) -> Result<(), AllocError> {
+fn push_terms(alloc: Global, text: &mut String, count: u32) -> Result<(), OutOfMemory> {
     for number in 1..=count {
         let term = format!(in alloc; " (* 1000000 X{number})")?;
         text.push_str(term.as_str())?;
@@ -80,7 +81,7 @@ fn push_terms(alloc: Global, text: &mut String, count: u32) -> Result<(), AllocE
 }
 
 /// The question which rule so many such numbers break.
-fn question_of_a_great_sum(alloc: Global, count: u32, wanted: &str) -> Result<String, AllocError> {
+fn question_of_a_great_sum(alloc: Global, count: u32, wanted: &str) -> Result<String, OutOfMemory> {
     let mut question = String::from_str(alloc, "by - - 1000000000")?;
     for _ in 1..count {
         question.push_str(",1000000000")?;

@@ -3,20 +3,21 @@ use crate::cert_rows::is_printed_again;
 use crate::problems::{discard, problem_of};
 use crate::verdicts::is_told_by;
 use cgm_atom::Problem;
+use cgm_base::OutOfMemory;
 use cgm_cert::read_cert;
-use std::alloc::{AllocError, Global};
+use std::alloc::Global;
 use std::test::Fail;
 
 const LENGTH: u32 = 300;
 
 /// A chain: variable 0 is 1, each variable is 1 where the one before it is, and the last one is 0.
-fn chain(alloc: Global) -> Result<String, AllocError> {
+fn chain(alloc: Global) -> Result<String, OutOfMemory> {
     let mut text = String::from_str(alloc, "vars 0..1")?;
     push_chain(alloc, &mut text)?;
     Ok(text)
 }
 
-fn push_chain(alloc: Global, text: &mut String) -> Result<(), AllocError> {
+fn push_chain(alloc: Global, text: &mut String) -> Result<(), OutOfMemory> {
     push_variables(text)?;
     text.push_str("; clause 0>=1")?;
     push_links(alloc, text)?;
@@ -24,14 +25,14 @@ fn push_chain(alloc: Global, text: &mut String) -> Result<(), AllocError> {
     text.push_str(end.as_str())
 }
 
-fn push_variables(text: &mut String) -> Result<(), AllocError> {
+fn push_variables(text: &mut String) -> Result<(), OutOfMemory> {
     for _ in 1..LENGTH {
         text.push_str(" 0..1")?;
     }
     Ok(())
 }
 
-fn push_links(alloc: Global, text: &mut String) -> Result<(), AllocError> {
+fn push_links(alloc: Global, text: &mut String) -> Result<(), OutOfMemory> {
     for x in 1..LENGTH {
         let clause = format!(in alloc; "; clause {}<=0 {x}>=1", x - 1)?;
         text.push_str(clause.as_str())?;

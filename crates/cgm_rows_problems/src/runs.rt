@@ -4,7 +4,8 @@
 ghost use Rattle.std.specs.Prelude.{◌≤◌, ◌^◌};
 
 use crate::words::{after, count, is_count, number, parted};
-use cgm_atom::{Entry, OutOfMemory, Problem};
+use cgm_atom::{Entry, Problem};
+use cgm_base::OutOfMemory;
 use cgm_log::{Alone, Log, Trader};
 use cgm_search::{Gate, Plan, Stopped, Worker};
 use std::alloc::Global;

@@ -9,7 +9,8 @@ ghost use Rattle.cgm_log.specs.Landing.{IsProperBatch};
 
 use crate::problems::problem_of;
 use crate::words::{are_numbers, count, is_count, numbers, parted, place};
-use cgm_atom::{BoxState, Clause, Entry, Hint, OutOfMemory, Seq, satisfied};
+use cgm_atom::{BoxState, Clause, Entry, Hint, Seq, satisfied};
+use cgm_base::OutOfMemory;
 use cgm_log::{Batch, Fate, Log, Traded};
 use cgm_step::accepts_next;
 use std::alloc::Global;

@@ -5,7 +5,8 @@ ghost use Rattle.cgm_atom.specs.Placing.{HintsCanBePlaced, all_placed};
 ghost use Rattle.cgm_learn.specs.Learning.{lemma_by};
 ghost use Rattle.cgm_search.specs.Trading.{kept_of};
 
-use cgm_atom::{Entry, OutOfMemory, Seq, copy_entries, place_all};
+use cgm_atom::{Entry, Seq, copy_entries, place_all};
+use cgm_base::OutOfMemory;
 use cgm_learn::Learned;
 use cgm_log::{Batch, Fate};
 use std::alloc::Global;

@@ -15,7 +15,8 @@ use crate::batches::lemma_batch;
 use crate::gates::Gate;
 use crate::plans::Stopped;
 use crate::searches::Search;
-use cgm_atom::{Atom, Hint, OutOfMemory};
+use cgm_atom::{Atom, Hint};
+use cgm_base::OutOfMemory;
 use cgm_learn::{Learned, analyse};
 use cgm_log::Trader;
 

@@ -9,7 +9,8 @@ ghost use Rattle.cgm_clauses.specs.StoreState.{IsStoreOf};
 ghost use Rattle.cgm_search.specs.Cutting.{IsOfParts, parts_of};
 ghost use Rattle.cgm_search.specs.Storing.{cut_named, without_cut};
 
-use cgm_atom::{Atom, Clause, ClauseAtoms, Hint, OutOfMemory, Problem, Seq, Var};
+use cgm_atom::{Atom, Clause, ClauseAtoms, Hint, Problem, Seq, Var};
+use cgm_base::OutOfMemory;
 use cgm_clauses::ClauseStore;
 use std::alloc::Global;
 

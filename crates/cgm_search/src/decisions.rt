@@ -6,7 +6,8 @@ ghost use Rattle.cgm_split.specs.Halving.{IsLowerHalf, IsPoint};
 ghost use Rattle.cgm_trail.specs.TrailState.{IsOpenIn, box_of};
 
 use crate::plans::Plan;
-use cgm_atom::{Atom, BoxState, Hint, OutOfMemory, Problem};
+use cgm_atom::{Atom, BoxState, Hint, Problem};
+use cgm_base::OutOfMemory;
 use cgm_split::{Activity, Order, next};
 use cgm_trail::{Change, Reason, Trail};
 use std::alloc::Global;

@@ -7,7 +7,8 @@ ghost use Rattle.cgm_search.specs.Storing.{IsLongLemma, is_of_cut, last_cut, sto
 ghost use Rattle.std.specs.List.{filter};
 
 use crate::cuts::renew_cut;
-use cgm_atom::{Entry, Hint, OutOfMemory, Problem};
+use cgm_atom::{Entry, Hint, Problem};
+use cgm_base::OutOfMemory;
 use cgm_clauses::ClauseStore;
 use cgm_step::{IndexedLog, LogIndex};
 use std::alloc::Global;

@@ -15,7 +15,6 @@ mod trades;
 mod units;
 mod workers;
 
-pub use cgm_atom::OutOfMemory;
 use cgm_log::Alone;
 pub use gates::{Gate, IdleGate};
 pub use plans::{MAX_BUDGET, MAX_RESTARTS, NoWorker, Plan, Stopped};

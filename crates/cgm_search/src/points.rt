@@ -2,7 +2,8 @@
 ghost use Rattle.std.specs.Prelude.{◌≡◌, ◌+◌, ◌<◌, length, IfOk};
 ghost use Rattle.cgm_atom.specs.Instance.{var_count};
 
-use cgm_atom::{BoxState, OutOfMemory, Problem, Var};
+use cgm_atom::{BoxState, Problem, Var};
+use cgm_base::OutOfMemory;
 use std::alloc::Global;
 
 /// The least value of each variable.

@@ -9,7 +9,8 @@ use crate::decisions::Choice;
 use crate::knowledge::Known;
 use crate::plans::Plan;
 use crate::settlement::settle;
-use cgm_atom::{OutOfMemory, Problem};
+use cgm_atom::Problem;
+use cgm_base::OutOfMemory;
 use cgm_trail::{Swept, Trail};
 use std::alloc::Global;
 

@@ -5,7 +5,8 @@ ghost use Rattle.cgm_search.specs.Settling.{IsOneRound, IsRoundName, IsRowName, 
 ghost use Rattle.cgm_trail.specs.Steps.{IsPropagated};
 ghost use Rattle.cgm_trail.specs.TrailState.{box_of};
 
-use cgm_atom::{OutOfMemory, Problem};
+use cgm_atom::Problem;
+use cgm_base::OutOfMemory;
 use cgm_clauses::ClauseStore;
 use cgm_linear::propagate_row;
 use cgm_trail::{Swept, Trail};

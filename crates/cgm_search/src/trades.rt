@@ -12,7 +12,7 @@ use crate::batches::{copy_batch, landing_of};
 use crate::gates::{AFTER_TRADE, BEFORE_TRADE, Gate};
 use crate::knowledge::Known;
 use crate::searches::Search;
-use cgm_atom::OutOfMemory;
+use cgm_base::OutOfMemory;
 use cgm_log::{Batch, Traded, Trader};
 use std::alloc::Global;
 

@@ -12,7 +12,8 @@ use crate::gates::Gate;
 use crate::plans::Stopped;
 use crate::points::least_values;
 use crate::searches::Search;
-use cgm_atom::{Atom, OutOfMemory};
+use cgm_atom::Atom;
+use cgm_base::OutOfMemory;
 use cgm_log::Trader;
 use cgm_trail::Swept;
 

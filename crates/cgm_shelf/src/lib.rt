@@ -12,5 +12,4 @@ pub use host::{FileShelf, OutSink};
 pub use mem_shelf::MemShelf;
 pub use mem_sink::{MemSink, NullSink};
 pub use outside::{Failed, Shelf, Sink};
-pub use std::alloc::AllocError as OutOfMemory;
 pub use whole::{ReadStop, read_whole, write_file, write_whole};

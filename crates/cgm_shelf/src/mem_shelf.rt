@@ -4,7 +4,8 @@ ghost use Rattle.cgm_shelf.specs.MemFiles.{files_in, files_small};
 ghost use Rattle.cgm_shelf.specs.Shelf.{Appends, IsAppend, IsRead, IsStart, OnlyChanges};
 
 use crate::calls::Calls;
-use crate::{Failed, OutOfMemory, Shelf};
+use crate::{Failed, Shelf};
+use cgm_base::OutOfMemory;
 use std::alloc::Global;
 use std::collections::BTreeMap;
 

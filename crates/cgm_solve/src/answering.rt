@@ -5,7 +5,8 @@ ghost use Rattle.cgm_solve.specs.Answers.{IsLastBestOf};
 ghost use Rattle.cgm_solve.specs.Runs.{IsExhausted, IsAnswerTold, closed_answer};
 
 use crate::running::Ended;
-use cgm_atom::{Entry, OutOfMemory, Seq};
+use cgm_atom::{Entry, Seq};
+use cgm_base::OutOfMemory;
 use cgm_encode::{Answer, Encoded, Found, decoded};
 use cgm_log::Log;
 use cgm_search::Stopped;

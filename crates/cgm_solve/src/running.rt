@@ -3,7 +3,8 @@ ghost use Rattle.std.specs.Prelude.{◌≡◌, None, IfOk};
 ghost use Rattle.cgm_search.specs.Searching.{IsPlan};
 ghost use Rattle.cgm_solve.specs.Runs.{IsEnded};
 
-use cgm_atom::{OutOfMemory, Problem};
+use cgm_atom::Problem;
+use cgm_base::OutOfMemory;
 use cgm_log::{Alone, Log, Trader};
 use cgm_search::{IdleGate, Plan, Stopped, Worker};
 use cgm_trail::Trail;

@@ -7,7 +7,7 @@ ghost use Rattle.cgm_solve.specs.Searches.{IsSearchAnswer};
 
 use crate::answering::tell;
 use crate::running::run_worker;
-use cgm_atom::OutOfMemory;
+use cgm_base::OutOfMemory;
 use cgm_encode::{Answer, Encoded, SolveStop, encode};
 use cgm_evolve::Earlier;
 use cgm_model::Model;

@@ -5,7 +5,8 @@ ghost use Rattle.cgm_atom.specs.Instance.{IsSolution};
 ghost use Rattle.cgm_encode.specs.Decoding.{ForEncoded};
 ghost use Rattle.cgm_solve.specs.Answers.{IsDecodedBest, IsVerifyAnswer, IsVerified};
 
-use cgm_atom::{BadStep, Entry, OutOfMemory, Seq, copy_entries};
+use cgm_atom::{BadStep, Entry, Seq, copy_entries};
+use cgm_base::OutOfMemory;
 use cgm_check::{Verdict, check};
 use cgm_encode::{Answer, Encoded, Found, SolveStop, decoded, encode};
 use cgm_evolve::Earlier;

@@ -9,7 +9,8 @@ ghost use Rattle.cgm_split.specs.Weighing.{IsHeaviest, comes_before, increment_g
 use crate::drawing::variable_order;
 use crate::halves::{is_proper, is_unfixed, lower_half};
 use cgm_atom::{Atom, BoxState, Problem, Var};
-use std::alloc::{AllocError as OutOfMemory, Global};
+use cgm_base::OutOfMemory;
+use std::alloc::Global;
 use std::marker::Model;
 
 const FIRST_INCREMENT: u64 = 1 << 16;

@@ -3,9 +3,10 @@ ghost use Rattle.std.specs.Prelude.{◌≡◌, ◌<◌, ◌^◌, ◌≤◌, leng
 ghost use Rattle.cgm_split.specs.Drawing.{IsEachOnce, by_number, drawn, generator, order_of, shuffled};
 
 use cgm_atom::Var;
+use cgm_base::OutOfMemory;
 use rand_core::utils::NextWord;
 use rand_pcg::Pcg32;
-use std::alloc::{AllocError as OutOfMemory, Global};
+use std::alloc::Global;
 
 /// Each variable once: by number for worker 0, in a drawn order for the others.
 #[tactic(auto, using(crate::proofs::Shuffling::each_once_by_number, crate::proofs::Shuffling::order_of_first))]

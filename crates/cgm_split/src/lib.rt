@@ -8,7 +8,6 @@ mod orders;
 
 pub use activities::Activity;
 pub use orders::{Order, next};
-pub use std::alloc::AllocError as OutOfMemory;
 use std::marker::Send;
 
 // Both orders can be moved to a thread.

@@ -10,7 +10,8 @@ ghost use Rattle.cgm_split.specs.Preferring.{IsByNumber, IsPreference, preferred
 use crate::drawing::variable_order;
 use crate::halves::{first_unfixed, is_proper, lower_half};
 use cgm_atom::{Atom, BoxState, Problem, Var};
-use std::alloc::{AllocError as OutOfMemory, Global};
+use cgm_base::OutOfMemory;
+use std::alloc::Global;
 use std::marker::Model;
 
 /// An order of decisions: the problem's objectives first, then its variables, for worker 0 by

@@ -3,7 +3,8 @@ ghost use Rattle.std.specs.Prelude.{◌≡◌, ◌+◌, ◌^◌, ◌<◌, ◌≤
 ghost use Rattle.cgm_atom.specs.declared.entries.Entry.{Entry};
 ghost use Rattle.cgm_step.specs.Indexing.{IsLogIndexOf, empty_index, index_after, index_with};
 
-use cgm_atom::{Entry, OutOfMemory};
+use cgm_atom::Entry;
+use cgm_base::OutOfMemory;
 use std::alloc::Global;
 use std::marker::{Model, Send};
 

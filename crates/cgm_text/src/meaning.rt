@@ -11,6 +11,7 @@ use crate::take::bytes_in;
 use crate::word::name_of;
 use crate::written;
 use crate::written::{Term, Tree, Word, Written};
+use cgm_base::OutOfMemory;
 use cgm_model::{
     Assertion, Edge, Element, ElementKind, Formula, Linear, ModelBuilder, Number, Objective, Parts,
     Preference, Quantity, Refinement, Rule, Statement, Sum, SumValue, Thing, Truth, Variable,
@@ -20,7 +21,7 @@ use cgm_print::words::{
     Comparison, ConditionWord, Direction, Joint, NameWord, PairWord, Pairing, WeightWord,
 };
 use sqlite_items::Boxed;
-use std::alloc::{AllocError as OutOfMemory, Global};
+use std::alloc::Global;
 
 /// The number of the element with this name; 0 where there is none, here and below.
 fn element(builder: &ModelBuilder, line: &[u8], word: Word) -> u32

@@ -9,7 +9,6 @@ mod stepping;
 mod trails;
 mod works;
 
-pub use cgm_atom::OutOfMemory;
 pub use changes::{Change, Reason, Swept};
 pub use landing::landed;
 use std::marker::Send;

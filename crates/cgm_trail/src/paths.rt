@@ -7,7 +7,8 @@ ghost use Rattle.cgm_trail.specs.TrailState.{AreChanges, IsOpenIn, box_after, ch
 
 use crate::changes::{Change, Reason};
 use crate::landing::change_landed;
-use cgm_atom::{Atom, BoxState, Hint, OutOfMemory, Problem};
+use cgm_atom::{Atom, BoxState, Hint, Problem};
+use cgm_base::OutOfMemory;
 use std::alloc::Global;
 use std::marker::Model;
 

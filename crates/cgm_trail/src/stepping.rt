@@ -5,7 +5,8 @@ ghost use Rattle.cgm_trail.specs.Steps.{IsGiven, IsOnly, IsPropagated};
 ghost use Rattle.cgm_trail.specs.TrailState.{IsOpenIn, box_of, tightened};
 
 use crate::trails::Trail;
-use cgm_atom::{Atom, Hint, OutOfMemory};
+use cgm_atom::{Atom, Hint};
+use cgm_base::OutOfMemory;
 
 /// Makes an atom true that is neither true nor false, as narrowing by the hint does, and takes one
 /// from `left`. `left` is at least 1, and the trail's moves with `left` are at most 2^62.

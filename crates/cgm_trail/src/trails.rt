@@ -6,7 +6,8 @@ ghost use Rattle.cgm_trail.specs.TrailState.{IsAtRest, IsOpenIn, box_of, cut_tra
 
 use crate::changes::Change;
 use crate::paths::Path;
-use cgm_atom::{Atom, BoxState, Hint, OutOfMemory, Problem};
+use cgm_atom::{Atom, BoxState, Hint, Problem};
+use cgm_base::OutOfMemory;
 use std::alloc::Global;
 use std::marker::Model;
 

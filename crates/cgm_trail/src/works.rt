@@ -2,7 +2,7 @@
 ghost use Rattle.std.specs.Prelude.{◌≡◌, ◌++◌, [], OnOk, OnErr};
 
 use crate::trails::Trail;
-use cgm_atom::OutOfMemory;
+use cgm_base::OutOfMemory;
 use std::alloc::Global;
 use std::marker::Model;
 

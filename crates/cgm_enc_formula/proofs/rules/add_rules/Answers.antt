@@ -4,7 +4,7 @@ use Rattle.cgm_atom.specs.Instance.{var_count}
 use Rattle.cgm_model.specs.declared.lists.Rule.{Rule}
 use Rattle.cgm_model.specs.Formulas.{formula_of}
 use Rattle.cgm_model.specs.Model.{lists_of}
-use Rattle.cgm_model.specs.Place.{Each}
+use Rattle.cgm_base.specs.Place.{Each}
 use Rattle.cgm_enc_formula.specs.Building.{HasRoomFor, rules_part}
 use Rattle.cgm_enc_formula.specs.Measures.{HasKnownNumbers, IsWithinMeasure}
 use Rattle.cgm_enc_formula.specs.Rules.{IsEncodableRule}

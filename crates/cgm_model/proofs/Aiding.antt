@@ -270,11 +270,6 @@ pub after_push : {X : Type 0} (P : List X → Type 0) (ok : Bool) (xs : List X) 
 after_push P true xs x new is before after = subst P (sym is) after
 after_push P false xs x new is before after = subst P (sym is) before
 
--- a clause of a call that succeeded
-pub ok_clause : {T E : Type 0} (P : Type 0) (r : Result T E) → true ≡ is_ok r → OnOk r P → P
-ok_clause P (Ok x) e h = h
-ok_clause P (Err x) e h = absurd (false≢true (sym e))
-
 -- ---- no statement yet
 
 nothing_named : (q : List ℕ) (t : Thing) → ¬ IsNamedThing no_lists q t

@@ -1,5 +1,5 @@
 -- A model as the lists of its statements by group, each in the order in which they were made.
-use Rattle.std.specs.Prelude.{ℕ, ◌+◌, List, [], ◌∷◌, ◌++◌, length}
+use Rattle.std.specs.Prelude.{◌≡◌, ℕ, ◌+◌, List, [], ◌∷◌, ◌++◌, length, Result, is_ok, if◌then◌else◌}
 use Rattle.cgm_model.specs.declared.lists.Element.{Element}
 use Rattle.cgm_model.specs.declared.lists.Refinement.{Refinement}
 use Rattle.cgm_model.specs.declared.lists.Variable.{Variable}
@@ -62,3 +62,7 @@ statement_count m =
     + length m.contribs + length m.conflicts + length m.binds + length m.asserts
     + length m.values + length m.rewards + length m.penalties + length m.prefers
     + length m.rules + length m.interests + length m.objectives
+
+-- the statement is added whole, or nothing is
+abbrev pub Pushes : {T E : Type 0} → Lists → Lists → Statement → Result T E → Type 0
+Pushes old new statement result = new ≡ (if is_ok result then added old statement else old)

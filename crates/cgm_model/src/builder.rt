@@ -4,7 +4,7 @@ ghost use Rattle.cgm_model.specs.Facts.{AreFacts};
 ghost use Rattle.cgm_model.specs.Graph.{IsAcyclic};
 ghost use Rattle.cgm_model.specs.declared.lists.Lists.{Lists};
 ghost use Rattle.cgm_model.specs.Keeping.{AreFor, HasGraphRoom};
-ghost use Rattle.cgm_model.specs.Lists.{no_lists, added};
+ghost use Rattle.cgm_model.specs.Lists.{no_lists, added, Pushes};
 ghost use Rattle.cgm_model.specs.Model.{lists_of};
 ghost use Rattle.cgm_model.specs.Named.{thing_named};
 ghost use Rattle.cgm_model.specs.Statement.{IsProperStatement, IsAllowed, IsNotAdded};
@@ -18,6 +18,7 @@ use crate::model::Model;
 use crate::names::NameTable;
 use crate::stop::AddStop;
 use crate::{admission, formulas, graph, limits, names};
+use cgm_base::OutOfMemory;
 use cgm_formula::Parts;
 use std::alloc::Global;
 use std::marker;
@@ -183,7 +184,10 @@ fn add(lists: &mut Lists, aids: &mut Aids, statement: Statement) -> Result<(), A
     let acyclic = stays_acyclic(lists, aids, &statement);
     match admission::refusal(lists, aids, &statement, acyclic) {
         Some(stop) => Err(stop),
-        None => push(lists, aids, statement),
+        None => match push(lists, aids, statement) {
+            Ok(()) => Ok(()),
+            Err(_) => Err(AddStop::Memory),
+        },
     }
 }
 
@@ -204,73 +208,69 @@ fn stays_acyclic(lists: &Lists, aids: &mut Aids, statement: &Statement) -> bool
 }
 
 /// Adds a statement as it is, or leaves the lists for want of memory.
-fn push(lists: &mut Lists, aids: &mut Aids, statement: Statement) -> Result<(), AddStop>
+fn push(lists: &mut Lists, aids: &mut Aids, statement: Statement) -> Result<(), OutOfMemory>
     requires well_formed { IsWellFormedModel lists.old }
     requires aids { AreFor lists.old aids.old }
     requires proper { IsProperStatement lists.old statement }
     requires allowed { IsAllowed lists.old statement }
-    ensures lists { lists.new ≡ (if is_ok result then added lists.old statement else lists.old) }
+    ensures lists { Pushes lists.old lists.new statement result }
     ensures aids { AreFor lists.new aids.new }
-    ensures memory { IfErr result (λ stop. stop ≡ AddStop.Memory) }
 {
     match statement {
         Statement::Element(e) => push_element(lists, aids, e),
         Statement::Refine(r) => push_refinement(lists, aids, r),
         Statement::Variable(v) => push_variable(lists, aids, v),
         Statement::Sum(x) => push_sum(lists, aids, x),
-        Statement::Contrib(e) => lists.contribs.push(e).map_err(|_| AddStop::Memory),
-        Statement::Conflict(e) => lists.conflicts.push(e).map_err(|_| AddStop::Memory),
-        Statement::Bind(e) => lists.binds.push(e).map_err(|_| AddStop::Memory),
-        Statement::Assert(a) => lists.asserts.push(a).map_err(|_| AddStop::Memory),
-        Statement::Value(v) => lists.values.push(v).map_err(|_| AddStop::Memory),
-        Statement::Reward(w) => lists.rewards.push(w).map_err(|_| AddStop::Memory),
-        Statement::Penalty(w) => lists.penalties.push(w).map_err(|_| AddStop::Memory),
-        Statement::Prefer(p) => lists.prefers.push(p).map_err(|_| AddStop::Memory),
+        Statement::Contrib(e) => lists.contribs.push(e).map_err(|_| OutOfMemory),
+        Statement::Conflict(e) => lists.conflicts.push(e).map_err(|_| OutOfMemory),
+        Statement::Bind(e) => lists.binds.push(e).map_err(|_| OutOfMemory),
+        Statement::Assert(a) => lists.asserts.push(a).map_err(|_| OutOfMemory),
+        Statement::Value(v) => lists.values.push(v).map_err(|_| OutOfMemory),
+        Statement::Reward(w) => lists.rewards.push(w).map_err(|_| OutOfMemory),
+        Statement::Penalty(w) => lists.penalties.push(w).map_err(|_| OutOfMemory),
+        Statement::Prefer(p) => lists.prefers.push(p).map_err(|_| OutOfMemory),
         Statement::Rule(r) => push_rule(lists, aids, r),
         Statement::Interest(element) => push_interest(lists, aids, element),
-        Statement::Objective(o) => lists.objectives.push(o).map_err(|_| AddStop::Memory),
+        Statement::Objective(o) => lists.objectives.push(o).map_err(|_| OutOfMemory),
     }
 }
 
-fn push_element(lists: &mut Lists, aids: &mut Aids, element: Element) -> Result<(), AddStop>
+fn push_element(lists: &mut Lists, aids: &mut Aids, element: Element) -> Result<(), OutOfMemory>
     requires well_formed { IsWellFormedModel lists.old }
     requires aids { AreFor lists.old aids.old }
     requires allowed { IsAllowed lists.old (Statement.Element element) }
-    ensures lists { lists.new ≡ (if is_ok result then added lists.old (Statement.Element element) else lists.old) }
+    ensures lists { Pushes lists.old lists.new (Statement.Element element) result }
     ensures aids { AreFor lists.new aids.new }
-    ensures memory { IfErr result (λ stop. stop ≡ AddStop.Memory) }
 {
     let thing = Thing::Element(lists.elements.as_slice().len() as u32);
     make_room(aids)?;
     names::declare(aids.alloc, &mut aids.names, element.name.as_slice(), thing)?;
-    lists.elements.push(element).map_err(|_| AddStop::Memory)
+    lists.elements.push(element).map_err(|_| OutOfMemory)
 }
 
 /// Makes room for one more element.
-fn make_room(aids: &mut Aids) -> Result<(), AddStop>
+fn make_room(aids: &mut Aids) -> Result<(), OutOfMemory>
     ensures kept { (m : Lists) → AreFor m aids.old → AreFor m aids.new }
     ensures more { OnOk result ((m : Lists) → AreFor m aids.old → HasGraphRoom (length m.elements + 1) aids.new) }
-    ensures memory { IfErr result (λ stop. stop ≡ AddStop.Memory) }
 {
-    graph::grow(aids.alloc, &mut aids.graph).map_err(|_| AddStop::Memory)?;
-    aids.interests.push(false).map_err(|_| AddStop::Memory)
+    graph::grow(aids.alloc, &mut aids.graph)?;
+    aids.interests.push(false).map_err(|_| OutOfMemory)
 }
 
 fn push_refinement(
     lists: &mut Lists,
     aids: &mut Aids,
     refinement: Refinement,
-) -> Result<(), AddStop>
+) -> Result<(), OutOfMemory>
     requires well_formed { IsWellFormedModel lists.old }
     requires aids { AreFor lists.old aids.old }
     requires proper { IsProperStatement lists.old (Statement.Refine refinement) }
     requires allowed { IsAllowed lists.old (Statement.Refine refinement) }
-    ensures lists { lists.new ≡ (if is_ok result then added lists.old (Statement.Refine refinement) else lists.old) }
+    ensures lists { Pushes lists.old lists.new (Statement.Refine refinement) result }
     ensures aids { AreFor lists.new aids.new }
-    ensures memory { IfErr result (λ stop. stop ≡ AddStop.Memory) }
 {
     let number = lists.refinements.as_slice().len() as u32;
-    graph::link(&mut aids.graph, number, &refinement).map_err(|_| AddStop::Memory)?;
+    graph::link(&mut aids.graph, number, &refinement)?;
     let thing = Thing::Refinement(number);
     names::declare(
         aids.alloc,
@@ -278,59 +278,52 @@ fn push_refinement(
         refinement.name.as_slice(),
         thing,
     )?;
-    lists
-        .refinements
-        .push(refinement)
-        .map_err(|_| AddStop::Memory)
+    lists.refinements.push(refinement).map_err(|_| OutOfMemory)
 }
 
-fn push_variable(lists: &mut Lists, aids: &mut Aids, variable: Variable) -> Result<(), AddStop>
+fn push_variable(lists: &mut Lists, aids: &mut Aids, variable: Variable) -> Result<(), OutOfMemory>
     requires well_formed { IsWellFormedModel lists.old }
     requires aids { AreFor lists.old aids.old }
     requires allowed { IsAllowed lists.old (Statement.Variable variable) }
-    ensures lists { lists.new ≡ (if is_ok result then added lists.old (Statement.Variable variable) else lists.old) }
+    ensures lists { Pushes lists.old lists.new (Statement.Variable variable) result }
     ensures aids { AreFor lists.new aids.new }
-    ensures memory { IfErr result (λ stop. stop ≡ AddStop.Memory) }
 {
     let thing = Thing::Var(lists.vars.as_slice().len() as u32);
     names::declare(aids.alloc, &mut aids.names, variable.name.as_slice(), thing)?;
-    lists.vars.push(variable).map_err(|_| AddStop::Memory)
+    lists.vars.push(variable).map_err(|_| OutOfMemory)
 }
 
-fn push_sum(lists: &mut Lists, aids: &mut Aids, sum: Sum) -> Result<(), AddStop>
+fn push_sum(lists: &mut Lists, aids: &mut Aids, sum: Sum) -> Result<(), OutOfMemory>
     requires well_formed { IsWellFormedModel lists.old }
     requires aids { AreFor lists.old aids.old }
     requires allowed { IsAllowed lists.old (Statement.Sum sum) }
-    ensures lists { lists.new ≡ (if is_ok result then added lists.old (Statement.Sum sum) else lists.old) }
+    ensures lists { Pushes lists.old lists.new (Statement.Sum sum) result }
     ensures aids { AreFor lists.new aids.new }
-    ensures memory { IfErr result (λ stop. stop ≡ AddStop.Memory) }
 {
     let thing = Thing::Sum(lists.sums.as_slice().len() as u32);
     names::declare(aids.alloc, &mut aids.names, sum.name.as_slice(), thing)?;
-    lists.sums.push(sum).map_err(|_| AddStop::Memory)
+    lists.sums.push(sum).map_err(|_| OutOfMemory)
 }
 
-fn push_interest(lists: &mut Lists, aids: &mut Aids, element: u32) -> Result<(), AddStop>
+fn push_interest(lists: &mut Lists, aids: &mut Aids, element: u32) -> Result<(), OutOfMemory>
     requires aids { AreFor lists.old aids.old }
     requires proper { IsProperStatement lists.old (Statement.Interest element) }
-    ensures lists { lists.new ≡ (if is_ok result then added lists.old (Statement.Interest element) else lists.old) }
+    ensures lists { Pushes lists.old lists.new (Statement.Interest element) result }
     ensures aids { AreFor lists.new aids.new }
-    ensures memory { IfErr result (λ stop. stop ≡ AddStop.Memory) }
 {
-    lists.interests.push(element).map_err(|_| AddStop::Memory)?;
+    lists.interests.push(element).map_err(|_| OutOfMemory)?;
     aids.interests[element as usize] = true;
     Ok(())
 }
 
-fn push_rule(lists: &mut Lists, aids: &mut Aids, rule: Rule) -> Result<(), AddStop>
+fn push_rule(lists: &mut Lists, aids: &mut Aids, rule: Rule) -> Result<(), OutOfMemory>
     requires aids { AreFor lists.old aids.old }
     requires allowed { IsAllowed lists.old (Statement.Rule rule) }
-    ensures lists { lists.new ≡ (if is_ok result then added lists.old (Statement.Rule rule) else lists.old) }
+    ensures lists { Pushes lists.old lists.new (Statement.Rule rule) result }
     ensures aids { AreFor lists.new aids.new }
-    ensures memory { IfErr result (λ stop. stop ≡ AddStop.Memory) }
 {
     let left = formulas::room_after(formulas::formula_of(&rule), aids.node_room).unwrap_or(0);
-    lists.rules.push(rule).map_err(|_| AddStop::Memory)?;
+    lists.rules.push(rule).map_err(|_| OutOfMemory)?;
     aids.node_room = left;
     Ok(())
 }

@@ -1,5 +1,5 @@
 //! Names, thing_found by their bytes.
-ghost use Rattle.std.specs.Prelude.{◌≡◌, ◌↔◌, List, ℕ, IsTrue, IfErr, OnOk, OnErr, if◌then◌else◌};
+ghost use Rattle.std.specs.Prelude.{◌≡◌, ◌↔◌, List, ℕ, IsTrue, OnOk, OnErr, if◌then◌else◌};
 ghost use Rattle.std.specs.Str.{bytes_eq};
 ghost use Rattle.cgm_model.specs.Keeping.{AreFor};
 ghost use Rattle.cgm_model.specs.NameTable.{thing_found};
@@ -9,7 +9,6 @@ ghost use Rattle.cgm_model.specs.WellFormed.{IsWellFormedModel};
 
 use crate::aids::Aids;
 use crate::lists::{Lists, Thing};
-use crate::stop::AddStop;
 use cgm_base::OutOfMemory;
 use indexmap::IndexMap;
 use sqlite_items::at;
@@ -107,10 +106,9 @@ pub(crate) fn declare(
     names: &mut NameTable,
     name: &[u8],
     thing: Thing,
-) -> Result<(), AddStop>
+) -> Result<(), OutOfMemory>
     ensures set { OnOk result ((q : List ℕ) → thing_found names.new q ≡ (if bytes_eq q name.now then Some thing else thing_found names.old q)) }
     ensures others { OnErr result ((q : List ℕ) → thing_found names.new q ≡ thing_found names.old q) }
-    ensures memory { IfErr result (λ stop. stop ≡ AddStop.Memory) }
 {
-    names.set(alloc, name, thing).map_err(|_| AddStop::Memory)
+    names.set(alloc, name, thing)
 }

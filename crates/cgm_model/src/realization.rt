@@ -1,16 +1,15 @@
 //! Whether an assignment is a realization, or the first rule that it breaks.
-ghost use Rattle.std.specs.Prelude.{◌≡◌, ◌≤◌, ◌↔◌, ℕ, ℤ, List, false, IsTrue, All, length, MatchOption, slice_index_or};
-ghost use Rattle.cgm_base.specs.declared.limit.Which.TheVariants as limits;
-ghost use Rattle.cgm_base.specs.Words.{limit_number};
+ghost use Rattle.std.specs.Prelude.{◌≡◌, ◌↔◌, ℕ, false, IsTrue, All, MatchOption, slice_index_or};
+ghost use Rattle.cgm_base.specs.Place.{Each, FirstFails};
 ghost use Rattle.cgm_formula.specs.declared.assignment.Assignment.{Assignment};
 ghost use Rattle.cgm_formula.specs.Reading.{name_in, number_in};
 ghost use Rattle.cgm_formula.specs.Sizes.{AreSmallIn};
 ghost use Rattle.cgm_model.specs.Assignment.{Fits, ElementIsTrue, RefinementIsTrue};
 ghost use Rattle.cgm_model.specs.Formulas.{formula_of};
 ghost use Rattle.cgm_model.specs.Model.{lists_of};
-ghost use Rattle.cgm_base.specs.Place.{Each, FirstFails};
 ghost use Rattle.cgm_model.specs.Sums.{sums_of};
 ghost use Rattle.cgm_model.specs.Realization.{IsRealization, IsFirstBroken, KeepsRefinement, KeepsElement, KeepsContrib, KeepsConflict, KeepsBind, KeepsMust, KeepsAssertion, KeepsRule, Refines, TargetIsTrue};
+ghost use Rattle.cgm_model.specs.WellFormed.{AreWithinLimits};
 
 use crate::facts::by_target;
 use crate::lists::{Assertion, Edge, Element, Refinement, Rule};
@@ -77,7 +76,8 @@ fn first_broken_refinement(model: &Model, assignment: &Assignment) -> Option<u32
         (Each (KeepsRefinement assignment.now) model.now.refinements)
         (FirstFails (KeepsRefinement assignment.now) model.now.refinements) }
 {
-    for (number, r) in refinements(model).iter().enumerate() {
+    recall_limits(model);
+    for (number, r) in model.refinements.as_slice().iter().enumerate() {
         if !keeps_refinement(assignment, number as u32, r) {
             return Some(number as u32);
         }
@@ -90,7 +90,8 @@ fn first_broken_element(model: &Model, assignment: &Assignment) -> Option<u32>
         (Each (KeepsElement (lists_of model.now) assignment.now) model.now.elements)
         (FirstFails (KeepsElement (lists_of model.now) assignment.now) model.now.elements) }
 {
-    for (number, e) in elements(model).iter().enumerate() {
+    recall_limits(model);
+    for (number, e) in model.elements.as_slice().iter().enumerate() {
         if !keeps_element(model, assignment, number as u32, e) {
             return Some(number as u32);
         }
@@ -101,7 +102,8 @@ fn first_broken_element(model: &Model, assignment: &Assignment) -> Option<u32>
 fn first_broken_contrib(model: &Model, assignment: &Assignment) -> Option<u32>
     ensures { MatchOption result (Each (KeepsContrib assignment.now) model.now.contribs) (FirstFails (KeepsContrib assignment.now) model.now.contribs) }
 {
-    for (number, e) in contribs(model).iter().enumerate() {
+    recall_limits(model);
+    for (number, e) in model.contribs.as_slice().iter().enumerate() {
         if !keeps_contrib(assignment, e) {
             return Some(number as u32);
         }
@@ -112,7 +114,8 @@ fn first_broken_contrib(model: &Model, assignment: &Assignment) -> Option<u32>
 fn first_broken_conflict(model: &Model, assignment: &Assignment) -> Option<u32>
     ensures { MatchOption result (Each (KeepsConflict assignment.now) model.now.conflicts) (FirstFails (KeepsConflict assignment.now) model.now.conflicts) }
 {
-    for (number, e) in conflicts(model).iter().enumerate() {
+    recall_limits(model);
+    for (number, e) in model.conflicts.as_slice().iter().enumerate() {
         if !keeps_conflict(assignment, e) {
             return Some(number as u32);
         }
@@ -123,7 +126,8 @@ fn first_broken_conflict(model: &Model, assignment: &Assignment) -> Option<u32>
 fn first_broken_bind(model: &Model, assignment: &Assignment) -> Option<u32>
     ensures { MatchOption result (Each (KeepsBind (lists_of model.now) assignment.now) model.now.binds) (FirstFails (KeepsBind (lists_of model.now) assignment.now) model.now.binds) }
 {
-    for (number, e) in binds(model).iter().enumerate() {
+    recall_limits(model);
+    for (number, e) in model.binds.as_slice().iter().enumerate() {
         if !keeps_bind(model, assignment, e) {
             return Some(number as u32);
         }
@@ -136,7 +140,8 @@ fn first_broken_must(model: &Model, assignment: &Assignment) -> Option<u32>
         (Each (KeepsMust assignment.now) model.now.elements)
         (FirstFails (KeepsMust assignment.now) model.now.elements) }
 {
-    for (number, e) in elements(model).iter().enumerate() {
+    recall_limits(model);
+    for (number, e) in model.elements.as_slice().iter().enumerate() {
         if !keeps_must(assignment, number as u32, e) {
             return Some(number as u32);
         }
@@ -149,7 +154,8 @@ fn first_broken_assertion(model: &Model, assignment: &Assignment) -> Option<u32>
         (Each (KeepsAssertion assignment.now) model.now.asserts)
         (FirstFails (KeepsAssertion assignment.now) model.now.asserts) }
 {
-    for (number, assertion) in asserts(model).iter().enumerate() {
+    recall_limits(model);
+    for (number, assertion) in model.asserts.as_slice().iter().enumerate() {
         if !keeps_assertion(assignment, assertion) {
             return Some(number as u32);
         }
@@ -162,7 +168,8 @@ fn first_broken_rule(model: &Model, assignment: &Assignment, sums: &[i64]) -> Op
     requires sums { sums.now ≡ sums_of (lists_of model.now) assignment.now }
     ensures { MatchOption result (Each (KeepsRule assignment.now sums.now) model.now.rules) (FirstFails (KeepsRule assignment.now sums.now) model.now.rules) }
 {
-    for (number, rule) in rules(model).iter().enumerate() {
+    recall_limits(model);
+    for (number, rule) in model.rules.as_slice().iter().enumerate() {
         if !keeps_rule(assignment, sums, rule) {
             return Some(number as u32);
         }
@@ -303,52 +310,7 @@ fn refinement_is_true(assignment: &Assignment, number: u32) -> bool
     truth_at(assignment.refinements.as_slice(), number)
 }
 
-fn elements(model: &Model) -> &[Element]
-    ensures items { result.now ≡ model.now.elements }
-    ensures few { length result.now ≤ limit_number limits.Elements }
-{
-    model.elements.as_slice()
-}
-
-fn refinements(model: &Model) -> &[Refinement]
-    ensures items { result.now ≡ model.now.refinements }
-    ensures few { length result.now ≤ limit_number limits.Refinements }
-{
-    model.refinements.as_slice()
-}
-
-fn asserts(model: &Model) -> &[Assertion]
-    ensures items { result.now ≡ model.now.asserts }
-    ensures few { length result.now ≤ limit_number limits.Statements }
-{
-    model.asserts.as_slice()
-}
-
-fn contribs(model: &Model) -> &[Edge]
-    ensures items { result.now ≡ model.now.contribs }
-    ensures few { length result.now ≤ limit_number limits.Statements }
-{
-    model.contribs.as_slice()
-}
-
-fn conflicts(model: &Model) -> &[Edge]
-    ensures items { result.now ≡ model.now.conflicts }
-    ensures few { length result.now ≤ limit_number limits.Statements }
-{
-    model.conflicts.as_slice()
-}
-
-fn binds(model: &Model) -> &[Edge]
-    ensures items { result.now ≡ model.now.binds }
-    ensures few { length result.now ≤ limit_number limits.Statements }
-{
-    model.binds.as_slice()
-}
-
-fn rules(model: &Model) -> &[Rule]
-    ensures items { result.now ≡ model.now.rules }
-    ensures few { length result.now ≤ limit_number limits.Statements }
-    ensures small { (a : Assignment) (sums : List ℤ) → Fits (lists_of model.now) a → sums ≡ sums_of (lists_of model.now) a → All (λ r. AreSmallIn (number_in a sums) (formula_of r)) result.now }
-{
-    model.rules.as_slice()
-}
+/// Recalls that a model is within its limits.
+fn recall_limits(model: &Model)
+    ensures { AreWithinLimits (lists_of model.now) }
+{}

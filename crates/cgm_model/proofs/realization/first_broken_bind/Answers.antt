@@ -9,14 +9,14 @@ use Rattle.cgm_model.proofs.realization.first_broken_bind.Goals as goal
 
 pub returns-then-not-keeps_bind : goal.returns-then-not-keeps_bind
 returns-then-not-keeps_bind c =
-    let items = c.binds-e-items.result.now in
+    let items = c.as_slice-e-items.result.now in
     let x : Edge = get_or items c.loop-number.number (record { from = 0; to = 0 }) in
     let at = get_or_default items c.loop-number.number (record { from = 0; to = 0 }) x c.loop-number-test.true in
-    first_from_settled (KeepsBind (lists_of c.args.model.now) c.args.assignment.now) c.args.model.now.binds items c.loop-number.number x c.binds-e-items.ensures.items c.loop-number-test.true at (iff_false c.keeps_bind.ensures c.if-not-keeps_bind.true) c.loop-number.invariant
+    first_from_settled (KeepsBind (lists_of c.args.model.now) c.args.assignment.now) c.args.model.now.binds items c.loop-number.number x c.as_slice-e-items.ensures c.loop-number-test.true at (iff_false c.keeps_bind.ensures c.if-not-keeps_bind.true) c.loop-number.invariant
 
 pub loop-number-preserved : goal.loop-number-preserved
 loop-number-preserved c =
-    let items = c.binds-e-items.result.now in
+    let items = c.as_slice-e-items.result.now in
     let x : Edge = get_or items c.loop-number.number (record { from = 0; to = 0 }) in
     let at = get_or_default items c.loop-number.number (record { from = 0; to = 0 }) x c.loop-number-test.true in
-    Settles-more (KeepsBind (lists_of c.args.model.now) c.args.assignment.now) c.args.model.now.binds items c.loop-number.number x c.binds-e-items.ensures.items c.loop-number-test.true at (c.keeps_bind.ensures.0 c.if-not-keeps_bind.false) c.loop-number.invariant
+    Settles-more (KeepsBind (lists_of c.args.model.now) c.args.assignment.now) c.args.model.now.binds items c.loop-number.number x c.as_slice-e-items.ensures c.loop-number-test.true at (c.keeps_bind.ensures.0 c.if-not-keeps_bind.false) c.loop-number.invariant

@@ -13,3 +13,4 @@ mod terms;
 
 pub use rules::add_rules;
 pub use stop::EncodeStop;
+pub use terms::negative;

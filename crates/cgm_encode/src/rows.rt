@@ -50,7 +50,7 @@ fn add_two_rows(
     let terms = with_first(alloc, 1, v, negative_terms.as_slice())?;
     add_row(builder, terms, expression.constant)?;
     let terms = with_first(alloc, -1, v, expression.terms.as_slice())?;
-    add_row(builder, terms, -e.constant)
+    add_row(builder, terms, -expression.constant)
 }
 
 /// The term of the variable before the others.

@@ -1,4 +1,4 @@
-//! The truths of an earlier realization, pair_found by name.
+//! The truths of an earlier realization, found by name.
 ghost use Rattle.std.specs.Prelude.{◌≡◌, List, ℕ, OnOk, if◌then◌else◌};
 ghost use Rattle.std.specs.Str.{bytes_eq};
 ghost use Rattle.cgm_evolve.specs.Index.{pair_found};

@@ -4,7 +4,7 @@ ghost use Rattle.cgm_text.specs.Trees.{IsFor, formula_in, seen_all};
 ghost use Rattle.cgm_text.specs.Parsed.{IsBody, IsNoBody};
 ghost use Rattle.cgm_print.specs.Written.{WrittenFormula, spelled};
 
-use crate::formula::formula;
+use crate::formula::{discard, formula};
 use crate::shape::{
     all_words, direction_and_word, is_end, one_word, two_words, two_words_and_number,
     word_and_must, word_and_number, word_and_truth, word_and_two_numbers,
@@ -121,6 +121,7 @@ fn whole_formula(alloc: Global, line: &[u8], tokens: &[Token]) -> Result<Tree, F
     if is_end(rest) {
         Ok(tree)
     } else {
+        discard(tree);
         Err(FormStop::Form)
     }
 }

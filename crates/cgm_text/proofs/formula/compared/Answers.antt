@@ -1,9 +1,9 @@
-use Rattle.std.proofs.Common.{◌∷◌, ap, ◌∙◌}
+use Rattle.std.proofs.Common.{◌∷◌}
 use Rattle.cgm_lex.specs.Lexemes.{opening, word}
 use Rattle.cgm_text.specs.Trees.{linear_in, seen_all}
-use Rattle.cgm_print.specs.Written.{comparison_word, spelled_linear}
+use Rattle.cgm_print.specs.Written.{comparison_word}
 use Rattle.cgm_text.proofs.Exits.{exit}
-use Rattle.cgm_text.proofs.Formulas.{no_comparison, no_comparison_end, no_comparison_number}
+use Rattle.cgm_text.proofs.Formulas.{no_comparison, no_comparison_bound}
 use Rattle.cgm_text.proofs.formula.compared.Goals as goal
 use Rattle.cgm_text.specs.Parsed.{BeginsNoFormula, BeginsNoLinear}
 
@@ -15,10 +15,4 @@ returns-in_err-left-clause-form c =
 pub returns-in-None-clause-form : goal.returns-in-None-clause-form
 returns-in-None-clause-form c =
     let line = c.args.line.now in
-    no_comparison_number c.args.comparison (linear_in line c.in_ok-left.left) (seen_all line c.args.tokens.now) (seen_all line c.in_ok-left.rest.now) c.in_ok-left.ensures.found (c.in-None.ensures.none line)
-
-pub returns-in-None-take_close-clause-form : goal.returns-in-None-take_close-clause-form
-returns-in-None-take_close-clause-form c =
-    let line = c.args.line.now in
-    let left = linear_in line c.in_ok-left.left in
-    no_comparison_end c.args.comparison left c.in-Some.k (seen_all line c.args.tokens.now) (seen_all line c.in-Some.rest.now) (c.in_ok-left.ensures.found ∙ ap (spelled_linear left) (c.in-Some.ensures.found line)) (c.in-None-take_close.ensures.none line)
+    no_comparison_bound c.args.comparison (linear_in line c.in_ok-left.left) (seen_all line c.args.tokens.now) (seen_all line c.in_ok-left.rest.now) c.in_ok-left.ensures.found (c.in-None.ensures.none line)

@@ -150,9 +150,7 @@ impl ModelDraft {
     }
 
     /// Gives the memory of the draft back.
-    pub(crate) fn discard(self) {
-        let _gone = self;
-    }
+    pub(crate) fn discard(self) {}
 
     /// The model of the lines so far.
     pub(crate) fn finish(self) -> Reading

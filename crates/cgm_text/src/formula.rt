@@ -31,14 +31,10 @@ fn take_connective<'t>(line: &[u8], tokens: &'t [Token]) -> Option<(Connective, 
 }
 
 /// Gives the memory of a formula back.
-pub(crate) fn discard(tree: Tree) {
-    let _gone = tree;
-}
+pub(crate) fn discard(_tree: Tree) {}
 
 /// Gives the memory of formulas back.
-fn discard_each(trees: Items<Tree>) {
-    let _gone = trees;
-}
+fn discard_each(_trees: Items<Tree>) {}
 
 fn boxed(alloc: Global, part: Tree) -> Result<Boxed<Tree>, FormStop>
     ensures same { IfOk result (λ tree. tree ≡ part) }
@@ -109,9 +105,7 @@ fn take_bound(tokens: &[Token]) -> Option<(i64, &[Token])>
 }
 
 /// Gives the memory of a linear expression back.
-fn discard_linear(linear: Linear) {
-    let _gone = linear;
-}
+fn discard_linear(_linear: Linear) {}
 
 /// The rest of a comparison.
 fn compared<'t>(
@@ -124,13 +118,15 @@ fn compared<'t>(
     ensures shorter { IfOk result (λ parts. length parts.1.now < length tokens.now) }
     ensures form { IfErr result (IsFor (BeginsNoFormula (opening ∷ word (comparison_word comparison) ∷ seen_all line.now tokens.now))) }
 {
-    let (left, rest) = linear(alloc, line, tokens)?;
-    match take_bound(rest) {
-        Some((k, rest)) => Ok((Tree::Compare(comparison, left, k), rest)),
-        None => {
-            discard_linear(left);
-            Err(FormStop::Form)
-        }
+    match linear(alloc, line, tokens) {
+        Err(stop) => Err(stop),
+        Ok((left, rest)) => match take_bound(rest) {
+            Some((k, rest)) => Ok((Tree::Compare(comparison, left, k), rest)),
+            None => {
+                discard_linear(left);
+                Err(FormStop::Form)
+            }
+        },
     }
 }
 
@@ -145,13 +141,15 @@ fn negation<'t>(
     ensures shorter { IfOk result (λ parts. length parts.1.now < length tokens.now) }
     ensures form { IfErr result (IsFor (BeginsNoFormula (opening ∷ word (codes "not") ∷ seen_all line.now tokens.now))) }
 {
-    let (part, rest) = formula(alloc, line, tokens)?;
-    match take_close(rest) {
-        None => {
-            discard(part);
-            Err(FormStop::Form)
-        }
-        Some(rest) => Ok((negated(alloc, part)?, rest)),
+    match formula(alloc, line, tokens) {
+        Err(stop) => Err(stop),
+        Ok((part, rest)) => match take_close(rest) {
+            None => {
+                discard(part);
+                Err(FormStop::Form)
+            }
+            Some(rest) => Ok((negated(alloc, part)?, rest)),
+        },
     }
 }
 
@@ -167,14 +165,18 @@ fn joined<'t>(
     ensures shorter { IfOk result (λ parts. length parts.1.now < length tokens.now) }
     ensures form { IfErr result (IsFor (BeginsNoFormula (opening ∷ word (joint_word joint) ∷ seen_all line.now tokens.now))) }
 {
-    let (first, after) = formula(alloc, line, tokens)?;
-    let mut others = Items::new(alloc);
-    match push_parts(alloc, line, &mut others, after) {
-        Ok(rest) => Ok((join(alloc, joint, first, others)?, rest)),
-        Err(stop) => {
-            discard(first);
-            discard_each(others);
-            Err(stop)
+    match formula(alloc, line, tokens) {
+        Err(stop) => Err(stop),
+        Ok((first, after)) => {
+            let mut others = Items::new(alloc);
+            match push_parts(alloc, line, &mut others, after) {
+                Ok(rest) => Ok((join(alloc, joint, first, others)?, rest)),
+                Err(stop) => {
+                    discard(first);
+                    discard_each(others);
+                    Err(stop)
+                }
+            }
         }
     }
 }
@@ -199,9 +201,13 @@ fn push_parts<'t>(
             Some(after) => return Ok(after),
             None => {}
         }
-        let (next, after) = formula(alloc, line, rest)?;
-        push(parts, next)?;
-        rest = after;
+        match formula(alloc, line, rest) {
+            Err(stop) => return Err(stop),
+            Ok((next, after)) => {
+                push(parts, next)?;
+                rest = after;
+            }
+        }
     }
 }
 
@@ -217,19 +223,21 @@ fn paired<'t>(
     ensures shorter { IfOk result (λ parts. length parts.1.now < length tokens.now) }
     ensures form { IfErr result (IsFor (BeginsNoFormula (opening ∷ word (pairing_word pairing) ∷ seen_all line.now tokens.now))) }
 {
-    let (one, rest) = formula(alloc, line, tokens)?;
-    match formula(alloc, line, rest) {
-        Err(stop) => {
-            discard(one);
-            Err(stop)
-        }
-        Ok((other, rest)) => match take_close(rest) {
-            None => {
+    match formula(alloc, line, tokens) {
+        Err(stop) => Err(stop),
+        Ok((one, rest)) => match formula(alloc, line, rest) {
+            Err(stop) => {
                 discard(one);
-                discard(other);
-                Err(FormStop::Form)
+                Err(stop)
             }
-            Some(rest) => Ok((pair(alloc, pairing, one, other)?, rest)),
+            Ok((other, rest)) => match take_close(rest) {
+                None => {
+                    discard(one);
+                    discard(other);
+                    Err(FormStop::Form)
+                }
+                Some(rest) => Ok((pair(alloc, pairing, one, other)?, rest)),
+            },
         },
     }
 }

@@ -62,9 +62,7 @@ fn form_of(alloc: Global, line: &[u8], tokens: &[Token]) -> Result<Written, Line
 }
 
 /// Gives the memory of a written statement back.
-fn discard(parsed: Written) {
-    let _gone = parsed;
-}
+fn discard(_parsed: Written) {}
 
 /// The statement that a written one makes after those of the builder, if its names are right.
 fn judged(

@@ -143,14 +143,10 @@ fn joined(joint: Joint, parts: Parts<Formula>) -> Formula
 }
 
 /// Gives the memory of a formula back.
-fn discard(formula: Formula) {
-    let _gone = formula;
-}
+fn discard(_formula: Formula) {}
 
 /// Gives the memory of formulas back.
-fn discard_each(formulas: Vec<Formula>) {
-    let _gone = formulas;
-}
+fn discard_each(_formulas: Vec<Formula>) {}
 
 fn pair_of_boxes(pairing: Pairing, one: Boxed<Formula>, other: Boxed<Formula>) -> Formula
     ensures { result ≡ paired_as pairing one other }
@@ -201,26 +197,37 @@ fn formula(
     match tree {
         Tree::Name(w) => Ok(Formula::Name(truth(builder, line, *w))),
         Tree::Not(part) => {
-            let part = formula(alloc, builder, line, part.get())?;
-            Ok(Formula::Not(Boxed::new(alloc, part)?))
+            match formula(alloc, builder, line, part.get()) {
+                Ok(part) => Ok(Formula::Not(Boxed::new(alloc, part)?)),
+                Err(stop) => Err(stop),
+            }
         }
         Tree::Join(joint, part, parts) => {
-            let first = formula(alloc, builder, line, part.get())?;
-            let parts = formulas(alloc, builder, line, parts.as_slice(), first)?;
-            Ok(joined(*joint, parts))
+            match formula(alloc, builder, line, part.get()) {
+                Ok(first) => match formulas(alloc, builder, line, parts.as_slice(), first) {
+                    Ok(parts) => Ok(joined(*joint, parts)),
+                    Err(stop) => Err(stop),
+                },
+                Err(stop) => Err(stop),
+            }
         }
         Tree::Pair(pairing, one, other) => {
-            let one = formula(alloc, builder, line, one.get())?;
-            match formula(alloc, builder, line, other.get()) {
-                Ok(other) => paired(alloc, *pairing, one, other),
-                Err(stop) => {
-                    discard(one);
-                    Err(stop)
-                }
+            match formula(alloc, builder, line, one.get()) {
+                Ok(one) => match formula(alloc, builder, line, other.get()) {
+                    Ok(other) => paired(alloc, *pairing, one, other),
+                    Err(stop) => {
+                        discard(one);
+                        Err(stop)
+                    }
+                },
+                Err(stop) => Err(stop),
             }
         }
         Tree::Compare(comparison, left, k) => {
-            Ok(compared(*comparison, linear(alloc, builder, line, left)?, *k))
+            match linear(alloc, builder, line, left) {
+                Ok(left) => Ok(compared(*comparison, left, *k)),
+                Err(stop) => Err(stop),
+            }
         }
     }
 }

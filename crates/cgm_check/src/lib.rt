@@ -12,7 +12,7 @@ use ending::conclude;
 use std::alloc::Global;
 
 /// What a list of entries tells.
-#[derive(Debug, Drop)]
+#[derive(Drop)]
 pub enum Verdict {
     /// These values, those of the last best, are a solution, and no solution is less.
     Least { values: Seq<i64> },

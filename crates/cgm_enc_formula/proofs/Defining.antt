@@ -1,22 +1,23 @@
 -- A naming variable with its clauses or its rows: there is room for them, they have known variables, and together they are the part of the definition.
-use Rattle.std.proofs.Common.{◌≡◌, ◌≢◌, ℕ, ◌+◌, ◌<◌, Bool, true, false, cond, List, [], ◌∷◌, ◌++◌, get_or, map, refl, sym, ap, ◌∙◌, subst, arith}
+use Rattle.std.proofs.Common.{◌≡◌, ◌≢◌, ℕ, ◌+◌, ◌-◌, ◌^◌, ◌<◌, ◌≤◌, Bool, true, false, cond, List, [], ◌∷◌, ◌++◌, get_or, length, map, refl, sym, ap, ◌∙◌, subst, arith}
 use Rattle.std.specs.Prelude.{ℤ, pos, neg_ℤ}
 use Rattle.std.specs.List.{All}
 use Rattle.std.proofs.lemmas.Int.{ints}
-use Rattle.std.proofs.lemmas.List.{append-nil, length_push}
+use Rattle.std.proofs.lemmas.List.{append-nil, append_assoc, length_push}
 use Rattle.std.proofs.lemmas.List.Elements.{All-append, All-cons, All-map, All-nil, All-weaker}
 use Rattle.cgm_atom.specs.declared.constraints.Atom.{Atom}
 use Rattle.cgm_atom.specs.declared.constraints.Clause.{Clause}
+use Rattle.cgm_atom.specs.declared.constraints.Row.{Row}
 use Rattle.cgm_atom.specs.declared.constraints.Var.{Var}
 use Rattle.cgm_atom.specs.Adding.{CanTake, with_written}
-use Rattle.cgm_atom.specs.Building.{with_var, without_repeats}
+use Rattle.cgm_atom.specs.Building.{with_row, with_var, without_repeats}
 use Rattle.cgm_atom.specs.Instance.{Instance, var_count}
 use Rattle.cgm_atom.specs.Limits.{AreTermsOf, IsAbsent, IsAtomOf, IsClauseOf}
 use Rattle.cgm_atom.specs.Literals.{clause, literal, negated}
 use Rattle.cgm_atom.proofs.Additions.{AreLeft, first_left, left_all, left_last, left_more}
 use Rattle.cgm_enc_formula.specs.declared.literals.Literal.{Literal}
 use Rattle.cgm_enc_formula.specs.Building.{HasRoomFor, definition_part, with_part}
-use Rattle.cgm_enc_formula.specs.Definitions.{Definition, IsDefinitionOf, all_of, any_of, at_least, at_most, definition_clauses, negative, one_of, pairs, same_as}
+use Rattle.cgm_enc_formula.specs.Definitions.{Definition, IsDefinitionOf, all_of, any_of, at_least, at_most, definition_clauses, negative, one_of, pairs, row_where, same_as}
 use Rattle.cgm_enc_formula.specs.Literals.{atom_of, opposite}
 use Rattle.cgm_enc_formula.proofs.Steps.{record_part, same_made}
 use Rattle.cgm_enc_formula.proofs.TermOrders.{terms_wider}
@@ -146,6 +147,10 @@ terms_after old new terms same count e h =
 
 -- ---- the clauses of a definition, one after another
 
+pub three_is : (a b c x y z : Atom) → a ≡ x → b ≡ y → c ≡ z → clause (a ∷ b ∷ c ∷ []) ≡ clause (x ∷ y ∷ z ∷ [])
+three_is a b c x y z first second third =
+    ap (λ (w : Atom). clause (w ∷ b ∷ c ∷ [])) first ∙ ap (λ (w : Atom). clause (x ∷ w ∷ c ∷ [])) second ∙ ap (λ (w : Atom). clause (x ∷ y ∷ w ∷ [])) third
+
 -- all of them are left where the variable alone was added
 pub all_left : (old p : Instance) (d : Definition) → p ≡ named old → IsDefinitionOf (var_count old) d → HasRoomFor old (definition_part (var_count old) d) → AreLeft p (definition_clauses (var_count old) d) p (definition_clauses (var_count old) d)
 all_left old p d e known h =
@@ -180,6 +185,9 @@ module _ (old p : Instance) (f g : Literal) (e : p ≡ named old) (known_f : f.v
   after_first : (q : Instance) → q ≡ with_written p (first ∷ []) → AreLeft p all q (second ∷ third ∷ fourth ∷ [])
   after_first q is = left_more p p q all (first ∷ []) (second ∷ third ∷ fourth ∷ []) at_first is
 
+  pub second_fits : (q : Instance) → q ≡ with_written p (first ∷ []) → CanTake q (second ∷ [])
+  second_fits q is = first_left p q all (second ∷ []) (third ∷ fourth ∷ []) (after_first q is)
+
   after_second : (q r : Instance) → q ≡ with_written p (first ∷ []) → r ≡ with_written q (second ∷ []) → AreLeft p all r (third ∷ fourth ∷ [])
   after_second q r is next = left_more p q r all (second ∷ []) (third ∷ fourth ∷ []) (after_first q is) next
 
@@ -195,3 +203,27 @@ module _ (old p : Instance) (f g : Literal) (e : p ≡ named old) (known_f : f.v
   pub same_added : (q r s t : Instance) → q ≡ with_written p (first ∷ []) → r ≡ with_written q (second ∷ []) → s ≡ with_written r (third ∷ []) → t ≡ with_written s (fourth ∷ []) → t ≡ with_part old (definition_part (var_count old) (same_as f g))
   same_added q r s t is next more last =
       clauses_added old p t all e (left_last p s t all (fourth ∷ []) (after_third q r s is next more) last)
+
+-- ---- the rows of a comparison, one after another
+
+-- the variable of an atom is known where the new one is
+pub guard_known : (old new : Instance) (x n : ℕ) → x ≡ n → n ≡ var_count old → var_count new ≡ var_count old + 1 → x < var_count new
+guard_known old new x n is number count = omega arith
+
+pub row_is : (a b : Atom) (s t : List (ℤ × Var)) (x y : ℤ) → a ≡ b → s ≡ t → x ≡ y → row_where a s x ≡ row_where b t y
+row_is a b s t x y guard terms least =
+    ap (λ (z : Atom). row_where z s x) guard ∙ ap (λ (z : List (ℤ × Var)). row_where b z x) terms ∙ ap (λ (z : ℤ). row_where b t z) least
+
+pub rows_added : (old p q r : Instance) (one other first second : Row) → p ≡ named old → q ≡ with_row p one → r ≡ with_row q other → one ≡ first → other ≡ second → r ≡ with_part old (record_part 1 [] (first ∷ second ∷ []))
+rows_added old p q r one other first second e is next same_one same_other =
+    let lower = old.bounds.lower ++ pos 0 ∷ [] in
+    let upper = old.bounds.upper ++ pos 1 ∷ [] in
+    next
+    ∙ ap (λ (x : Instance). with_row x other) (is ∙ ap (λ (x : Instance). with_row x one) e)
+    ∙ ap (λ (x : Row). with_row (with_row (named old) x) other) same_one
+    ∙ ap (λ (x : Row). with_row (with_row (named old) first) x) same_other
+    ∙ same_made old lower lower upper upper old.clauses (old.clauses ++ []) ((old.rows ++ first ∷ []) ++ second ∷ []) (old.rows ++ first ∷ second ∷ [])
+    refl refl (sym (append-nil old.clauses)) (append_assoc old.rows (first ∷ []) (second ∷ []))
+
+pub rows_after : (p q : Instance) (r : Row) → q ≡ with_row p r → length q.rows ≡ length p.rows + 1
+rows_after p q r e = ap (λ (x : Instance). length x.rows) e ∙ length_push p.rows r

@@ -5,6 +5,7 @@ pub mod DefinitionTruths
 pub mod Encodable
 pub mod Extending
 pub mod LiteralTruths
+pub mod Mapped
 pub mod MeasureTests
 pub mod NamingKnown
 pub mod NamingSteps

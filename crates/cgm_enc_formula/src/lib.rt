@@ -14,3 +14,4 @@ mod terms;
 pub use cgm_atom::OutOfMemory;
 pub use rules::add_rules;
 pub use stop::EncodeStop;
+pub use terms::negative;

@@ -3,12 +3,13 @@ ghost use Rattle.std.specs.Prelude.{◌≡◌, ◌*◌, ◌≤◌, ◌↔◌, �
 ghost use Rattle.std.specs.List.{list_all};
 ghost use Rattle.cgm_atom.specs.Instance.{var_count};
 ghost use Rattle.cgm_atom.specs.Limits.{greatest_size, max_measure, measure};
-ghost use Rattle.cgm_model.specs.Formulas.{IsKnownNumber, formula_of};
+ghost use Rattle.cgm_model.specs.Formulas.{IsKnownNumber, formula_of as formula_of_rule};
 ghost use Rattle.cgm_model.specs.Model.{lists_of};
 ghost use Rattle.cgm_model.specs.Place.{Each, FirstFails};
 ghost use Rattle.cgm_enc_formula.specs.Measures.{HasKnownNumbers, IsWithinMeasure, comparison_measure, has_small_measures as has_small_measures_in};
 ghost use Rattle.cgm_enc_formula.specs.Terms.{model_variables, number_variable as variable_in, variable_terms};
 
+use crate::naming_values::formula_of;
 use crate::terms::number_variable;
 use cgm_atom::{MAX_MEASURE, ProblemBuilder, Var};
 use cgm_formula::{Formula, Linear, Number};
@@ -17,7 +18,7 @@ use cgm_model::{Model, Rule};
 /// The first rule with a comparison whose measure passes the limit, by its number.
 pub(crate) fn first_past(model: &Model, builder: &ProblemBuilder, rules: &[Rule]) -> Option<u32>
     requires variables { model_variables (lists_of model.now) ≤ var_count builder.now }
-    requires known { All (λ r. HasKnownNumbers (lists_of model.now) (formula_of r)) rules.now }
+    requires known { All (λ r. HasKnownNumbers (lists_of model.now) (formula_of_rule r)) rules.now }
     requires few { length rules.now ≤ 2 ^ 32 }
     ensures { MatchOption result
         (Each (IsWithinMeasure (lists_of model.now) builder.now.bounds) rules.now)
@@ -33,14 +34,10 @@ pub(crate) fn first_past(model: &Model, builder: &ProblemBuilder, rules: &[Rule]
 
 fn is_within(model: &Model, builder: &ProblemBuilder, rule: &Rule) -> bool
     requires variables { model_variables (lists_of model.now) ≤ var_count builder.now }
-    requires known { HasKnownNumbers (lists_of model.now) (formula_of rule.now) }
-    ensures { result ≡ has_small_measures_in (lists_of model.now) builder.now.bounds (formula_of rule.now) }
+    requires known { HasKnownNumbers (lists_of model.now) (formula_of_rule rule.now) }
+    ensures { result ≡ has_small_measures_in (lists_of model.now) builder.now.bounds (formula_of_rule rule.now) }
 {
-    match rule {
-        Rule::Positive(_, formula) => has_small_measures(model, builder, formula),
-        Rule::Negative(_, formula) => has_small_measures(model, builder, formula),
-        Rule::Require(formula) => has_small_measures(model, builder, formula),
-    }
+    has_small_measures(model, builder, formula_of(rule))
 }
 
 #[cycle(measures)]

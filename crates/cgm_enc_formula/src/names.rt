@@ -95,7 +95,7 @@ fn name_at_most(
     requires comparison { AreRowTerms (lists_of model.now) (linear.now, k) }
     requires variables { model_variables (lists_of model.now) ≤ var_count builder.old }
     requires room { HasRoomFor builder.old (definition_part (var_count builder.old) (at_most (row_terms_of (lists_of model.now) linear.now) k)) }
-    ensures literal { IfOk result (λ linear. linear ≡ positive_of (var_count builder.old)) }
+    ensures literal { IfOk result (λ l. l ≡ positive_of (var_count builder.old)) }
     ensures added { OnOk result (builder.new ≡ with_part builder.old (definition_part (var_count builder.old) (at_most (row_terms_of (lists_of model.now) linear.now) k))) }
 {
     let terms = row_terms(alloc, model, linear)?;
@@ -113,7 +113,7 @@ fn name_at_least(
     requires comparison { AreRowTerms (lists_of model.now) (linear.now, k) }
     requires variables { model_variables (lists_of model.now) ≤ var_count builder.old }
     requires room { HasRoomFor builder.old (definition_part (var_count builder.old) (at_least (row_terms_of (lists_of model.now) linear.now) k)) }
-    ensures literal { IfOk result (λ linear. linear ≡ positive_of (var_count builder.old)) }
+    ensures literal { IfOk result (λ l. l ≡ positive_of (var_count builder.old)) }
     ensures added { OnOk result (builder.new ≡ with_part builder.old (definition_part (var_count builder.old) (at_least (row_terms_of (lists_of model.now) linear.now) k))) }
 {
     let terms = row_terms(alloc, model, linear)?;
@@ -131,7 +131,7 @@ fn name_equal(
     requires comparison { AreRowTerms (lists_of model.now) (linear.now, k) }
     requires variables { model_variables (lists_of model.now) ≤ var_count builder.old }
     requires room { HasRoomFor builder.old (definitions_part (var_count builder.old) (equal_definitions (lists_of model.now) linear.now k (var_count builder.old))) }
-    ensures literal { IfOk result (λ linear. linear ≡ positive_of (var_count builder.old + 2)) }
+    ensures literal { IfOk result (λ l. l ≡ positive_of (var_count builder.old + 2)) }
     ensures added { OnOk result (builder.new ≡ with_part builder.old (definitions_part (var_count builder.old) (equal_definitions (lists_of model.now) linear.now k (var_count builder.old)))) }
 {
     let most = name_at_most(alloc, model, builder, linear, k)?;

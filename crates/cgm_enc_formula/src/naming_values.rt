@@ -31,7 +31,8 @@ pub fn push_rules(
     Ok(())
 }
 
-fn formula_of(rule: &Rule) -> &Formula
+/// The formula of a rule.
+pub(crate) fn formula_of(rule: &Rule) -> &Formula
     ensures { result.now ≡ formula_of_rule rule.now }
 {
     match rule {

@@ -1,15 +1,18 @@
 //! Rules of a model as a part of a problem.
-ghost use Rattle.std.specs.Prelude.{◌≡◌, ◌+◌, ◌≤◌, ◌^◌, length, All, OnOk};
+ghost use Rattle.std.specs.Prelude.{◌≡◌, ◌+◌, ◌≤◌, ◌^◌, ◌∷◌, [], length, All, OnOk};
+ghost use Rattle.cgm_atom.specs.Adding.{CanTake, with_written};
 ghost use Rattle.cgm_atom.specs.Instance.{var_count};
+ghost use Rattle.cgm_model.specs.Formulas.{IsKnownTruth, condition_names};
 ghost use Rattle.cgm_model.specs.Model.{lists_of};
 ghost use Rattle.cgm_enc_formula.specs.Building.{HasRoomFor, rule_part, rules_part, with_part};
 ghost use Rattle.cgm_enc_formula.specs.Measures.{IsRulesAnswer};
-ghost use Rattle.cgm_enc_formula.specs.Rules.{IsEncodableRule};
+ghost use Rattle.cgm_enc_formula.specs.Rules.{IsEncodableRule, rule_clause};
 ghost use Rattle.cgm_enc_formula.specs.Terms.{model_variables};
 
-use crate::literals::atom;
+use crate::literals::{Literal, atom};
 use crate::measures::first_past;
 use crate::names::{name_formula, truth_variable};
+use crate::naming_values::formula_of;
 use crate::stop::EncodeStop;
 use cgm_atom::literals::{add_clause, literal, negated};
 use cgm_atom::{OutOfMemory, ProblemBuilder};
@@ -86,26 +89,34 @@ fn add_rule(
     requires room { HasRoomFor builder.old (rule_part (lists_of model.now) (var_count builder.old) rule.now) }
     ensures { OnOk result (builder.new ≡ with_part builder.old (rule_part (lists_of model.now) (var_count builder.old) rule.now)) }
 {
+    let l = name_formula(alloc, model, builder, formula_of(rule))?;
+    add_condition(alloc, model, builder, rule, l)
+}
+
+/// Adds the clause of a rule by the literal of its formula.
+fn add_condition(
+    alloc: Global,
+    model: &Model,
+    builder: &mut ProblemBuilder,
+    rule: &Rule,
+    l: Literal,
+) -> Result<(), OutOfMemory>
+    requires condition { All (IsKnownTruth (lists_of model.now)) (condition_names rule.now) }
+    requires room { CanTake builder.old (rule_clause (lists_of model.now) rule.now l ∷ []) }
+    ensures { OnOk result
+        (builder.new ≡ with_written builder.old (rule_clause (lists_of model.now) rule.now l ∷ [])) }
+{
     match rule {
-        Rule::Positive(name, formula) => {
-            let l = name_formula(alloc, model, builder, formula)?;
-            add_clause(
-                alloc,
-                builder,
-                &[negated(truth_variable(model, *name)), atom(l)],
-            )
-        }
-        Rule::Negative(name, formula) => {
-            let l = name_formula(alloc, model, builder, formula)?;
-            add_clause(
-                alloc,
-                builder,
-                &[literal(truth_variable(model, *name)), atom(l)],
-            )
-        }
-        Rule::Require(formula) => {
-            let l = name_formula(alloc, model, builder, formula)?;
-            add_clause(alloc, builder, &[atom(l)])
-        }
+        Rule::Positive(name, _) => add_clause(
+            alloc,
+            builder,
+            &[negated(truth_variable(model, *name)), atom(l)],
+        ),
+        Rule::Negative(name, _) => add_clause(
+            alloc,
+            builder,
+            &[literal(truth_variable(model, *name)), atom(l)],
+        ),
+        Rule::Require(_) => add_clause(alloc, builder, &[atom(l)]),
     }
 }

@@ -83,7 +83,7 @@ pub(crate) fn number_variable(model: &Model, number: Number) -> u32
 }
 
 /// Each coefficient with its sign changed.
-pub(crate) fn negative(alloc: Global, terms: &[(i64, Var)]) -> Result<Vec<(i64, Var)>, OutOfMemory>
+pub fn negative(alloc: Global, terms: &[(i64, Var)]) -> Result<Vec<(i64, Var)>, OutOfMemory>
     requires { All (λ t. unsigned_abs t.0 < 2 ^ 63) terms.now }
     ensures { IfOk result (λ negated. negated.items ≡ negative_of terms.now) }
 {

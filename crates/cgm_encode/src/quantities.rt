@@ -217,7 +217,7 @@ fn reward_share(weighing: &Weighing) -> (i64, u32)
     requires { unsigned_abs weighing.now.k ≤ 1000000 }
     ensures { result ≡ (neg_ℤ weighing.now.k, weighing.now.element) }
 {
-    (-w.k, weighing.element)
+    (-weighing.k, weighing.element)
 }
 
 /// For each element of interest -1 where it was true, which the constant counts, else 1.

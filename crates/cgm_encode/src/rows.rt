@@ -7,8 +7,9 @@ ghost use Rattle.cgm_atom.specs.Limits.{AreTermsOf};
 ghost use Rattle.cgm_encode.specs.Building.{HasBoundSize, IsDefining, defining_rows, with_rows};
 ghost use Rattle.cgm_encode.specs.Totals.{row_of};
 
-use crate::expressions::{Expression, negative};
+use crate::expressions::Expression;
 use cgm_atom::{BuildStop, OutOfMemory, ProblemBuilder, Row, Seq, Var};
+use cgm_enc_formula::negative;
 use std::alloc::Global;
 
 /// Adds the rows by which each variable is the value of the expression at its place.
@@ -49,7 +50,7 @@ fn add_two_rows(
     let terms = with_first(alloc, 1, v, negative_terms.as_slice())?;
     add_row(builder, terms, expression.constant)?;
     let terms = with_first(alloc, -1, v, expression.terms.as_slice())?;
-    add_row(builder, terms, -e.constant)
+    add_row(builder, terms, -expression.constant)
 }
 
 /// The term of the variable before the others.

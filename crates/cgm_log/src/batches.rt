@@ -4,7 +4,7 @@ use cgm_atom::{Entry, Seq};
 
 /// What a worker adds to a log at once: lemmas, in which `Own(i)` is the i-th of them, from 1, and
 /// a solution that may become the last best.
-#[derive(Debug, Drop)]
+#[derive(Drop)]
 pub struct Batch {
     /// The worker's number, from 0 to 15.
     pub by: u32,
@@ -14,7 +14,7 @@ pub struct Batch {
 }
 
 /// What became of a candidate.
-#[derive(Debug, Drop)]
+#[derive(Drop)]
 pub enum Fate {
     /// It is the last best, with this ordinal, from 1.
     Kept { ordinal: u64 },
@@ -23,7 +23,7 @@ pub enum Fate {
 }
 
 /// The answer of a trade. `news` are the entries that stood before it and weren't seen.
-#[derive(Debug, Drop)]
+#[derive(Drop)]
 pub enum Traded {
     /// The batch landed, its first lemma at the place `first` of the log, from 1.
     Landed {
@@ -38,7 +38,7 @@ pub enum Traded {
 }
 
 /// There was no memory for a trade: the log is as before, and this is the batch.
-#[derive(Debug, Drop)]
+#[derive(Drop)]
 pub struct Refund {
     pub batch: Batch,
 }

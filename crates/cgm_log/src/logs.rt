@@ -21,7 +21,7 @@ use std::marker::Model;
 
 /// The entries that workers have made for a problem, each accepted after those before it.
 /// A log only grows. A certificate can write each of its entries.
-#[derive(Debug, Drop)]
+#[derive(Drop)]
 pub struct Log {
     alloc: Global,
     problem: Problem,

@@ -49,7 +49,7 @@ pub trait Trader {
 }
 
 /// The trader of one worker, which holds the log itself. It has seen all that its log holds.
-#[derive(Debug, Drop)]
+#[derive(Drop)]
 pub struct Alone {
     log: Log,
     left: u64,

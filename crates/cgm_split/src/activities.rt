@@ -23,7 +23,7 @@ const RESCALING: u64 = 1 << 32;
 /// An order of decisions by weight. A raise makes a variable heavier, and a later raise adds more.
 /// Equal weights go by number for worker 0, and for the others in an order that the seed and the
 /// worker draw.
-#[derive(Debug, Drop)]
+#[derive(Drop)]
 pub struct Activity {
     variables: Vec<Var>,
     weights: Vec<u64>,

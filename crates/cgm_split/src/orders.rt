@@ -15,7 +15,7 @@ use std::marker::Model;
 
 /// An order of decisions: the problem's objectives first, then its variables, for worker 0 by
 /// number, and for the others in an order that the seed and the worker draw.
-#[derive(Debug, Drop)]
+#[derive(Drop)]
 pub struct Order {
     objectives: Vec<Var>,
     variables: Vec<Var>,

@@ -8,7 +8,7 @@ use std::alloc::Global;
 use std::marker::{Model, Send};
 
 /// How many entries a log has, the places of its bests, from 1, and whether it is closed.
-#[derive(Debug, Drop)]
+#[derive(Drop)]
 pub struct LogIndex {
     entries: u64,
     bests: Vec<u64>,

@@ -9,7 +9,7 @@ use cgm_atom::Entry;
 use std::marker::Model;
 
 /// The entries of a log with their index. Contracts see the state of the log.
-#[derive(Debug, Drop)]
+#[derive(Drop)]
 pub struct IndexedLog<'l> {
     entries: &'l [Entry],
     index: &'l LogIndex,

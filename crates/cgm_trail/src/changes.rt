@@ -5,7 +5,7 @@ ghost use Rattle.cgm_trail.specs.Earlier.{earlier_bound};
 use cgm_atom::{Atom, Hint};
 
 /// Why a bound was tightened.
-#[derive(Clone, Copy, Debug, PartialEq, Eq)]
+#[derive(Clone, Copy, PartialEq, Eq)]
 pub enum Reason {
     /// The search decided so. A decision opens a level.
     Decision,
@@ -14,7 +14,7 @@ pub enum Reason {
 }
 
 /// A bound that was tightened: the atom was made true.
-#[derive(Clone, Copy, Debug, PartialEq, Eq)]
+#[derive(Clone, Copy, PartialEq, Eq)]
 pub struct Change {
     pub atom: Atom,
     /// The number that the atom's bound had before.
@@ -37,7 +37,7 @@ impl Change {
 }
 
 /// How a round of propagation ended.
-#[derive(Clone, Copy, Debug, PartialEq, Eq)]
+#[derive(Clone, Copy, PartialEq, Eq)]
 pub enum Swept {
     /// There is nothing to tighten.
     Quiet,

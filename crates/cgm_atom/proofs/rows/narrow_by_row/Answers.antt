@@ -7,8 +7,8 @@ use Rattle.cgm_atom.proofs.RowTightening.{left_by_row-claimed, left_by_row-open,
 use Rattle.cgm_atom.proofs.Tightening.{narrowing_from}
 use Rattle.cgm_atom.proofs.rows.narrow_by_row.Goals as goal
 
-pub returns-then-most-r-clause-exact : goal.returns-then-most-r-clause-exact
-returns-then-most-r-clause-exact c =
+pub returns-then-most-row-clause-exact : goal.returns-then-most-row-clause-exact
+returns-then-most-row-clause-exact c =
     let b = c.args.bounds.now in
     let most = c.greatest_activity-most.result in
     let sum = c.greatest_activity-most.ensures.value ∙ ap (greatest_activity b) c.as_slice-terms.ensures in

@@ -5,8 +5,8 @@ use Rattle.cgm_clauses.proofs.sweeping.propagate_by.Given as goal
 
 abbrev pub invariant-loop-h : goal.invariant-loop-h
 invariant-loop-h l = record {
-  made : IsPropagated (IsPairIn (l.clauses ++ l.added)) l.fn.t l.trail l.fn.left l.left;
-  problem : l.trail.problem ≡ l.fn.t.problem;
+  made : IsPropagated (IsPairIn (l.clauses ++ l.added)) l.fn.trail l.trail l.fn.left l.left;
+  problem : l.trail.problem ≡ l.fn.trail.problem;
   room : l.trail.moves + l.left ≤ 2 ^ 62;
 }
 

@@ -5,4 +5,4 @@ use Rattle.cgm_enc_formula.proofs.names.+naming.Given as goal
 
 abbrev pub invariant-name_each-loop-part : goal.invariant-name_each-loop-part
 invariant-name_each-loop-part l =
-    AreNamed (lists_of l.model) l.fn.b l.parts l.builder l.literals.items (drop l.part-index l.parts)
+    AreNamed (lists_of l.model) l.fn.builder l.parts l.builder l.literals.items (drop l.part-index l.parts)

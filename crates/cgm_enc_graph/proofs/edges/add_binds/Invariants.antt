@@ -7,5 +7,5 @@ use Rattle.cgm_enc_graph.proofs.edges.add_binds.Given as goal
 
 abbrev pub invariant-loop-e : goal.invariant-loop-e
 invariant-loop-e l =
-    AreLeft l.fn.b (flat_map (bind_clauses (lists_of l.model)) l.binds) l.builder
+    AreLeft l.fn.builder (flat_map (bind_clauses (lists_of l.model)) l.binds) l.builder
     (flattened (bind_clauses (lists_of l.model)) l.e-index (drop l.e-index l.binds))

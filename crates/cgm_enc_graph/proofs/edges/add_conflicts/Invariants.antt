@@ -5,4 +5,4 @@ use Rattle.cgm_enc_graph.proofs.edges.add_conflicts.Given as goal
 
 abbrev pub invariant-loop-e : goal.invariant-loop-e
 invariant-loop-e l =
-    AreLeft l.fn.b (map conflict_clause l.conflicts) l.builder (mapped conflict_clause l.e-index (drop l.e-index l.conflicts))
+    AreLeft l.fn.builder (map conflict_clause l.conflicts) l.builder (mapped conflict_clause l.e-index (drop l.e-index l.conflicts))

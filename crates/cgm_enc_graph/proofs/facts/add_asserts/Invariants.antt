@@ -5,4 +5,4 @@ use Rattle.cgm_enc_graph.proofs.facts.add_asserts.Given as goal
 
 abbrev pub invariant-loop-a : goal.invariant-loop-a
 invariant-loop-a l =
-    AreLeft l.fn.b (map assertion_clause l.asserts) l.builder (mapped assertion_clause l.a-index (drop l.a-index l.asserts))
+    AreLeft l.fn.builder (map assertion_clause l.asserts) l.builder (mapped assertion_clause l.a-index (drop l.a-index l.asserts))

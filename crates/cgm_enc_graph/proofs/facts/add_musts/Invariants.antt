@@ -6,5 +6,5 @@ use Rattle.cgm_enc_graph.proofs.facts.add_musts.Given as goal
 
 abbrev pub invariant-loop-number : goal.invariant-loop-number
 invariant-loop-number l =
-    AreLeft l.fn.b (flat_map must_clauses (enumerate_from 0 l.elements)) l.builder
+    AreLeft l.fn.builder (flat_map must_clauses (enumerate_from 0 l.elements)) l.builder
     (numbered must_clauses 0 l.number (drop l.number l.elements))

@@ -3,7 +3,7 @@ use Rattle.std.specs.List.{enumerate_from, flat_map}
 use Rattle.std.proofs.lemmas.Result.{on_ok_weaker}
 use Rattle.cgm_atom.specs.declared.constraints.Clause.{Clause}
 use Rattle.cgm_atom.specs.Adding.{CanTake, with_written}
-use Rattle.cgm_atom.proofs.Additions.{left_all, left_last, left_more}
+use Rattle.cgm_atom.proofs.Additions.{first_left, left_all, left_last, left_more}
 use Rattle.cgm_model.specs.declared.lists.Element.{Element}
 use Rattle.cgm_model.specs.declared.lists.Refinement.{Refinement}
 use Rattle.cgm_model.specs.Model.{lists_of}
@@ -11,6 +11,29 @@ use Rattle.cgm_enc_graph.specs.GraphClauses.{element_clauses, refinement_clauses
 use Rattle.cgm_enc_graph.proofs.KnownNames.{known_names}
 use Rattle.cgm_enc_graph.proofs.VariableLists.{listed_model}
 use Rattle.cgm_enc_graph.proofs.graph.add_refinement_group.Goals as goal
+
+pub add_refinements-requires-clause-few : goal.add_refinements-requires-clause-few
+add_refinements-requires-clause-few c =
+    let m = lists_of c.args.model.now in
+    let known = known_names m c.args.model.now.well_formed in
+    let elements = known.few_elements in
+    let refinements = known.few_refinements in
+    let rs = ap (λ (xs : List Refinement). length xs) c.as_slice-refinements.ensures in
+    let count = ap (λ (xs : List Element). length xs) c.as_slice-count.ensures in
+    omega arith
+
+pub add_refinements-requires-clause-room : goal.add_refinements-requires-clause-room
+add_refinements-requires-clause-room c =
+    let m = lists_of c.args.model.now in
+    let b = c.args.builder.now in
+    let refinements = c.as_slice-refinements.result.now in
+    let rs = flat_map refinement_clauses (numbered_refinements m) in
+    let es = flat_map (λ (e : ℕ × Element). element_clauses e.0 (variables_for (numbered_refinements m) e.0)) (numbered_elements m) in
+    let numbered : enumerate_from (length c.as_slice-count.result.now) refinements ≡ numbered_refinements m =
+    ap (λ (xs : List Element). enumerate_from (length xs) refinements) c.as_slice-count.ensures
+    ∙ ap (λ (xs : List Refinement). enumerate_from (length m.elements) xs) c.as_slice-refinements.ensures in
+    subst (λ (xs : List (ℕ × Refinement)). CanTake b (flat_map refinement_clauses xs)) (sym numbered)
+    (first_left b b (refinement_group m) rs es (left_all b (refinement_group m) c.requires))
 
 pub by_target-requires-clause-known : goal.by_target-requires-clause-known
 by_target-requires-clause-known c = λ k d l.

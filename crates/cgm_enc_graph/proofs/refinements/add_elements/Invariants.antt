@@ -6,5 +6,5 @@ use Rattle.cgm_enc_graph.proofs.refinements.add_elements.Given as goal
 
 abbrev pub invariant-loop-element : goal.invariant-loop-element
 invariant-loop-element l =
-    AreLeft l.fn.b (flat_map (λ e. element_clauses e.0 e.1) (enumerate_from 0 l.refinements)) l.builder
+    AreLeft l.fn.builder (flat_map (λ e. element_clauses e.0 e.1) (enumerate_from 0 l.refinements)) l.builder
     (numbered (λ e. element_clauses e.0 e.1) 0 l.element (drop l.element l.refinements))

@@ -6,5 +6,5 @@ use Rattle.cgm_enc_graph.proofs.refinements.add_refinements.Given as goal
 
 abbrev pub invariant-loop-number : goal.invariant-loop-number
 invariant-loop-number l =
-    AreLeft l.fn.b (flat_map refinement_clauses (enumerate_from l.first l.refinements)) l.builder
+    AreLeft l.fn.builder (flat_map refinement_clauses (enumerate_from l.first l.refinements)) l.builder
     (numbered refinement_clauses l.first l.number (drop l.number l.refinements))

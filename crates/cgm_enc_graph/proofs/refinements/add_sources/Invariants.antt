@@ -5,4 +5,4 @@ use Rattle.cgm_enc_graph.proofs.refinements.add_sources.Given as goal
 
 abbrev pub invariant-loop-source : goal.invariant-loop-source
 invariant-loop-source l =
-    AreLeft l.fn.b (map (implication l.x) l.sources) l.builder (mapped (implication l.x) l.source-index (drop l.source-index l.sources))
+    AreLeft l.fn.builder (map (implication l.x) l.sources) l.builder (mapped (implication l.x) l.source-index (drop l.source-index l.sources))

@@ -5,5 +5,5 @@ use Rattle.cgm_encode.proofs.encoding.add_objectives.Given as goal
 
 abbrev pub invariant-loop-v : goal.invariant-loop-v
 invariant-loop-v l =
-    (with_objectives l.builder (drop l.v-index l.variables) ≡ with_objectives l.fn.b l.variables)
-    × (var_count l.builder ≡ var_count l.fn.b) × (length l.builder.objectives ≡ length l.fn.b.objectives + l.v-index)
+    (with_objectives l.builder (drop l.v-index l.variables) ≡ with_objectives l.fn.builder l.variables)
+    × (var_count l.builder ≡ var_count l.fn.builder) × (length l.builder.objectives ≡ length l.fn.builder.objectives + l.v-index)

@@ -8,5 +8,5 @@ use Rattle.cgm_encode.proofs.preferences.add_preferences.Given as goal
 
 abbrev pub invariant-loop-place : goal.invariant-loop-place
 invariant-loop-place l =
-    AreLeft l.fn.b (flat_map (preference_clauses (lists_of l.model)) (zip l.variables l.prefers)) l.builder
+    AreLeft l.fn.builder (flat_map (preference_clauses (lists_of l.model)) (zip l.variables l.prefers)) l.builder
     (clauses_behind (preference_clauses (lists_of l.model)) l.place l.variables l.prefers)

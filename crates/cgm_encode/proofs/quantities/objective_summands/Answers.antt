@@ -12,4 +12,4 @@ opposite-requires-clause-shares c =
     let o = c.args.objective in
     let quantity = quantity_total (lists_of c.args.model.now) c.args.earlier.now.pairs o.of in
     subst (λ (shares : List Share). All (λ s. unsigned_abs s.0 < 2 ^ 63) shares) (sym c.in_ok-summands.ensures.0)
-    (signed_shares o.max quantity c.if-o.true c.requires.fitting.numbers)
+    (signed_shares o.max quantity c.if-objective.true c.requires.fitting.numbers)

@@ -5,4 +5,4 @@ use Rattle.cgm_encode.proofs.variables.add_own.Given as goal
 
 abbrev pub invariant-loop-v : goal.invariant-loop-v
 invariant-loop-v l =
-    AreRangesLeft l.fn.b (map own_range l.vars) l.builder (map own_range (drop l.v-index l.vars))
+    AreRangesLeft l.fn.builder (map own_range l.vars) l.builder (map own_range (drop l.v-index l.vars))

@@ -6,4 +6,4 @@ use Rattle.cgm_encode.proofs.variables.add_variables.Given as goal
 
 abbrev pub invariant-loop-range : goal.invariant-loop-range
 invariant-loop-range l =
-    AreRangesLeft l.fn.b l.ranges l.builder (drop l.range-index l.ranges) × (l.variables.items ≡ range_with_len (var_count l.fn.b) l.range-index) × (var_count l.builder ≡ var_count l.fn.b + l.range-index)
+    AreRangesLeft l.fn.builder l.ranges l.builder (drop l.range-index l.ranges) × (l.variables.items ≡ range_with_len (var_count l.fn.builder) l.range-index) × (var_count l.builder ≡ var_count l.fn.builder + l.range-index)

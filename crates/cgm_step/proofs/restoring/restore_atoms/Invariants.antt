@@ -8,4 +8,4 @@ use Rattle.cgm_step.proofs.restoring.restore_atoms.Given as goal
 abbrev pub invariant-loop-i : goal.invariant-loop-i
 invariant-loop-i l =
     IsBoxOf l.problem.bounds l.bounds
-    × ((vars : List ℕ) → ChangesOnly (vars_of_atoms (atoms_of l.atoms) ++ vars) l.problem.bounds l.fn.b → ChangesOnly (vars_of_atoms (drop l.i (atoms_of l.atoms)) ++ vars) l.problem.bounds l.bounds)
+    × ((vars : List ℕ) → ChangesOnly (vars_of_atoms (atoms_of l.atoms) ++ vars) l.problem.bounds l.fn.bounds → ChangesOnly (vars_of_atoms (drop l.i (atoms_of l.atoms)) ++ vars) l.problem.bounds l.bounds)

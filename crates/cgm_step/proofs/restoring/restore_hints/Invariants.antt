@@ -7,4 +7,4 @@ use Rattle.cgm_step.proofs.restoring.restore_hints.Given as goal
 abbrev pub invariant-loop-h : goal.invariant-loop-h
 invariant-loop-h l =
     IsBoxOf l.problem.bounds l.bounds
-    × ((vars : List ℕ) → ChangesOnly (vars_of_hints l.problem l.log l.hints ++ vars) l.problem.bounds l.fn.b → ChangesOnly (vars_of_hints l.problem l.log (drop l.h-index l.hints) ++ vars) l.problem.bounds l.bounds)
+    × ((vars : List ℕ) → ChangesOnly (vars_of_hints l.problem l.log l.hints ++ vars) l.problem.bounds l.fn.bounds → ChangesOnly (vars_of_hints l.problem l.log (drop l.h-index l.hints) ++ vars) l.problem.bounds l.bounds)

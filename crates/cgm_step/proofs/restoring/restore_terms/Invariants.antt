@@ -7,4 +7,4 @@ use Rattle.cgm_step.proofs.restoring.restore_terms.Given as goal
 abbrev pub invariant-loop-term : goal.invariant-loop-term
 invariant-loop-term l =
     IsBoxOf l.problem.bounds l.bounds
-    × ((vars : List ℕ) → ChangesOnly (vars_of_terms l.terms ++ vars) l.problem.bounds l.fn.b → ChangesOnly (vars_of_terms (drop l.term-index l.terms) ++ vars) l.problem.bounds l.bounds)
+    × ((vars : List ℕ) → ChangesOnly (vars_of_terms l.terms ++ vars) l.problem.bounds l.fn.bounds → ChangesOnly (vars_of_terms (drop l.term-index l.terms) ++ vars) l.problem.bounds l.bounds)

@@ -1,0 +1,25 @@
+-- One more element of a list that is made by a function, in a loop over the elements.
+use Rattle.std.proofs.Common.{◌≡◌, ℕ, ◌+◌, ◌<◌, ◌≤◌, List, [], ◌∷◌, ◌++◌, length, get_or, map, take, drop, sym, ap, append_assoc, ◌∙◌}
+use Rattle.std.proofs.lemmas.List.{drop_more, map_more}
+
+module _ {X Y : Type 0} (f : X → Y) (xs : List X) (i : ℕ) (d : X) (y : Y) (old new : List Y) where
+  -- the list has the elements so far
+  pub mapped_by : i < length xs → old ≡ map f (take i xs) → y ≡ f (get_or xs i d) → new ≡ old ++ y ∷ [] → new ≡ map f (take (i + 1) xs)
+  mapped_by h so is pushed =
+      pushed ∙ ap (λ (z : Y). old ++ z ∷ []) is ∙ ap (λ (ys : List Y). ys ++ f (get_or xs i d) ∷ []) so ∙ sym (map_more f xs i d h)
+
+  -- the same where the list had others before the loop
+  pub appended_by : (first : List Y) → i < length xs → old ≡ first ++ map f (take i xs) → y ≡ f (get_or xs i d) → new ≡ old ++ y ∷ [] → new ≡ first ++ map f (take (i + 1) xs)
+  appended_by first h so is pushed =
+      pushed ∙ ap (λ (z : Y). old ++ z ∷ []) is ∙ ap (λ (ys : List Y). ys ++ f (get_or xs i d) ∷ []) so
+      ∙ append_assoc first (map f (take i xs)) (f (get_or xs i d) ∷ [])
+      ∙ ap (λ (ys : List Y). first ++ ys) (sym (map_more f xs i d h))
+
+  -- the list with the elements that are left comes to all
+  pub rest_by : (all : List Y) → i < length xs → old ++ map f (drop i xs) ≡ all → y ≡ f (get_or xs i d) → new ≡ old ++ y ∷ [] → new ++ map f (drop (i + 1) xs) ≡ all
+  rest_by all h so is pushed =
+      ap (λ (ys : List Y). ys ++ map f (drop (i + 1) xs)) pushed
+      ∙ append_assoc old (y ∷ []) (map f (drop (i + 1) xs))
+      ∙ ap (λ (z : Y). old ++ z ∷ map f (drop (i + 1) xs)) is
+      ∙ ap (λ (ys : List X). old ++ map f ys) (sym (drop_more xs i d h))
+      ∙ so

@@ -1,0 +1,9 @@
+use Rattle.std.specs.Prelude.{ℤ, pos, neg_ℤ}
+use Rattle.cgm_atom.specs.declared.constraints.Var.{Var}
+use Rattle.cgm_enc_formula.proofs.Mapped.{mapped_by}
+use Rattle.cgm_enc_formula.proofs.terms.negative.Goals as goal
+
+pub loop-term-preserved : goal.loop-term-preserved
+loop-term-preserved c =
+    mapped_by (λ (t : ℤ × Var). (neg_ℤ t.0, t.1)) c.args.terms.now c.loop-term.term-index (pos 0, record { 0 = 0 }) c.negated_term.result c.loop-term.negated.items c.push.new.self.items
+    c.loop-term-test.true c.loop-term.invariant c.negated_term.ensures c.in_ok-push.ensures.items

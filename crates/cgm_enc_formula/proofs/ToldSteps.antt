@@ -1,16 +1,17 @@
 -- What a formula's node adds to the values of naming variables, behind those of its parts.
-use Rattle.std.proofs.Common.{◌≡◌, ℕ, ◌+◌, ◌<◌, Bool, not, ◌||◌, List, [], ◌∷◌, ◌++◌, length, get_or, map, drop, refl, sym, ap, ◌∙◌, Result, IfOk, OnOk, Ok, Err}
-use Rattle.std.specs.Prelude.{ℤ}
+use Rattle.std.proofs.Common.{◌≡◌, ℕ, ◌+◌, ◌<◌, Bool, not, ◌&&◌, ◌||◌, List, [], ◌∷◌, ◌++◌, length, get_or, map, drop, refl, sym, ap, ◌∙◌, Result, IfOk, OnOk, Ok, Err}
+use Rattle.std.specs.Prelude.{ℤ, int_le}
 use Rattle.std.specs.List.{list_all, list_any}
-use Rattle.std.proofs.lemmas.List.{append_assoc, drop_more, map-append}
+use Rattle.std.proofs.lemmas.List.{append-nil, append_assoc, drop_more, map-append}
 use Rattle.std.proofs.lemmas.List.Folds.{list_all-map}
 use Rattle.cgm_atom.specs.Literals.{bit}
 use Rattle.cgm_formula.specs.declared.formula.Formula.{Formula}
-use Rattle.cgm_formula.specs.declared.formula.Formula.TheVariants.{And, Or, Implies, Iff}
+use Rattle.cgm_formula.specs.declared.formula.Formula.TheVariants.{Name, Not, And, Or, Implies, Iff, AtMost, AtLeast, Equal}
+use Rattle.cgm_formula.specs.declared.formula.Linear.{Linear}
 use Rattle.cgm_formula.specs.declared.formula.Number.{Number}
 use Rattle.cgm_formula.specs.declared.formula.Truth.{Truth}
-use Rattle.cgm_formula.specs.Truth.{same_truth}
-use Rattle.cgm_formula.proofs.Folds.{fold-And, fold-Iff, fold-Implies, fold-Or}
+use Rattle.cgm_formula.specs.Truth.{linear_value, same_truth}
+use Rattle.cgm_formula.proofs.Folds.{fold-And, fold-AtLeast, fold-AtMost, fold-Equal, fold-Iff, fold-Implies, fold-Name, fold-Not, fold-Or}
 use Rattle.cgm_formula.proofs.Truths.{list_any-map}
 use Rattle.cgm_model.specs.declared.lists.Rule.{Rule}
 use Rattle.cgm_model.specs.Formulas.{formula_of}
@@ -52,6 +53,18 @@ both_added old one two ts us e f =
     ∙ ap (λ (l : List ℤ). l ++ map bit us) e
     ∙ append_assoc old (map bit ts) (map bit us)
     ∙ ap (λ (l : List ℤ). old ++ l) (sym (map-append bit ts us))
+
+-- one node, and three
+nodes_added : (old two : List ℤ) (v t : Bool) → v ≡ t → two ≡ old ++ bit v ∷ [] → two ≡ old ++ map bit (t ∷ [])
+nodes_added old two v t e h = h ∙ ap (λ (b : Bool). old ++ bit b ∷ []) e
+
+three_added : (old two : List ℤ) (v w t u : Bool) → v ≡ t → w ≡ u → two ≡ ((old ++ bit v ∷ []) ++ bit w ∷ []) ++ bit (v && w) ∷ [] → two ≡ old ++ map bit (t ∷ u ∷ (t && u) ∷ [])
+three_added old two v w t u e g h =
+    h
+    ∙ ap (λ (b : Bool). ((old ++ bit b ∷ []) ++ bit w ∷ []) ++ bit (b && w) ∷ []) e
+    ∙ ap (λ (b : Bool). ((old ++ bit t ∷ []) ++ bit b ∷ []) ++ bit (t && b) ∷ []) g
+    ∙ append_assoc (old ++ bit t ∷ []) (bit u ∷ []) (bit (t && u) ∷ [])
+    ∙ append_assoc old (bit t ∷ []) (bit u ∷ bit (t && u) ∷ [])
 
 module _ (names : Truth → Bool) (numbers : Number → ℤ) where
   abbrev tells : Formula → Told
@@ -153,3 +166,56 @@ module _ (names : Truth → Bool) (numbers : Number → ℤ) where
       node_added old two three ((tells p).truths ++ (tells q).truths) (same_truth s t) (both_added old one two (tells p).truths (tells q).truths e g) h
       ∙ ap (λ (b : Bool). old ++ map bit (((tells p).truths ++ (tells q).truths) ++ b ∷ [])) (equivalence_says f left right p q s t is same other first second ∙ ap (λ (x : Told). x.says) (equivalence f left right p q is same other))
       ∙ ap (λ (x : Told). old ++ map bit x.truths) (sym (equivalence f left right p q is same other))
+
+  -- ---- names, negations and comparisons
+
+  name : (f : Formula) (x : Truth) → f ≡ Name x → tells f ≡ record { truths = []; says = names x }
+  name f x is = ap tells is ∙ fold-Name (told_step names numbers) x
+
+  pub name_says : (f : Formula) (x : Truth) (t : Bool) → f ≡ Name x → t ≡ names x → t ≡ (tells f).says
+  name_says f x t is e = e ∙ ap (λ (s : Told). s.says) (sym (name f x is))
+
+  pub name_told : (f : Formula) (x : Truth) (old : List ℤ) → f ≡ Name x → old ≡ old ++ map bit (tells f).truths
+  name_told f x old is = sym (append-nil old) ∙ ap (λ (s : Told). old ++ map bit s.truths) (sym (name f x is))
+
+  negation : (f part p : Formula) → f ≡ Not part → p ≡ part → tells f ≡ record { truths = (tells p).truths; says = not (tells p).says }
+  negation f part p is same =
+      ap tells is ∙ fold-Not (told_step names numbers) part ∙ ap (λ (g : Formula). record { truths = (tells g).truths; says = not (tells g).says }) (sym same)
+
+  pub negation_says : (f part p : Formula) (s : Bool) → f ≡ Not part → p ≡ part → s ≡ (tells p).says → not s ≡ (tells f).says
+  negation_says f part p s is same said = ap (λ (b : Bool). not b) said ∙ ap (λ (x : Told). x.says) (sym (negation f part p is same))
+
+  pub negation_told : (f part p : Formula) (old one : List ℤ) → f ≡ Not part → p ≡ part → one ≡ old ++ map bit (tells p).truths → one ≡ old ++ map bit (tells f).truths
+  negation_told f part p old one is same first = first ∙ ap (λ (x : Told). old ++ map bit x.truths) (sym (negation f part p is same))
+
+  at_most : (f : Formula) (l : Linear) (k : ℤ) → f ≡ AtMost l k → tells f ≡ telling [] (int_le (linear_value numbers l) k)
+  at_most f l k is = ap tells is ∙ fold-AtMost (told_step names numbers) l k
+
+  pub at_most_says : (f : Formula) (l : Linear) (k : ℤ) (v : Bool) → f ≡ AtMost l k → v ≡ int_le (linear_value numbers l) k → v ≡ (tells f).says
+  at_most_says f l k v is e = e ∙ ap (λ (x : Told). x.says) (sym (at_most f l k is))
+
+  pub at_most_told : (f : Formula) (l : Linear) (k : ℤ) (v : Bool) (old two : List ℤ) → f ≡ AtMost l k → v ≡ int_le (linear_value numbers l) k → two ≡ old ++ bit v ∷ [] → two ≡ old ++ map bit (tells f).truths
+  at_most_told f l k v old two is e h =
+      nodes_added old two v (int_le (linear_value numbers l) k) e h ∙ ap (λ (x : Told). old ++ map bit x.truths) (sym (at_most f l k is))
+
+  at_least : (f : Formula) (l : Linear) (k : ℤ) → f ≡ AtLeast l k → tells f ≡ telling [] (int_le k (linear_value numbers l))
+  at_least f l k is = ap tells is ∙ fold-AtLeast (told_step names numbers) l k
+
+  pub at_least_says : (f : Formula) (l : Linear) (k : ℤ) (v : Bool) → f ≡ AtLeast l k → v ≡ int_le k (linear_value numbers l) → v ≡ (tells f).says
+  at_least_says f l k v is e = e ∙ ap (λ (x : Told). x.says) (sym (at_least f l k is))
+
+  pub at_least_told : (f : Formula) (l : Linear) (k : ℤ) (v : Bool) (old two : List ℤ) → f ≡ AtLeast l k → v ≡ int_le k (linear_value numbers l) → two ≡ old ++ bit v ∷ [] → two ≡ old ++ map bit (tells f).truths
+  at_least_told f l k v old two is e h =
+      nodes_added old two v (int_le k (linear_value numbers l)) e h ∙ ap (λ (x : Told). old ++ map bit x.truths) (sym (at_least f l k is))
+
+  equality : (f : Formula) (l : Linear) (k : ℤ) → f ≡ Equal l k → tells f ≡ telling (int_le (linear_value numbers l) k ∷ int_le k (linear_value numbers l) ∷ []) (int_le (linear_value numbers l) k && int_le k (linear_value numbers l))
+  equality f l k is = ap tells is ∙ fold-Equal (told_step names numbers) l k
+
+  pub equality_says : (f : Formula) (l : Linear) (k : ℤ) (v w : Bool) → f ≡ Equal l k → v ≡ int_le (linear_value numbers l) k → w ≡ int_le k (linear_value numbers l) → (v && w) ≡ (tells f).says
+  equality_says f l k v w is e g =
+      ap (λ (b : Bool). b && w) e ∙ ap (λ (b : Bool). int_le (linear_value numbers l) k && b) g ∙ ap (λ (x : Told). x.says) (sym (equality f l k is))
+
+  pub equality_told : (f : Formula) (l : Linear) (k : ℤ) (v w : Bool) (old two : List ℤ) → f ≡ Equal l k → v ≡ int_le (linear_value numbers l) k → w ≡ int_le k (linear_value numbers l) → two ≡ ((old ++ bit v ∷ []) ++ bit w ∷ []) ++ bit (v && w) ∷ [] → two ≡ old ++ map bit (tells f).truths
+  equality_told f l k v w old two is e g h =
+      three_added old two v w (int_le (linear_value numbers l) k) (int_le k (linear_value numbers l)) e g h
+      ∙ ap (λ (x : Told). old ++ map bit x.truths) (sym (equality f l k is))

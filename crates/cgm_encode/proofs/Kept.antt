@@ -1,8 +1,8 @@
 -- What a loop keeps of the numbers below a place, and of the items of a list.
-use Rattle.std.proofs.Common.{◌≡◌, ℕ, ◌+◌, ◌<◌, Bool, List, [], ◌∷◌, ◌++◌, length, get_or, take, map, sym, ap, append_assoc, ◌∙◌, arith}
+use Rattle.std.proofs.Common.{◌≡◌, ℕ, zero, suc, ◌+◌, ◌<◌, Bool, List, [], ◌∷◌, ◌++◌, length, get_or, take, refl, sym, ap, ◌∙◌, arith}
 use Rattle.std.specs.Prelude.{filter}
 use Rattle.std.specs.List.{range_with_len}
-use Rattle.std.proofs.lemmas.List.{map_more, take_more}
+use Rattle.std.proofs.lemmas.List.{take_more}
 use Rattle.std.proofs.lemmas.List.Elements.{filter-append}
 use Rattle.cgm_encode.proofs.AddedVariables.{range_more}
 
@@ -22,12 +22,9 @@ items_kept p xs i d old new l are added =
     ∙ sym (filter-append p (take i xs) (get_or xs i d ∷ []))
     ∙ ap (λ (ys : List ℕ). filter p ys) (sym (take_more xs i d l))
 
--- one more element of a list that is made by a function, in a loop over the elements
-pub mapped_more : {X Y : Type 0} (f : X → Y) (xs : List X) (i : ℕ) (d : X) (old new : List Y) → i < length xs → old ≡ map f (take i xs) → new ≡ old ++ f (get_or xs i d) ∷ [] → new ≡ map f (take (i + 1) xs)
-mapped_more {X} {Y} f xs i d old new h so pushed =
-    pushed ∙ ap (λ (ys : List Y). ys ++ f (get_or xs i d) ∷ []) so ∙ sym (map_more f xs i d h)
-
--- the same where the list had elements before the loop
-pub appended_more : {X Y : Type 0} (f : X → Y) (xs : List X) (i : ℕ) (d : X) (first old new : List Y) → i < length xs → old ≡ first ++ map f (take i xs) → new ≡ old ++ f (get_or xs i d) ∷ [] → new ≡ first ++ map f (take (i + 1) xs)
-appended_more {X} {Y} f xs i d first old new h so pushed =
-    pushed ∙ ap (λ (ys : List Y). ys ++ f (get_or xs i d) ∷ []) so ∙ append_assoc first (map f (take i xs)) (f (get_or xs i d) ∷ []) ∙ ap (λ (ys : List Y). first ++ ys) (sym (map_more f xs i d h))
+-- lists that are all empty, and one more
+pub empty_more : {X : Type 0} (lists : List (List X)) → ((k : ℕ) → get_or lists k [] ≡ []) → (k : ℕ) → get_or (lists ++ [] ∷ []) k [] ≡ []
+empty_more [] empty zero = refl
+empty_more [] empty (suc k) = refl
+empty_more (xs ∷ lists) empty zero = empty zero
+empty_more (xs ∷ lists) empty (suc k) = empty_more lists (λ j. empty (suc j)) k

@@ -32,6 +32,7 @@ pub mod Shares
 pub mod SharesBySum
 pub mod SharesSoFar
 pub mod SignedShares
+pub mod TermBounds
 pub mod ToldRules
 pub mod TotalRows
 pub mod TotalSums

@@ -1,9 +1,10 @@
 -- Lines that a loop adds: what was added with those that are left comes to all.
-use Rattle.std.proofs.Common.{◌≡◌, ℕ, suc, ◌+◌, ◌<◌, List, ◌∷◌, ◌++◌, drop, sym, ap, ◌∙◌, arith}
+use Rattle.std.proofs.Common.{◌≡◌, ℕ, suc, ◌+◌, ◌<◌, List, [], ◌∷◌, ◌++◌, get_or, length, map, drop, sym, ap, ◌∙◌, arith}
 use Rattle.std.specs.Prelude.{◌-◌, flat_map, slice_get, Some}
 use Rattle.std.specs.List.{enumerate_from, range_with_len}
-use Rattle.std.proofs.lemmas.List.{append_assoc, drop_more}
+use Rattle.std.proofs.lemmas.List.{append-nil, append_assoc, drop_more}
 use Rattle.std.proofs.lemmas.Option.{get_or_from_slice_get, slice_get_within}
+use Rattle.cgm_atom.specs.AtomWords.{spaced}
 
 next : (old new one rest whole : List ℕ) → old ++ (one ++ rest) ≡ whole → new ≡ old ++ one → new ++ rest ≡ whole
 next old new one rest whole e added = ap (λ (l : List ℕ). l ++ rest) added ∙ append_assoc old one rest ∙ e
@@ -31,3 +32,30 @@ four_groups header a b c d one two three four e f g h =
     ∙ append_assoc ((header ++ a) ++ b) c d
     ∙ append_assoc (header ++ a) b (c ++ d)
     ∙ append_assoc header a (b ++ (c ++ d))
+
+-- the word of one more item, after a space
+pub spaced_more : {X : Type 0} (word : X → List ℕ) (xs : List X) (i : ℕ) (d : X) (old new whole : List ℕ) → i < length xs → old ++ spaced (map word (drop i xs)) ≡ whole → new ≡ old ++ 32 ∷ word (get_or xs i d) → new ++ spaced (map word (drop (i + 1) xs)) ≡ whole
+spaced_more {X} word xs i d old new whole h e added =
+    next old new (32 ∷ word (get_or xs i d)) (spaced (map word (drop (i + 1) xs))) whole
+    (ap (λ (ys : List X). old ++ spaced (map word ys)) (sym (drop_more xs i d h)) ∙ e) added
+
+-- what one more item gives, of a list
+pub flat_more : {X : Type 0} (f : X → List ℕ) (xs : List X) (i : ℕ) (d : X) (old new whole : List ℕ) → i < length xs → old ++ flat_map f (drop i xs) ≡ whole → new ≡ old ++ f (get_or xs i d) → new ++ flat_map f (drop (i + 1) xs) ≡ whole
+flat_more {X} f xs i d old new whole h e added =
+    next old new (f (get_or xs i d)) (flat_map f (drop (i + 1) xs)) whole
+    (ap (λ (ys : List X). old ++ flat_map f ys) (sym (drop_more xs i d h)) ∙ e) added
+
+-- a word, three more, some behind them, and the line feed
+pub line_of : (out word a b c rest : List ℕ) (one two three four five six : List ℕ) → one ≡ out ++ word → two ≡ one ++ a → three ≡ two ++ b → four ≡ three ++ c → five ≡ four ++ rest → six ≡ five ++ 10 ∷ [] → six ≡ out ++ (word ++ ((a ++ (b ++ (c ++ rest))) ++ 10 ∷ []))
+line_of out word a b c rest one two three four five six e f g h i j =
+    let tail = 10 ∷ [] in
+    j
+    ∙ ap (λ (l : List ℕ). l ++ tail) (i ∙ ap (λ (l : List ℕ). l ++ rest) (h ∙ ap (λ (l : List ℕ). l ++ c) (g ∙ ap (λ (l : List ℕ). l ++ b) (f ∙ ap (λ (l : List ℕ). l ++ a) e))))
+    ∙ ap (λ (l : List ℕ). l ++ tail)
+    (append_assoc (((out ++ word) ++ a) ++ b) c rest ∙ append_assoc ((out ++ word) ++ a) b (c ++ rest) ∙ append_assoc (out ++ word) a (b ++ (c ++ rest)) ∙ append_assoc out word (a ++ (b ++ (c ++ rest))))
+    ∙ append_assoc out (word ++ (a ++ (b ++ (c ++ rest)))) tail
+    ∙ ap (λ (l : List ℕ). out ++ l) (append_assoc word (a ++ (b ++ (c ++ rest))) tail)
+
+pub short_line_of : (out word a b c : List ℕ) (one two three four five : List ℕ) → one ≡ out ++ word → two ≡ one ++ a → three ≡ two ++ b → four ≡ three ++ c → five ≡ four ++ 10 ∷ [] → five ≡ out ++ (word ++ ((a ++ (b ++ (c ++ []))) ++ 10 ∷ []))
+short_line_of out word a b c one two three four five e f g h i =
+    line_of out word a b c [] one two three four four five e f g h (sym (append-nil four)) i

@@ -1,8 +1,7 @@
 //! Linear expressions over a problem's variables.
-ghost use Rattle.std.specs.Prelude.{◌≡◌, ◌++◌, ◌∷◌, [], ◌+◌, ◌^◌, ◌<◌, ◌==◌, ℕ, pos, ◌+ℤ◌, neg_ℤ, unsigned_abs, if◌then◌else◌, All, IfOk, OnOk};
+ghost use Rattle.std.specs.Prelude.{◌≡◌, ◌++◌, ◌∷◌, [], ◌+◌, ◌^◌, ◌<◌, ◌==◌, ℕ, pos, ◌+ℤ◌, unsigned_abs, if◌then◌else◌, All, IfOk, OnOk};
 ghost use Rattle.std.specs.BTreeMap.{IsOrdered};
 ghost use Rattle.std.specs.Ordering.{nat_cmp};
-ghost use Rattle.cgm_enc_formula.specs.Definitions.{negative as negative_of};
 ghost use Rattle.cgm_enc_formula.specs.Terms.{as_terms, nonzero};
 ghost use Rattle.cgm_encode.specs.Building.{number_at, share_size};
 ghost use Rattle.cgm_encode.specs.Totals.{combined, combined_terms as terms_of};
@@ -92,23 +91,4 @@ fn push_nonzero(terms: &mut Vec<(i64, Var)>, number: i64, x: u32) -> Result<(), 
     }
     terms.push((number, Var(x)))?;
     Ok(())
-}
-
-/// Each coefficient with its sign changed.
-pub(crate) fn negative(alloc: Global, terms: &[(i64, Var)]) -> Result<Vec<(i64, Var)>, OutOfMemory>
-    requires { All (λ t. unsigned_abs t.0 < 2 ^ 63) terms.now }
-    ensures { IfOk result (λ negated. negated.items ≡ negative_of terms.now) }
-{
-    let mut negated = Vec::new(alloc);
-    for term in terms {
-        negated.push(negated_term(term))?;
-    }
-    Ok(negated)
-}
-
-fn negated_term(term: &(i64, Var)) -> (i64, Var)
-    requires { unsigned_abs term.now.0 < 2 ^ 63 }
-    ensures { result ≡ (neg_ℤ term.now.0, term.now.1) }
-{
-    (-term.0, term.1)
 }

@@ -7,9 +7,9 @@ ghost use Rattle.cgm_atom.specs.Limits.{AreTermsOf};
 ghost use Rattle.cgm_encode.specs.Building.{HasBoundSize, IsDefining, defining_rows, with_rows};
 ghost use Rattle.cgm_encode.specs.Totals.{row_of};
 
-use crate::expressions::{Expression, negative};
-use cgm_atom::{BuildStop, ProblemBuilder, Row, Seq, Var};
-use cgm_base::OutOfMemory;
+use crate::expressions::Expression;
+use cgm_atom::{BuildStop, OutOfMemory, ProblemBuilder, Row, Seq, Var};
+use cgm_enc_formula::negative;
 use std::alloc::Global;
 
 /// Adds the rows by which each variable is the value of the expression at its place.

@@ -1,6 +1,7 @@
 -- The rest of a line after its first token, and the lines of a group.
-use Rattle.std.proofs.Common.{◌≡◌, ℕ, zero, suc, ◌+◌, ◌<◌, ◌≤◌, arith, Bool, true, false, not, ◌&&◌, ◌||◌, if◌then◌else◌, List, [], ◌∷◌, ◌++◌, drop, get_or, length, map, codes, refl, ap, sym, ◌∙◌, append_assoc, append-nil}
+use Rattle.std.proofs.Common.{◌≡◌, ℕ, zero, suc, ◌+◌, ◌<◌, ◌≤◌, arith, Bool, true, false, not, ◌&&◌, ◌||◌, if◌then◌else◌, List, [], ◌∷◌, ◌++◌, drop, get_or, length, map, codes, refl, ap, sym, ◌∙◌, append_assoc, append-nil, Result, OnOk}
 use Rattle.std.proofs.lemmas.List.{drop_more}
+use Rattle.std.proofs.lemmas.Result.{on_ok_weaker}
 use Rattle.cgm_lex.specs.Lexemes.{Lexeme, colon, word}
 use Rattle.cgm_lex.specs.Spelling.{is_closing_bracket, is_opening, spelled_line, text_of}
 use Rattle.cgm_model.specs.declared.lists.Lists.{Lists}
@@ -78,9 +79,11 @@ lines_together m (s ∷ xs) ys =
     ap (λ (bs : List ℕ). first ++ bs) (lines_together m xs ys) ∙ sym (append_assoc first (statement_lines m xs) (statement_lines m ys))
 
 -- a line whose two names are these
-pub two_names : (w x y one other : List ℕ) (old line : List ℕ) → x ≡ one → y ≡ other → line ≡ old ++ spelled_line (word w ∷ word x ∷ word y ∷ []) → line ≡ old ++ spelled_line (word w ∷ word one ∷ word other ∷ [])
-two_names w x y one other old line e f h =
-    h ∙ ap (λ (n : List ℕ). old ++ spelled_line (word w ∷ word n ∷ word y ∷ [])) e ∙ ap (λ (n : List ℕ). old ++ spelled_line (word w ∷ word one ∷ word n ∷ [])) f
+pub two_names : {E : Type 0} (r : Result (Unit {0}) E) (w x y one other : List ℕ) (old line : List ℕ) → x ≡ one → y ≡ other
+    → OnOk r (line ≡ old ++ spelled_line (word w ∷ word x ∷ word y ∷ [])) → OnOk r (line ≡ old ++ spelled_line (word w ∷ word one ∷ word other ∷ []))
+two_names r w x y one other old line e f last =
+    on_ok_weaker r (λ (h : line ≡ old ++ spelled_line (word w ∷ word x ∷ word y ∷ [])).
+    h ∙ ap (λ (n : List ℕ). old ++ spelled_line (word w ∷ word n ∷ word y ∷ [])) e ∙ ap (λ (n : List ℕ). old ++ spelled_line (word w ∷ word one ∷ word n ∷ [])) f) last
 
 -- the lines of groups that follow one another
 two_groups : (m : Lists) (xs ys : List Statement) (t a b : List ℕ) → a ≡ t ++ statement_lines m xs → b ≡ a ++ statement_lines m ys → b ≡ t ++ statement_lines m (xs ++ ys)

@@ -2,6 +2,7 @@
 #![tactic(auto)]
 
 mod formula_printer;
+mod line;
 mod model_printer;
 pub mod names;
 mod printer;

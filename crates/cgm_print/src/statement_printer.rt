@@ -3,12 +3,13 @@ ghost use Rattle.std.specs.Prelude.{◌≡◌, ◌∷◌, [], codes, map, OnOk};
 ghost use Rattle.cgm_lex.specs.Lexemes.{number, word};
 ghost use Rattle.cgm_model.specs.Model.{lists_of};
 ghost use Rattle.cgm_model.specs.declared.lists.Statement.TheVariants as Statement;
-ghost use Rattle.cgm_print.specs.Canonical.{direction_of, element_name as name_of_element, truth_name as name_of_truth, written, written_element, written_formula, written_rule};
+ghost use Rattle.cgm_print.specs.Canonical.{direction_of, element_name as name_of_element, truth_name as name_of_truth, written_formula};
 ghost use Rattle.cgm_print.specs.Printing.{Begins, IsLine, Writes, words_before};
 ghost use Rattle.cgm_print.specs.Statements.{direction_word as word_of_direction, goal, sort_word, statement_tokens};
 ghost use Rattle.cgm_print.specs.Written.{spelled};
 
 use crate::formula_printer::formula;
+use crate::line::Line;
 use crate::names::{element_name, quantity_name, refinement_name, sum_name, truth_name};
 use crate::printer::Printer;
 use crate::words::{ConditionWord, Direction, NameWord, PairWord, Sort, WeightWord};
@@ -46,21 +47,28 @@ fn goal_line(printer: &mut Printer, name: &[u8], must: bool) -> Result<(), OutOf
     Ok(())
 }
 
-/// Writes the line of an element, without its line feed, here and below.
-pub(crate) fn element(printer: &mut Printer, item: &Element) -> Result<(), OutOfMemory>
-    ensures { OnOk result (IsLine printer.old printer.new
-        (statement_tokens (written_element item.now.name item.now.kind item.now.must))) }
-{
-    match item.kind {
-        ElementKind::Goal => goal_line(printer, item.name.as_slice(), item.must)?,
-        ElementKind::Task => named_line(printer, Sort::Name(NameWord::Task), item.name.as_slice())?,
-        ElementKind::Assume => named_line(
-            printer,
-            Sort::Name(NameWord::Assume),
-            item.name.as_slice(),
-        )?,
+/// How elements are written.
+pub(crate) struct Elements;
+
+impl Line<Element> for Elements {
+    ghost statement = { λ item. Statement.Element item };
+
+    fn write(printer: &mut Printer, _model: &Model, item: &Element) -> Result<(), OutOfMemory> {
+        match item.kind {
+            ElementKind::Goal => goal_line(printer, item.name.as_slice(), item.must)?,
+            ElementKind::Task => named_line(
+                printer,
+                Sort::Name(NameWord::Task),
+                item.name.as_slice(),
+            )?,
+            ElementKind::Assume => named_line(
+                printer,
+                Sort::Name(NameWord::Assume),
+                item.name.as_slice(),
+            )?,
+        }
+        Ok(())
     }
-    Ok(())
 }
 
 fn source_names(printer: &mut Printer, model: &Model, numbers: &[u32]) -> Result<(), OutOfMemory>
@@ -73,33 +81,37 @@ fn source_names(printer: &mut Printer, model: &Model, numbers: &[u32]) -> Result
     Ok(())
 }
 
-pub(crate) fn refinement(
-    printer: &mut Printer,
-    model: &Model,
-    item: &Refinement,
-) -> Result<(), OutOfMemory>
-    ensures { OnOk result (IsLine printer.old printer.new
-        (statement_tokens (written (lists_of model.now) (Statement.Refine item.now)))) }
-{
-    named_line(printer, Sort::Refine, item.name.as_slice())?;
-    printer.word(element_name(model, item.target))?;
-    printer.colon()?;
-    let numbers = item.sources.as_slice();
-    match numbers {
-        [] => printer.word(b"")?,
-        [_, ..] => source_names(printer, model, numbers)?,
+/// How refinements are written.
+pub(crate) struct Refinements;
+
+impl Line<Refinement> for Refinements {
+    ghost statement = { λ item. Statement.Refine item };
+
+    fn write(printer: &mut Printer, model: &Model, item: &Refinement) -> Result<(), OutOfMemory> {
+        named_line(printer, Sort::Refine, item.name.as_slice())?;
+        printer.word(element_name(model, item.target))?;
+        printer.colon()?;
+        let numbers = item.sources.as_slice();
+        match numbers {
+            [] => printer.word(b"")?,
+            [_, ..] => source_names(printer, model, numbers)?,
+        }
+        Ok(())
     }
-    Ok(())
 }
 
-pub(crate) fn variable(printer: &mut Printer, item: &Variable) -> Result<(), OutOfMemory>
-    ensures { OnOk result (IsLine printer.old printer.new
-        (word (codes "var") ∷ word item.now.name ∷ number item.now.lo ∷ number item.now.hi ∷ [])) }
-{
-    named_line(printer, Sort::Var, item.name.as_slice())?;
-    printer.number(item.lo)?;
-    printer.number(item.hi)?;
-    Ok(())
+/// How variables are written.
+pub(crate) struct Variables;
+
+impl Line<Variable> for Variables {
+    ghost statement = { λ item. Statement.Variable item };
+
+    fn write(printer: &mut Printer, _model: &Model, item: &Variable) -> Result<(), OutOfMemory> {
+        named_line(printer, Sort::Var, item.name.as_slice())?;
+        printer.number(item.lo)?;
+        printer.number(item.hi)?;
+        Ok(())
+    }
 }
 
 fn pair(printer: &mut Printer, sort: Sort, one: &[u8], other: &[u8]) -> Result<(), OutOfMemory>
@@ -111,85 +123,94 @@ fn pair(printer: &mut Printer, sort: Sort, one: &[u8], other: &[u8]) -> Result<(
     Ok(())
 }
 
-pub(crate) fn contribution(
-    printer: &mut Printer,
-    model: &Model,
-    edge: &Edge,
-) -> Result<(), OutOfMemory>
-    ensures { OnOk result (IsLine printer.old printer.new
-        (statement_tokens (written (lists_of model.now) (Statement.Contrib edge.now)))) }
-{
-    pair(
-        printer,
-        Sort::Pair(PairWord::Contrib),
-        element_name(model, edge.from),
-        element_name(model, edge.to),
-    )?;
-    Ok(())
+/// How contributions are written.
+pub(crate) struct Contributions;
+
+impl Line<Edge> for Contributions {
+    ghost statement = { λ item. Statement.Contrib item };
+
+    fn write(printer: &mut Printer, model: &Model, item: &Edge) -> Result<(), OutOfMemory> {
+        pair(
+            printer,
+            Sort::Pair(PairWord::Contrib),
+            element_name(model, item.from),
+            element_name(model, item.to),
+        )
+    }
 }
 
-pub(crate) fn conflict(printer: &mut Printer, model: &Model, edge: &Edge) -> Result<(), OutOfMemory>
-    ensures { OnOk result (IsLine printer.old printer.new
-        (statement_tokens (written (lists_of model.now) (Statement.Conflict edge.now)))) }
-{
-    pair(
-        printer,
-        Sort::Pair(PairWord::Conflict),
-        element_name(model, edge.from),
-        element_name(model, edge.to),
-    )?;
-    Ok(())
+/// How conflicts are written.
+pub(crate) struct Conflicts;
+
+impl Line<Edge> for Conflicts {
+    ghost statement = { λ item. Statement.Conflict item };
+
+    fn write(printer: &mut Printer, model: &Model, item: &Edge) -> Result<(), OutOfMemory> {
+        pair(
+            printer,
+            Sort::Pair(PairWord::Conflict),
+            element_name(model, item.from),
+            element_name(model, item.to),
+        )
+    }
 }
 
-pub(crate) fn binding(printer: &mut Printer, model: &Model, edge: &Edge) -> Result<(), OutOfMemory>
-    ensures { OnOk result (IsLine printer.old printer.new
-        (statement_tokens (written (lists_of model.now) (Statement.Bind edge.now)))) }
-{
-    pair(
-        printer,
-        Sort::Pair(PairWord::Bind),
-        refinement_name(model, edge.from),
-        refinement_name(model, edge.to),
-    )?;
-    Ok(())
+/// How bindings are written.
+pub(crate) struct Bindings;
+
+impl Line<Edge> for Bindings {
+    ghost statement = { λ item. Statement.Bind item };
+
+    fn write(printer: &mut Printer, model: &Model, item: &Edge) -> Result<(), OutOfMemory> {
+        pair(
+            printer,
+            Sort::Pair(PairWord::Bind),
+            refinement_name(model, item.from),
+            refinement_name(model, item.to),
+        )
+    }
 }
 
-pub(crate) fn assertion(
-    printer: &mut Printer,
-    model: &Model,
-    item: &Assertion,
-) -> Result<(), OutOfMemory>
-    ensures { OnOk result (IsLine printer.old printer.new
-        (statement_tokens (written (lists_of model.now) (Statement.Assert item.now)))) }
-{
-    pair(
-        printer,
-        Sort::Assert,
-        element_name(model, item.element),
-        truth_word(item.truth),
-    )?;
-    Ok(())
+/// How assertions are written.
+pub(crate) struct Assertions;
+
+impl Line<Assertion> for Assertions {
+    ghost statement = { λ item. Statement.Assert item };
+
+    fn write(printer: &mut Printer, model: &Model, item: &Assertion) -> Result<(), OutOfMemory> {
+        pair(
+            printer,
+            Sort::Assert,
+            element_name(model, item.element),
+            truth_word(item.truth),
+        )
+    }
 }
 
-pub(crate) fn sum(printer: &mut Printer, of_sum: &Sum) -> Result<(), OutOfMemory>
-    ensures { OnOk result (IsLine printer.old printer.new (word (codes "sum") ∷ word of_sum.now.name ∷ [])) }
-{
-    named_line(printer, Sort::Name(NameWord::Sum), of_sum.name.as_slice())?;
-    Ok(())
+/// How sums are written.
+pub(crate) struct Sums;
+
+impl Line<Sum> for Sums {
+    ghost statement = { λ item. Statement.Sum item };
+
+    fn write(printer: &mut Printer, _model: &Model, item: &Sum) -> Result<(), OutOfMemory> {
+        named_line(printer, Sort::Name(NameWord::Sum), item.name.as_slice())?;
+        Ok(())
+    }
 }
 
-pub(crate) fn value(
-    printer: &mut Printer,
-    model: &Model,
-    item: &SumValue,
-) -> Result<(), OutOfMemory>
-    ensures { OnOk result (IsLine printer.old printer.new
-        (statement_tokens (written (lists_of model.now) (Statement.Value item.now)))) }
-{
-    named_line(printer, Sort::Value, sum_name(model, item.sum))?;
-    printer.word(truth_name(model, item.of))?;
-    printer.number(item.k)?;
-    Ok(())
+/// How values are written.
+pub(crate) struct Values;
+
+impl Line<SumValue> for Values {
+    ghost statement = { λ item. Statement.Value item };
+
+    fn write(printer: &mut Printer, model: &Model, item: &SumValue) -> Result<(), OutOfMemory> {
+        named_line(printer, Sort::Value, sum_name(model, item.sum))?;
+        printer.word(truth_name(model, item.of))?;
+        printer.number(item.k)?;
+        Ok(())
+    }
 }
 
 fn weighing(
@@ -207,55 +228,58 @@ fn weighing(
     Ok(())
 }
 
-pub(crate) fn reward(
-    printer: &mut Printer,
-    model: &Model,
-    item: &Weighing,
-) -> Result<(), OutOfMemory>
-    ensures { OnOk result (IsLine printer.old printer.new
-        (statement_tokens (written (lists_of model.now) (Statement.Reward item.now)))) }
-{
-    weighing(printer, model, Sort::Weight(WeightWord::Reward), item)
+/// How rewards are written.
+pub(crate) struct Rewards;
+
+impl Line<Weighing> for Rewards {
+    ghost statement = { λ item. Statement.Reward item };
+
+    fn write(printer: &mut Printer, model: &Model, item: &Weighing) -> Result<(), OutOfMemory> {
+        weighing(printer, model, Sort::Weight(WeightWord::Reward), item)
+    }
 }
 
-pub(crate) fn penalty(
-    printer: &mut Printer,
-    model: &Model,
-    item: &Weighing,
-) -> Result<(), OutOfMemory>
-    ensures { OnOk result (IsLine printer.old printer.new
-        (statement_tokens (written (lists_of model.now) (Statement.Penalty item.now)))) }
-{
-    weighing(printer, model, Sort::Weight(WeightWord::Penalty), item)
+/// How penalties are written.
+pub(crate) struct Penalties;
+
+impl Line<Weighing> for Penalties {
+    ghost statement = { λ item. Statement.Penalty item };
+
+    fn write(printer: &mut Printer, model: &Model, item: &Weighing) -> Result<(), OutOfMemory> {
+        weighing(printer, model, Sort::Weight(WeightWord::Penalty), item)
+    }
 }
 
-pub(crate) fn preference(
-    printer: &mut Printer,
-    model: &Model,
-    preferred: &Preference,
-) -> Result<(), OutOfMemory>
-    ensures { OnOk result (IsLine printer.old printer.new
-        (statement_tokens (written (lists_of model.now) (Statement.Prefer preferred.now)))) }
-{
-    pair(
-        printer,
-        Sort::Pair(PairWord::Prefer),
-        truth_name(model, preferred.better),
-        truth_name(model, preferred.worse),
-    )?;
-    Ok(())
+/// How preferences are written.
+pub(crate) struct Preferences;
+
+impl Line<Preference> for Preferences {
+    ghost statement = { λ item. Statement.Prefer item };
+
+    fn write(printer: &mut Printer, model: &Model, item: &Preference) -> Result<(), OutOfMemory> {
+        pair(
+            printer,
+            Sort::Pair(PairWord::Prefer),
+            truth_name(model, item.better),
+            truth_name(model, item.worse),
+        )
+    }
 }
 
-pub(crate) fn interest(printer: &mut Printer, model: &Model, k: u32) -> Result<(), OutOfMemory>
-    ensures { OnOk result (IsLine printer.old printer.new
-        (statement_tokens (written (lists_of model.now) (Statement.Interest k)))) }
-{
-    named_line(
-        printer,
-        Sort::Name(NameWord::Interest),
-        element_name(model, k),
-    )?;
-    Ok(())
+/// How interests are written.
+pub(crate) struct Interests;
+
+impl Line<u32> for Interests {
+    ghost statement = { λ item. Statement.Interest item };
+
+    fn write(printer: &mut Printer, model: &Model, item: &u32) -> Result<(), OutOfMemory> {
+        named_line(
+            printer,
+            Sort::Name(NameWord::Interest),
+            element_name(model, *item),
+        )?;
+        Ok(())
+    }
 }
 
 fn direction_word(max: bool) -> &'static [u8]
@@ -268,21 +292,20 @@ fn direction_word(max: bool) -> &'static [u8]
     }
 }
 
-pub(crate) fn objective(
-    printer: &mut Printer,
-    model: &Model,
-    item: &Objective,
-) -> Result<(), OutOfMemory>
-    ensures { OnOk result (IsLine printer.old printer.new
-        (statement_tokens (written (lists_of model.now) (Statement.Objective item.now)))) }
-{
-    pair(
-        printer,
-        Sort::Objective,
-        direction_word(item.max),
-        quantity_name(model, item.of),
-    )?;
-    Ok(())
+/// How objectives are written.
+pub(crate) struct Objectives;
+
+impl Line<Objective> for Objectives {
+    ghost statement = { λ item. Statement.Objective item };
+
+    fn write(printer: &mut Printer, model: &Model, item: &Objective) -> Result<(), OutOfMemory> {
+        pair(
+            printer,
+            Sort::Objective,
+            direction_word(item.max),
+            quantity_name(model, item.of),
+        )
+    }
 }
 
 fn condition(
@@ -310,26 +333,29 @@ fn requirement(printer: &mut Printer, model: &Model, tree: &Formula) -> Result<(
     Ok(())
 }
 
-pub(crate) fn rule(printer: &mut Printer, model: &Model, item: &Rule) -> Result<(), OutOfMemory>
-    ensures { OnOk result (IsLine printer.old printer.new
-        (statement_tokens (written_rule (lists_of model.now) item.now))) }
-{
-    match item {
-        Rule::Positive(x, f) => condition(
-            printer,
-            model,
-            Sort::Condition(ConditionWord::Positive),
-            *x,
-            f,
-        )?,
-        Rule::Negative(x, f) => condition(
-            printer,
-            model,
-            Sort::Condition(ConditionWord::Negative),
-            *x,
-            f,
-        )?,
-        Rule::Require(f) => requirement(printer, model, f)?,
+/// How rules are written.
+pub(crate) struct Rules;
+
+impl Line<Rule> for Rules {
+    ghost statement = { λ item. Statement.Rule item };
+
+    fn write(printer: &mut Printer, model: &Model, item: &Rule) -> Result<(), OutOfMemory> {
+        match item {
+            Rule::Positive(x, f) => condition(
+                printer,
+                model,
+                Sort::Condition(ConditionWord::Positive),
+                *x,
+                f,
+            ),
+            Rule::Negative(x, f) => condition(
+                printer,
+                model,
+                Sort::Condition(ConditionWord::Negative),
+                *x,
+                f,
+            ),
+            Rule::Require(f) => requirement(printer, model, f),
+        }
     }
-    Ok(())
 }

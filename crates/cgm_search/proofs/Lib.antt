@@ -2,6 +2,7 @@ pub mod Absorbing
 pub mod CutNames
 pub mod FixedBoxes
 pub mod Forgetting
+pub mod Halves
 pub mod Keeping
 pub mod LandedBatches
 pub mod Offers

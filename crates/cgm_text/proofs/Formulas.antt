@@ -14,7 +14,7 @@ use Rattle.cgm_text.specs.declared.written.Tree.{Tree}
 use Rattle.cgm_text.specs.Trees.{formula_in}
 use Rattle.cgm_print.specs.Written.{WrittenLinear, WrittenFormula, name, negation, joined, paired, compared, WrittenFormulas, no_formulas, more_formulas, spelled, spelled_each, spelled_linear, joint_word, pairing_word, comparison_word, formulas_of}
 use Rattle.cgm_text.proofs.Terms.{linear_once}
-use Rattle.cgm_text.specs.Parsed.{connective_word, BeginsNoLinear, BeginsNoFormula}
+use Rattle.cgm_text.specs.Parsed.{connective_word, BeginsNoLinear, BeginsNoFormula, BeginsNoParts}
 
 -- the connective with this word
 abbrev connective_in : List ℕ → Option Connective
@@ -160,11 +160,15 @@ each_end (more_formulas f fs) no_formulas rest after none unclosed e = opens f (
 each_end (more_formulas f fs) (more_formulas g gs) rest after none unclosed e =
     each_end fs gs rest after none unclosed (once f g (spelled_each fs rest) (spelled_each gs (closing ∷ after)) e).1
 
-pub no_joint_end : (joint : Joint) (first : WrittenFormula) (others : WrittenFormulas) (tokens rest : List Lexeme) → tokens ≡ spelled first (spelled_each others rest) → BeginsNoFormula rest → Unclosed rest → BeginsNoFormula (opening ∷ word (joint_word joint) ∷ tokens)
-no_joint_end joint first others tokens rest so_far none unclosed (joined k g gs) after e =
+-- formulas that are followed by neither a formula nor a closing bracket
+pub no_parts_end : (others : WrittenFormulas) (tokens rest : List Lexeme) → tokens ≡ spelled_each others rest → BeginsNoFormula rest → Unclosed rest → BeginsNoParts tokens
+no_parts_end others tokens rest so_far none unclosed gs after e = each_end others gs rest after none unclosed (sym so_far ∙ e)
+
+pub no_joint_parts : (joint : Joint) (first : WrittenFormula) (tokens rest : List Lexeme) → tokens ≡ spelled first rest → BeginsNoParts rest → BeginsNoFormula (opening ∷ word (joint_word joint) ∷ tokens)
+no_joint_parts joint first tokens rest so_far none (joined k g gs) after e =
     let inside : tokens ≡ spelled g (spelled_each gs (closing ∷ after)) = cc in
-    each_end others gs rest after none unclosed (once first g (spelled_each others rest) (spelled_each gs (closing ∷ after)) (sym so_far ∙ inside)).1
-no_joint_end joint first others tokens rest so_far none unclosed g after e = let h = headed (Join joint) tokens g after e in cc
+    none gs after (once first g rest (spelled_each gs (closing ∷ after)) (sym so_far ∙ inside)).1
+no_joint_parts joint first tokens rest so_far none g after e = let h = headed (Join joint) tokens g after e in cc
 
 -- one more part
 pub each_push : (fs : List WrittenFormula) (f : WrittenFormula) (rest : List Lexeme) → spelled_each (formulas_of (fs ++ f ∷ [])) rest ≡ spelled_each (formulas_of fs) (spelled f rest)
@@ -193,35 +197,28 @@ pub no_comparison : (comparison : Comparison) (tokens : List Lexeme) → BeginsN
 no_comparison comparison tokens none (compared k l n) after e = none l (number n ∷ closing ∷ after) cc
 no_comparison comparison tokens none g after e = let h = headed (Compare comparison) tokens g after e in cc
 
-pub no_comparison_number : (comparison : Comparison) (linear : WrittenLinear) (tokens rest : List Lexeme) → tokens ≡ spelled_linear linear rest → ((k : ℤ) (x : List Lexeme) → rest ≢ number k ∷ x) → BeginsNoFormula (opening ∷ word (comparison_word comparison) ∷ tokens)
-no_comparison_number comparison linear tokens rest so_far none (compared k l n) after e =
+pub no_comparison_bound : (comparison : Comparison) (linear : WrittenLinear) (tokens rest : List Lexeme) → tokens ≡ spelled_linear linear rest → ((k : ℤ) (x : List Lexeme) → rest ≢ number k ∷ closing ∷ x) → BeginsNoFormula (opening ∷ word (comparison_word comparison) ∷ tokens)
+no_comparison_bound comparison linear tokens rest so_far none (compared k l n) after e =
     let inside : tokens ≡ spelled_linear l (number n ∷ closing ∷ after) = cc in
-    none n (closing ∷ after) (linear_once linear l rest (number n ∷ closing ∷ after) (sym so_far ∙ inside)).1
-no_comparison_number comparison linear tokens rest so_far none g after e = let h = headed (Compare comparison) tokens g after e in cc
+    none n after (linear_once linear l rest (number n ∷ closing ∷ after) (sym so_far ∙ inside)).1
+no_comparison_bound comparison linear tokens rest so_far none g after e = let h = headed (Compare comparison) tokens g after e in cc
 
-pub no_comparison_end : (comparison : Comparison) (linear : WrittenLinear) (k : ℤ) (tokens rest : List Lexeme) → tokens ≡ spelled_linear linear (number k ∷ rest) → Unclosed rest → BeginsNoFormula (opening ∷ word (comparison_word comparison) ∷ tokens)
-no_comparison_end comparison linear k tokens rest so_far unclosed (compared k' l n) after e =
-    let inside : tokens ≡ spelled_linear l (number n ∷ closing ∷ after) = cc in
-    let same = (linear_once linear l (number k ∷ rest) (number n ∷ closing ∷ after) (sym so_far ∙ inside)).1 in
-    unclosed after cc
-no_comparison_end comparison linear k tokens rest so_far unclosed g after e = let h = headed (Compare comparison) tokens g after e in cc
-
--- a conjunction or disjunction whose parts so far are followed by one more
-pub joint_more : (line : List ℕ) (first : WrittenFormula) (others new : List Tree) (next : Tree) (tokens rest after : List Lexeme) → new ≡ others ++ next ∷ [] → tokens ≡ spelled first (spelled_each (formulas_of (map (formula_in line) others)) rest) → rest ≡ spelled (formula_in line next) after → tokens ≡ spelled first (spelled_each (formulas_of (map (formula_in line) new)) after)
-joint_more line first others new next tokens rest after pushed so_far more =
+-- parts so far that are followed by one more
+pub parts_more : (line : List ℕ) (others new : List Tree) (next : Tree) (tokens rest after : List Lexeme) → new ≡ others ++ next ∷ [] → tokens ≡ spelled_each (formulas_of (map (formula_in line) others)) rest → rest ≡ spelled (formula_in line next) after → tokens ≡ spelled_each (formulas_of (map (formula_in line) new)) after
+parts_more line others new next tokens rest after pushed so_far more =
     let parts = map (formula_in line) others in
     let mapped = ap (map (formula_in line)) pushed ∙ map_push (formula_in line) others next in
     let each = ap (spelled_each (formulas_of parts)) more ∙ sym (each_push parts (formula_in line next) after) in
-    so_far ∙ ap (spelled first) (each ∙ ap (λ fs. spelled_each (formulas_of fs) after) (sym mapped))
+    so_far ∙ (each ∙ ap (λ fs. spelled_each (formulas_of fs) after) (sym mapped))
 
 -- the tokens of a negation, of a conjunction or disjunction, of an implication or equivalence
 pub negation_found : (tree part : WrittenFormula) (tokens rest after : List Lexeme) → tree ≡ negation part → tokens ≡ spelled part rest → rest ≡ closing ∷ after → opening ∷ word (codes "not") ∷ tokens ≡ spelled tree after
 negation_found tree part tokens rest after is found closes =
     ap (λ ts. opening ∷ word (codes "not") ∷ ts) (found ∙ ap (spelled part) closes) ∙ ap (λ f. spelled f after) (sym is)
 
-pub joint_found : (joint : Joint) (tree first : WrittenFormula) (others : WrittenFormulas) (tokens rest after : List Lexeme) → tree ≡ joined joint first others → tokens ≡ spelled first (spelled_each others rest) → rest ≡ closing ∷ after → opening ∷ word (joint_word joint) ∷ tokens ≡ spelled tree after
-joint_found joint tree first others tokens rest after is found closes =
-    ap (λ ts. opening ∷ word (joint_word joint) ∷ ts) (found ∙ ap (λ ts. spelled first (spelled_each others ts)) closes) ∙ ap (λ f. spelled f after) (sym is)
+pub joint_found : (joint : Joint) (tree first : WrittenFormula) (others : WrittenFormulas) (tokens rest after : List Lexeme) → tree ≡ joined joint first others → tokens ≡ spelled first rest → rest ≡ spelled_each others (closing ∷ after) → opening ∷ word (joint_word joint) ∷ tokens ≡ spelled tree after
+joint_found joint tree first others tokens rest after is found more =
+    ap (λ ts. opening ∷ word (joint_word joint) ∷ ts) (found ∙ ap (spelled first) more) ∙ ap (λ f. spelled f after) (sym is)
 
 pub pairing_found : (pairing : Pairing) (tree one other : WrittenFormula) (tokens middle rest after : List Lexeme) → tree ≡ paired pairing one other → tokens ≡ spelled one middle → middle ≡ spelled other rest → rest ≡ closing ∷ after → opening ∷ word (pairing_word pairing) ∷ tokens ≡ spelled tree after
 pairing_found pairing tree one other tokens middle rest after is found more closes =

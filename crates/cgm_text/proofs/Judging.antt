@@ -1,5 +1,5 @@
 -- Why tokens make no statement, and that the names which a statement declares are text.
-use Rattle.std.proofs.Common.{◌≡◌, ◌≢◌, ℕ, List, [], ◌∷◌, map, Some, Result, Ok, Err, IfErr, IsErrAnd, refl, sym, subst}
+use Rattle.std.proofs.Common.{◌≡◌, ◌≢◌, ℕ, List, [], ◌∷◌, map, None, Some, Result, Ok, Err, IfOk, IfErr, IsErrAnd, refl, sym, subst}
 use Rattle.std.specs.List.{All}
 use Rattle.std.specs.Str.{IsUtf8}
 use Rattle.std.proofs.lemmas.List.Elements.{All-from_recursion, recursion_from_All}
@@ -9,12 +9,13 @@ use Rattle.cgm_lex.specs.Lexemes.{Lexeme, colon, number, word}
 use Rattle.cgm_lex.specs.Spelling.{IsPlain}
 use Rattle.cgm_lex.proofs.Plain.{run_is_utf8}
 use Rattle.cgm_model.specs.declared.lists.Lists.{Lists}
+use Rattle.cgm_model.specs.declared.lists.Statement.{Statement}
 use Rattle.cgm_lex.specs.declared.stops.LineFault.TheVariants as line_faults
 use Rattle.cgm_lex.specs.declared.stops.LineStop.{LineStop}
 use Rattle.cgm_print.specs.declared.words.Sort.{Sort}
 use Rattle.cgm_text.specs.Line.{Verdict, faulty, no_word, no_form, written, HasForm, IsNamedJudged, AreJudged}
 use Rattle.cgm_text.specs.Meaning.{declared_words, statement_of}
-use Rattle.cgm_text.specs.Progress.{IsFaultOrMemory}
+use Rattle.cgm_text.specs.Progress.{IsFaultOrMemory, MakesStatement}
 use Rattle.cgm_print.specs.Statements.{WrittenStatement, goal, named, refinement, pair, assertion, variable, value, weight, condition, requirement, objective, must_tokens, sort_of, sort_word, statement_tokens}
 use Rattle.cgm_text.specs.Uses.{first_name_fault, statement_uses}
 use Rattle.cgm_text.proofs.Forms.{no_statement}
@@ -62,3 +63,16 @@ declared_text (objective direction quantity) plain = no_texts
 
 pub declared_is_text : (tokens : List Lexeme) (s : WrittenStatement) → HasForm tokens (written s) → All IsPlain tokens → All IsUtf8 (declared_words s)
 declared_is_text tokens s has plain = declared_text s (subst (All IsPlain) has plain)
+
+-- a statement whose form, names and meaning are known
+pub made : (m : Lists) (tokens : List Lexeme) (source : WrittenStatement) (s : Statement) → HasForm tokens (written source) → None ≡ first_name_fault m (statement_uses source) → s ≡ statement_of m source → MakesStatement m tokens s
+made m tokens source s has names is = record { source = source; spelled = has; names = sym names; meaning = sym is }
+
+-- what is said for each list of tokens that has a form, said of one
+pub made_of : (m : Lists) (tokens : List Lexeme) (source : WrittenStatement) (r : Result Statement LineStop) → HasForm tokens (written source) → IfOk r (λ s. (tokens : List Lexeme) → HasForm tokens (written source) → MakesStatement m tokens s) → IfOk r (MakesStatement m tokens)
+made_of m tokens source (Ok s) has f = f tokens has
+made_of m tokens source (Err stop) has f = tt
+
+pub stop_of : (m : Lists) (tokens : List Lexeme) (source : WrittenStatement) (r : Result Statement LineStop) → HasForm tokens (written source) → IfErr r (λ stop. (tokens : List Lexeme) → HasForm tokens (written source) → IsFaultOrMemory (AreJudged m tokens) stop) → IfErr r (IsFaultOrMemory (AreJudged m tokens))
+stop_of m tokens source (Ok s) has f = tt
+stop_of m tokens source (Err stop) has f = f tokens has

@@ -261,7 +261,7 @@ pub formula_proper : (m : Lists) (f : WrittenFormula) → first_name_fault m (fo
 formula_proper m f right shallow =
     let good = (formula_good m f [] right).0 in
     record {
-      formula_names = All-from_recursion (IsKnownTruth m) (formula_names (formula_of m f)) good.truths_known;
+      names = All-from_recursion (IsKnownTruth m) (formula_names (formula_of m f)) good.truths_known;
       numbers = All-from_recursion (SideIsKnown m) (comparisons (formula_of m f)) good.sides_known;
       full = good.full;
       depth = depth_is_few m (limit_number limits.FormulaDepth) f shallow;

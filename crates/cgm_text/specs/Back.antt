@@ -40,7 +40,7 @@ thing_name m (things.Refinement k) = refinement_name m k
 thing_name m (things.Var k) = variable_name m k
 thing_name m (things.Sum k) = sum_name m k
 
--- the lists have the formula_names that these other lists give to what is there
+-- the lists have the names that these other lists give to what is there
 pub record Knows (p m : Lists) : Type 0 where
   pub named : (t : Thing) → IsThingThere p t → thing_named p (thing_name m t) ≡ Some t
   pub spelled : (t : Thing) → IsThingThere p t → is_name (thing_name m t) ≡ true
@@ -49,7 +49,7 @@ pub record Knows (p m : Lists) : Type 0 where
 abbrev pub IsTerm : Lists → ℤ × Number → Type 0
 IsTerm p t = IsKnownNumber p t.1 × FitsSigned w64 t.0
 
--- formula_names and numbers are there, nothing is empty, and numbers have 64 bits
+-- names and numbers are there, nothing is empty, and numbers have 64 bits
 pub record IsSide (p : Lists) (c : Linear × ℤ) : Type 0 where
   pub terms : AllByRecursion (IsTerm p) c.0.terms
   pub fits : FitsSigned w64 c.1
@@ -67,7 +67,7 @@ pub record Back (p m : Lists) (f : Formula) (w : WrittenFormula) : Type 0 where
 
 pub record StatementBack (p : Lists) (s : Statement) (w : WrittenStatement) : Type 0 where
   pub meaning : statement_of p w ≡ s
-  pub formula_names : first_name_fault p (statement_uses w) ≡ None
+  pub names : first_name_fault p (statement_uses w) ≡ None
   pub words : ArePlain (statement_tokens w)
   pub shallow : nests_too_deep (statement_tokens w) ≡ false
 

@@ -17,7 +17,7 @@ use Rattle.cgm_lex.specs.declared.stops.LineFault.{LineFault}
 use Rattle.cgm_lex.specs.declared.stops.LineFault.TheVariants as line_faults
 use Rattle.cgm_print.specs.declared.words.Sort.{Sort}
 use Rattle.cgm_text.specs.Meaning.{statement_of}
-use Rattle.cgm_print.specs.Statements.{WrittenStatement, sort_word, statement_tokens}
+use Rattle.cgm_print.specs.Statements.{WrittenStatement, header_tokens, sort_word, statement_tokens}
 use Rattle.cgm_text.specs.Trees.{is_deeper}
 use Rattle.cgm_text.specs.Uses.{first_name_fault, statement_uses}
 use Rattle.cgm_text.specs.Parsed.{BeginsNoStatement}

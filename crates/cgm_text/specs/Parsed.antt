@@ -1,13 +1,13 @@
 -- What a parsed statement stands for in its line, and tokens that begin no statement and no part of one.
 use Rattle.std.specs.Prelude.{◌≡◌, ◌≢◌, ℕ, if◌then◌else◌, List, ◌∷◌, codes, map, Option, None, Some}
 use Rattle.std.specs.Str.{bytes_eq}
-use Rattle.cgm_lex.specs.Lexemes.{Lexeme, word}
+use Rattle.cgm_lex.specs.Lexemes.{Lexeme, closing, word}
 use Rattle.cgm_model.specs.declared.lists.Quantity.{Quantity}
 use Rattle.cgm_model.specs.declared.lists.Quantity.TheVariants as quantities
 use Rattle.cgm_model.specs.QuantityWords.{quantity_word}
 use Rattle.cgm_print.specs.declared.words.Sort.{Sort}
 use Rattle.cgm_print.specs.Statements.{WrittenStatement, goal, named, refinement, pair, assertion, variable, value, weight, condition, requirement, objective, sort_word, sort_of, body}
-use Rattle.cgm_print.specs.Written.{WrittenTerm, WrittenLinear, WrittenFormula, joint_word, pairing_word, comparison_word, spelled_term, spelled_linear, spelled}
+use Rattle.cgm_print.specs.Written.{WrittenTerm, WrittenLinear, WrittenFormula, WrittenFormulas, joint_word, pairing_word, comparison_word, spelled_term, spelled_linear, spelled, spelled_each}
 use Rattle.cgm_text.specs.declared.written.Connective.{Connective}
 use Rattle.cgm_text.specs.declared.written.Connective.TheVariants as connectives
 use Rattle.cgm_text.specs.declared.written.Written.{Written}
@@ -84,3 +84,7 @@ BeginsNoLinear tokens = (linear : WrittenLinear) (after : List Lexeme) → token
 
 abbrev pub BeginsNoFormula : List Lexeme → Type 0
 BeginsNoFormula tokens = (formula : WrittenFormula) (after : List Lexeme) → tokens ≢ spelled formula after
+
+-- the tokens don't begin with formulas up to a closing bracket
+abbrev pub BeginsNoParts : List Lexeme → Type 0
+BeginsNoParts tokens = (parts : WrittenFormulas) (after : List Lexeme) → tokens ≢ spelled_each parts (closing ∷ after)

@@ -149,6 +149,9 @@ impl ModelDraft {
         }
     }
 
+    /// Gives the memory of the draft back.
+    pub(crate) fn discard(self) {}
+
     /// The model of the lines so far.
     pub(crate) fn finish(self) -> Reading
         ensures { IsFinished self result }

@@ -4,7 +4,7 @@ ghost use Rattle.cgm_text.specs.Trees.{IsFor, formula_in, seen_all};
 ghost use Rattle.cgm_text.specs.Parsed.{IsBody, IsNoBody};
 ghost use Rattle.cgm_print.specs.Written.{WrittenFormula, spelled};
 
-use crate::formula::formula;
+use crate::formula::{discard, formula};
 use crate::shape::{
     all_words, direction_and_word, is_end, one_word, two_words, two_words_and_number,
     word_and_must, word_and_number, word_and_truth, word_and_two_numbers,
@@ -48,13 +48,15 @@ fn refinement(alloc: Global, line: &[u8], tokens: &[Token]) -> Result<Written, F
                 Some(rest) => match take_word(rest) {
                     None => Err(FormStop::Form),
                     Some((first, rest)) => {
-                        let others = all_words(alloc, rest)?;
-                        Ok(Written::Refine {
-                            name,
-                            target,
-                            first,
-                            others,
-                        })
+                        match all_words(alloc, rest) {
+                            Err(stop) => Err(stop),
+                            Ok(others) => Ok(Written::Refine {
+                                name,
+                                target,
+                                first,
+                                others,
+                            }),
+                        }
                     }
                 },
             },
@@ -117,11 +119,16 @@ fn whole_formula(alloc: Global, line: &[u8], tokens: &[Token]) -> Result<Tree, F
     ensures found { IfOk result (λ tree. seen_all line.now tokens.now ≡ spelled (formula_in line.now tree) []) }
     ensures form { IfErr result (IsFor ((f : WrittenFormula) → seen_all line.now tokens.now ≢ spelled f [])) }
 {
-    let (tree, rest) = formula(alloc, line, tokens)?;
-    if is_end(rest) {
-        Ok(tree)
-    } else {
-        Err(FormStop::Form)
+    match formula(alloc, line, tokens) {
+        Err(stop) => Err(stop),
+        Ok((tree, rest)) => {
+            if is_end(rest) {
+                Ok(tree)
+            } else {
+                discard(tree);
+                Err(FormStop::Form)
+            }
+        }
     }
 }
 
@@ -136,14 +143,14 @@ fn condition(
 {
     match take_word(tokens) {
         None => Err(FormStop::Form),
-        Some((name, rest)) => {
-            let formula = whole_formula(alloc, line, rest)?;
-            Ok(Written::Condition {
+        Some((name, rest)) => match whole_formula(alloc, line, rest) {
+            Err(stop) => Err(stop),
+            Ok(formula) => Ok(Written::Condition {
                 what,
                 name,
                 formula,
-            })
-        }
+            }),
+        },
     }
 }
 
@@ -151,8 +158,10 @@ fn requirement(alloc: Global, line: &[u8], tokens: &[Token]) -> Result<Written, 
     ensures found { IfOk result (IsBody line.now (seen_all line.now tokens.now) Sort.Require) }
     ensures form { IfErr result (IsFor (IsNoBody (seen_all line.now tokens.now) Sort.Require)) }
 {
-    let formula = whole_formula(alloc, line, tokens)?;
-    Ok(Written::Require { formula })
+    match whole_formula(alloc, line, tokens) {
+        Err(stop) => Err(stop),
+        Ok(formula) => Ok(Written::Require { formula }),
+    }
 }
 
 fn objective(line: &[u8], tokens: &[Token]) -> Result<Written, FormStop>

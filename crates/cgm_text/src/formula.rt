@@ -1,15 +1,15 @@
 //! The form of a formula.
-ghost use Rattle.std.specs.Prelude.{◌≡◌, ◌≢◌, ◌<◌, ℕ, List, [], ◌∷◌, ◌++◌, codes, length, map, IfSome, IfNone, IfOk, IfErr, OnOk};
-ghost use Rattle.cgm_lex.specs.Lexemes.{Lexeme, opening, word};
+ghost use Rattle.std.specs.Prelude.{◌≡◌, ◌≢◌, ◌<◌, ℕ, ℤ, List, [], ◌∷◌, ◌++◌, codes, length, map, IfSome, IfNone, IfOk, IfErr, OnOk};
+ghost use Rattle.cgm_lex.specs.Lexemes.{Lexeme, closing, number, opening, word};
 ghost use Rattle.cgm_text.specs.declared.written.Connective.{Connective};
 ghost use Rattle.cgm_text.specs.Trees.{IsFor, formula_in, seen_all};
-ghost use Rattle.cgm_text.specs.Parsed.{BeginsNoFormula, connective_word};
-ghost use Rattle.cgm_print.specs.Written.{comparison_word, joined, joint_word, negation, paired, pairing_word, spelled, formulas_of};
+ghost use Rattle.cgm_text.specs.Parsed.{BeginsNoFormula, BeginsNoParts, connective_word};
+ghost use Rattle.cgm_print.specs.Written.{comparison_word, joined, joint_word, negation, paired, pairing_word, spelled, spelled_each, formulas_of};
 
 use crate::keyword::connective_of;
 use crate::linear::linear;
 use crate::take::{bytes_in, take_close, take_number, take_open, take_word};
-use crate::written::{Connective, FormStop, Tree};
+use crate::written::{Connective, FormStop, Linear, Tree};
 use cgm_lex::Token;
 use cgm_print::words::{Comparison, Joint, Pairing};
 use sqlite_items::{Boxed, Items};
@@ -29,6 +29,12 @@ fn take_connective<'t>(line: &[u8], tokens: &'t [Token]) -> Option<(Connective, 
         },
     }
 }
+
+/// Gives the memory of a formula back.
+pub(crate) fn discard(_tree: Tree) {}
+
+/// Gives the memory of formulas back.
+fn discard_each(_trees: Items<Tree>) {}
 
 fn boxed(alloc: Global, part: Tree) -> Result<Boxed<Tree>, FormStop>
     ensures same { IfOk result (λ tree. tree ≡ part) }
@@ -61,16 +67,45 @@ fn join(alloc: Global, joint: Joint, first: Tree, others: Items<Tree>) -> Result
     ensures tree { IfOk result (λ tree. (line : List ℕ) → formula_in line tree ≡ joined joint (formula_in line first) (formulas_of (map (formula_in line) others))) }
     ensures memory { IfErr result (λ stop. stop ≡ FormStop.Memory) }
 {
-    Ok(Tree::Join(joint, boxed(alloc, first)?, others))
+    match boxed(alloc, first) {
+        Ok(first) => Ok(Tree::Join(joint, first, others)),
+        Err(stop) => {
+            discard_each(others);
+            Err(stop)
+        }
+    }
 }
 
 fn pair(alloc: Global, pairing: Pairing, one: Tree, other: Tree) -> Result<Tree, FormStop>
     ensures tree { IfOk result (λ tree. (line : List ℕ) → formula_in line tree ≡ paired pairing (formula_in line one) (formula_in line other)) }
     ensures memory { IfErr result (λ stop. stop ≡ FormStop.Memory) }
 {
-    let one = boxed(alloc, one)?;
-    Ok(Tree::Pair(pairing, one, boxed(alloc, other)?))
+    match boxed(alloc, one) {
+        Ok(one) => Ok(Tree::Pair(pairing, one, boxed(alloc, other)?)),
+        Err(stop) => {
+            discard(other);
+            Err(stop)
+        }
+    }
 }
+
+/// Takes a number and the closing bracket after it off.
+fn take_bound(tokens: &[Token]) -> Option<(i64, &[Token])>
+    ensures found { IfSome result (λ parts. (line : List ℕ) → seen_all line tokens.now ≡ number parts.0 ∷ closing ∷ seen_all line parts.1.now) }
+    ensures shorter { IfSome result (λ parts. length parts.1.now < length tokens.now) }
+    ensures none { IfNone result ((line : List ℕ) (k : ℤ) (after : List Lexeme) → seen_all line tokens.now ≢ number k ∷ closing ∷ after) }
+{
+    match take_number(tokens) {
+        None => None,
+        Some((k, rest)) => match take_close(rest) {
+            None => None,
+            Some(rest) => Some((k, rest)),
+        },
+    }
+}
+
+/// Gives the memory of a linear expression back.
+fn discard_linear(_linear: Linear) {}
 
 /// The rest of a comparison.
 fn compared<'t>(
@@ -83,12 +118,14 @@ fn compared<'t>(
     ensures shorter { IfOk result (λ parts. length parts.1.now < length tokens.now) }
     ensures form { IfErr result (IsFor (BeginsNoFormula (opening ∷ word (comparison_word comparison) ∷ seen_all line.now tokens.now))) }
 {
-    let (left, rest) = linear(alloc, line, tokens)?;
-    match take_number(rest) {
-        None => Err(FormStop::Form),
-        Some((k, rest)) => match take_close(rest) {
-            None => Err(FormStop::Form),
-            Some(rest) => Ok((Tree::Compare(comparison, left, k), rest)),
+    match linear(alloc, line, tokens) {
+        Err(stop) => Err(stop),
+        Ok((left, rest)) => match take_bound(rest) {
+            Some((k, rest)) => Ok((Tree::Compare(comparison, left, k), rest)),
+            None => {
+                discard_linear(left);
+                Err(FormStop::Form)
+            }
         },
     }
 }
@@ -104,10 +141,15 @@ fn negation<'t>(
     ensures shorter { IfOk result (λ parts. length parts.1.now < length tokens.now) }
     ensures form { IfErr result (IsFor (BeginsNoFormula (opening ∷ word (codes "not") ∷ seen_all line.now tokens.now))) }
 {
-    let (part, rest) = formula(alloc, line, tokens)?;
-    match take_close(rest) {
-        None => Err(FormStop::Form),
-        Some(rest) => Ok((negated(alloc, part)?, rest)),
+    match formula(alloc, line, tokens) {
+        Err(stop) => Err(stop),
+        Ok((part, rest)) => match take_close(rest) {
+            None => {
+                discard(part);
+                Err(FormStop::Form)
+            }
+            Some(rest) => Ok((negated(alloc, part)?, rest)),
+        },
     }
 }
 
@@ -123,17 +165,49 @@ fn joined<'t>(
     ensures shorter { IfOk result (λ parts. length parts.1.now < length tokens.now) }
     ensures form { IfErr result (IsFor (BeginsNoFormula (opening ∷ word (joint_word joint) ∷ seen_all line.now tokens.now))) }
 {
-    let (first, after) = formula(alloc, line, tokens)?;
-    let mut others = Items::new(alloc);
-    let mut rest = after;
+    match formula(alloc, line, tokens) {
+        Err(stop) => Err(stop),
+        Ok((first, after)) => {
+            let mut others = Items::new(alloc);
+            match push_parts(alloc, line, &mut others, after) {
+                Ok(rest) => Ok((join(alloc, joint, first, others)?, rest)),
+                Err(stop) => {
+                    discard(first);
+                    discard_each(others);
+                    Err(stop)
+                }
+            }
+        }
+    }
+}
+
+/// Adds the formulas up to the closing bracket, and gives the tokens after it.
+#[cycle(formula)]
+fn push_parts<'t>(
+    alloc: Global,
+    line: &[u8],
+    parts: &mut Items<Tree>,
+    tokens: &'t [Token],
+) -> Result<&'t [Token], FormStop>
+    requires empty { parts.old ≡ [] }
+    ensures found { IfOk result (λ rest. seen_all line.now tokens.now
+        ≡ spelled_each (formulas_of (map (formula_in line.now) parts.new)) (closing ∷ seen_all line.now rest.now)) }
+    ensures shorter { IfOk result (λ rest. length rest.now < length tokens.now) }
+    ensures form { IfErr result (IsFor (BeginsNoParts (seen_all line.now tokens.now))) }
+{
+    let mut rest = tokens;
     loop {
         match take_close(rest) {
-            Some(after) => return Ok((join(alloc, joint, first, others)?, after)),
+            Some(after) => return Ok(after),
             None => {}
         }
-        let (next, after) = formula(alloc, line, rest)?;
-        push(&mut others, next)?;
-        rest = after;
+        match formula(alloc, line, rest) {
+            Err(stop) => return Err(stop),
+            Ok((next, after)) => {
+                push(parts, next)?;
+                rest = after;
+            }
+        }
     }
 }
 
@@ -149,11 +223,22 @@ fn paired<'t>(
     ensures shorter { IfOk result (λ parts. length parts.1.now < length tokens.now) }
     ensures form { IfErr result (IsFor (BeginsNoFormula (opening ∷ word (pairing_word pairing) ∷ seen_all line.now tokens.now))) }
 {
-    let (one, rest) = formula(alloc, line, tokens)?;
-    let (other, rest) = formula(alloc, line, rest)?;
-    match take_close(rest) {
-        None => Err(FormStop::Form),
-        Some(rest) => Ok((pair(alloc, pairing, one, other)?, rest)),
+    match formula(alloc, line, tokens) {
+        Err(stop) => Err(stop),
+        Ok((one, rest)) => match formula(alloc, line, rest) {
+            Err(stop) => {
+                discard(one);
+                Err(stop)
+            }
+            Ok((other, rest)) => match take_close(rest) {
+                None => {
+                    discard(one);
+                    discard(other);
+                    Err(FormStop::Form)
+                }
+                Some(rest) => Ok((pair(alloc, pairing, one, other)?, rest)),
+            },
+        },
     }
 }
 

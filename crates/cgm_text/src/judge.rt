@@ -1,9 +1,11 @@
 //! The statement that the tokens of a line make.
-ghost use Rattle.std.specs.Prelude.{◌≡◌, ◌∷◌, All, IfOk, IfErr};
-ghost use Rattle.cgm_lex.specs.Lexemes.{word};
+ghost use Rattle.std.specs.Prelude.{◌≡◌, ◌∷◌, List, All, IfOk, IfErr};
+ghost use Rattle.std.specs.Str.{IsUtf8};
+ghost use Rattle.cgm_lex.specs.Lexemes.{Lexeme, word};
 ghost use Rattle.cgm_lex.specs.Spelling.{IsPlain};
 ghost use Rattle.cgm_model.specs.declared.lists.Lists.{Lists};
 ghost use Rattle.cgm_text.specs.Line.{AreJudged, HasForm, written};
+ghost use Rattle.cgm_text.specs.Meaning.{declared_words};
 ghost use Rattle.cgm_text.specs.Progress.{MakesStatement, IsFaultOrMemory};
 ghost use Rattle.cgm_print.specs.Statements.{sort_word};
 ghost use Rattle.cgm_text.specs.Trees.{seen_all};
@@ -59,6 +61,32 @@ fn form_of(alloc: Global, line: &[u8], tokens: &[Token]) -> Result<Written, Line
     }
 }
 
+/// Gives the memory of a written statement back.
+fn discard(_parsed: Written) {}
+
+/// The statement that a written one makes after those of the builder, if its names are right.
+fn judged(
+    alloc: Global,
+    builder: &ModelBuilder,
+    line: &[u8],
+    parsed: &Written,
+) -> Result<Statement, LineStop>
+    requires texts { All IsUtf8 (declared_words (statement_in line.now parsed.now)) }
+    ensures made { IfOk result (λ s. (tokens : List Lexeme)
+        → HasForm tokens (written (statement_in line.now parsed.now)) → MakesStatement builder.now tokens s) }
+    ensures stop { IfErr result (λ stop. (tokens : List Lexeme)
+        → HasForm tokens (written (statement_in line.now parsed.now))
+        → IsFaultOrMemory (AreJudged builder.now tokens) stop) }
+{
+    match statement_fault(builder, line, parsed) {
+        Some(kind) => Err(bad(kind)),
+        None => match statement(alloc, builder, line, parsed) {
+            Ok(statement) => Ok(statement),
+            Err(_) => Err(LineStop::Memory),
+        },
+    }
+}
+
 /// The statement that these tokens make after those of the builder, if its names are right.
 pub(crate) fn statement_of_tokens(
     alloc: Global,
@@ -70,12 +98,8 @@ pub(crate) fn statement_of_tokens(
     ensures made { IfOk result (MakesStatement builder.now (seen_all line.now tokens.now)) }
     ensures stop { IfErr result (IsFaultOrMemory (AreJudged builder.now (seen_all line.now tokens.now))) }
 {
-    let written = form_of(alloc, line, tokens)?;
-    match statement_fault(builder, line, &written) {
-        Some(kind) => Err(bad(kind)),
-        None => match statement(alloc, builder, line, &written) {
-            Ok(statement) => Ok(statement),
-            Err(_) => Err(LineStop::Memory),
-        },
-    }
+    let parsed = form_of(alloc, line, tokens)?;
+    let answer = judged(alloc, builder, line, &parsed);
+    discard(parsed);
+    answer
 }

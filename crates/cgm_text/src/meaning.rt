@@ -1,6 +1,7 @@
 //! What a written statement says after those before it.
-ghost use Rattle.std.specs.Prelude.{◌≡◌, ◌∷◌, map, All, IfOk};
+ghost use Rattle.std.specs.Prelude.{◌≡◌, [], ◌∷◌, map, All, IfOk, OnOk};
 ghost use Rattle.std.specs.Str.{IsUtf8};
+ghost use Rattle.cgm_print.specs.Statements.{assertion as written_assertion, condition as written_condition, objective as written_objective, refinement as written_refinement, requirement as written_requirement, value as written_value, weight as written_weight};
 ghost use Rattle.cgm_print.specs.Written.{formulas_of};
 ghost use Rattle.cgm_text.specs.Meaning.{compared_as, condition_of, declared_words, each_formula_of, element_named, formula_of, is_max, joined_as, linear_of, named_of, number_named, pair_of, paired_as, quantity_of, refinement_named, statement_of, sum_named, term_of, truth_named, statement_of_weight};
 ghost use Rattle.cgm_text.specs.Trees.{formula_in, linear_in, term_in, word_in};
@@ -142,6 +143,21 @@ fn joined(joint: Joint, parts: Parts<Formula>) -> Formula
     }
 }
 
+/// Gives the memory of a formula back.
+fn discard(_formula: Formula) {}
+
+/// Gives the memory of formulas back.
+fn discard_each(_formulas: Vec<Formula>) {}
+
+fn pair_of_boxes(pairing: Pairing, one: Boxed<Formula>, other: Boxed<Formula>) -> Formula
+    ensures { result ≡ paired_as pairing one other }
+{
+    match pairing {
+        Pairing::Implies => Formula::Implies(one, other),
+        Pairing::Iff => Formula::Iff(one, other),
+    }
+}
+
 fn paired(
     alloc: Global,
     pairing: Pairing,
@@ -150,11 +166,12 @@ fn paired(
 ) -> Result<Formula, OutOfMemory>
     ensures { IfOk result (λ f. f ≡ paired_as pairing one other) }
 {
-    let one = Boxed::new(alloc, one)?;
-    let other = Boxed::new(alloc, other)?;
-    match pairing {
-        Pairing::Implies => Ok(Formula::Implies(one, other)),
-        Pairing::Iff => Ok(Formula::Iff(one, other)),
+    match Boxed::new(alloc, one) {
+        Ok(one) => Ok(pair_of_boxes(pairing, one, Boxed::new(alloc, other)?)),
+        Err(stop) => {
+            discard(other);
+            Err(stop)
+        }
     }
 }
 
@@ -181,21 +198,37 @@ fn formula(
     match tree {
         Tree::Name(w) => Ok(Formula::Name(truth(builder, line, *w))),
         Tree::Not(part) => {
-            let part = formula(alloc, builder, line, part.get())?;
-            Ok(Formula::Not(Boxed::new(alloc, part)?))
+            match formula(alloc, builder, line, part.get()) {
+                Ok(part) => Ok(Formula::Not(Boxed::new(alloc, part)?)),
+                Err(stop) => Err(stop),
+            }
         }
         Tree::Join(joint, part, parts) => {
-            let first = formula(alloc, builder, line, part.get())?;
-            let parts = formulas(alloc, builder, line, parts.as_slice(), first)?;
-            Ok(joined(*joint, parts))
+            match formula(alloc, builder, line, part.get()) {
+                Ok(first) => match formulas(alloc, builder, line, parts.as_slice(), first) {
+                    Ok(parts) => Ok(joined(*joint, parts)),
+                    Err(stop) => Err(stop),
+                },
+                Err(stop) => Err(stop),
+            }
         }
         Tree::Pair(pairing, one, other) => {
-            let one = formula(alloc, builder, line, one.get())?;
-            let other = formula(alloc, builder, line, other.get())?;
-            paired(alloc, *pairing, one, other)
+            match formula(alloc, builder, line, one.get()) {
+                Ok(one) => match formula(alloc, builder, line, other.get()) {
+                    Ok(other) => paired(alloc, *pairing, one, other),
+                    Err(stop) => {
+                        discard(one);
+                        Err(stop)
+                    }
+                },
+                Err(stop) => Err(stop),
+            }
         }
         Tree::Compare(comparison, left, k) => {
-            Ok(compared(*comparison, linear(alloc, builder, line, left)?, *k))
+            match linear(alloc, builder, line, left) {
+                Ok(left) => Ok(compared(*comparison, left, *k)),
+                Err(stop) => Err(stop),
+            }
         }
     }
 }
@@ -212,12 +245,34 @@ fn formulas(
     ensures { IfOk result (λ fs. fs ≡ first ∷ each_formula_of builder.now (formulas_of (map (formula_in line.now) trees.now))) }
 {
     let mut formulas = Vec::new(alloc);
+    match push_formulas(alloc, builder, line, trees, first, &mut formulas) {
+        Ok(()) => Ok(Parts::of(formulas)),
+        Err(stop) => {
+            discard_each(formulas);
+            Err(stop)
+        }
+    }
+}
+
+/// Adds the first formula and those that the trees stand for.
+#[cycle(meaning)]
+fn push_formulas(
+    alloc: Global,
+    builder: &ModelBuilder,
+    line: &[u8],
+    trees: &[Tree],
+    first: Formula,
+    formulas: &mut Vec<Formula>,
+) -> Result<(), OutOfMemory>
+    requires { formulas.old.items ≡ [] }
+    ensures { OnOk result (formulas.new.items ≡ first ∷ each_formula_of builder.now (formulas_of (map (formula_in line.now) trees.now))) }
+{
     formulas.push(first)?;
     for tree in trees {
         let part = formula(alloc, builder, line, tree)?;
         formulas.push(part)?;
     }
-    Ok(Parts::of(formulas))
+    Ok(())
 }
 
 fn declared(
@@ -321,6 +376,107 @@ fn quantity(built_in: Option<Quantity>, number: Number) -> Quantity
     }
 }
 
+fn refined(
+    alloc: Global,
+    builder: &ModelBuilder,
+    line: &[u8],
+    name: Word,
+    target: Word,
+    first: Word,
+    others: &[Word],
+) -> Result<Statement, OutOfMemory>
+    requires text { IsUtf8 (word_in line.now name) }
+    ensures { IfOk result (λ s. s ≡ statement_of builder.now (written_refinement (word_in line.now name)
+        (word_in line.now target) (word_in line.now first) (map (word_in line.now) others.now))) }
+{
+    let sources = elements(alloc, builder, line, first, others)?;
+    Ok(Statement::Refine(Refinement {
+        name: name_of(alloc, bytes_in(line, name))?,
+        target: element(builder, line, target),
+        sources,
+    }))
+}
+
+fn variable(
+    alloc: Global,
+    line: &[u8],
+    name: Word,
+    lo: i64,
+    hi: i64,
+) -> Result<Statement, OutOfMemory>
+    requires text { IsUtf8 (word_in line.now name) }
+    ensures { IfOk result (λ s. s ≡ Statement.Variable (record { name = word_in line.now name; lo = lo; hi = hi })) }
+{
+    Ok(Statement::Variable(Variable {
+        name: name_of(alloc, bytes_in(line, name))?,
+        lo,
+        hi,
+    }))
+}
+
+fn assertion(builder: &ModelBuilder, line: &[u8], name: Word, truth: bool) -> Statement
+    ensures { result ≡ statement_of builder.now (written_assertion (word_in line.now name) truth) }
+{
+    Statement::Assert(Assertion {
+        element: element(builder, line, name),
+        truth,
+    })
+}
+
+fn value(builder: &ModelBuilder, line: &[u8], name: Word, of: Word, k: i64) -> Statement
+    ensures { result ≡ statement_of builder.now (written_value (word_in line.now name) (word_in line.now of) k) }
+{
+    Statement::Value(SumValue {
+        sum: sum(builder, line, name),
+        of: truth(builder, line, of),
+        k,
+    })
+}
+
+fn weighing(builder: &ModelBuilder, line: &[u8], what: WeightWord, name: Word, k: i64) -> Statement
+    ensures { result ≡ statement_of builder.now (written_weight what (word_in line.now name) k) }
+{
+    let element = element(builder, line, name);
+    weight(what, Weighing { element, k })
+}
+
+fn conditional(
+    alloc: Global,
+    builder: &ModelBuilder,
+    line: &[u8],
+    what: ConditionWord,
+    name: Word,
+    tree: &Tree,
+) -> Result<Statement, OutOfMemory>
+    ensures { IfOk result (λ s. s ≡ statement_of builder.now
+        (written_condition what (word_in line.now name) (formula_in line.now tree.now))) }
+{
+    let formula = formula(alloc, builder, line, tree)?;
+    let name = truth(builder, line, name);
+    Ok(Statement::Rule(condition(what, name, formula)))
+}
+
+fn requirement(
+    alloc: Global,
+    builder: &ModelBuilder,
+    line: &[u8],
+    tree: &Tree,
+) -> Result<Statement, OutOfMemory>
+    ensures { IfOk result (λ s. s ≡ statement_of builder.now (written_requirement (formula_in line.now tree.now))) }
+{
+    let formula = formula(alloc, builder, line, tree)?;
+    Ok(Statement::Rule(Rule::Require(formula)))
+}
+
+fn objective(builder: &ModelBuilder, line: &[u8], direction: Direction, name: Word) -> Statement
+    ensures { result ≡ statement_of builder.now (written_objective direction (word_in line.now name)) }
+{
+    Statement::Objective(Objective {
+        max: is_max(direction),
+        of: quantity(built_in(bytes_in(line, name)), number(builder, line, name)),
+    })
+}
+
 /// The statement that a written one makes after those of the builder.
 pub(crate) fn statement(
     alloc: Global,
@@ -341,52 +497,29 @@ pub(crate) fn statement(
             target,
             first,
             others,
-        } => Ok(Statement::Refine(Refinement {
-            name: name_of(alloc, bytes_in(line, *name))?,
-            target: element(builder, line, *target),
-            sources: elements(alloc, builder, line, *first, others.as_slice())?,
-        })),
+        } => refined(
+            alloc,
+            builder,
+            line,
+            *name,
+            *target,
+            *first,
+            others.as_slice(),
+        ),
         Written::Pair { what, one, other } => Ok(pair(builder, line, *what, *one, *other)),
-        Written::Assert { name, truth } => Ok(Statement::Assert(Assertion {
-            element: element(builder, line, *name),
-            truth: *truth,
-        })),
-        Written::Var { name, lo, hi } => Ok(Statement::Variable(Variable {
-            name: name_of(alloc, bytes_in(line, *name))?,
-            lo: *lo,
-            hi: *hi,
-        })),
-        Written::Value { sum: name, of, k } => Ok(Statement::Value(SumValue {
-            sum: sum(builder, line, *name),
-            of: truth(builder, line, *of),
-            k: *k,
-        })),
-        Written::Weight { what, name, k } => {
-            let element = element(builder, line, *name);
-            Ok(weight(*what, Weighing { element, k: *k }))
-        }
+        Written::Assert { name, truth } => Ok(assertion(builder, line, *name, *truth)),
+        Written::Var { name, lo, hi } => variable(alloc, line, *name, *lo, *hi),
+        Written::Value { sum, of, k } => Ok(value(builder, line, *sum, *of, *k)),
+        Written::Weight { what, name, k } => Ok(weighing(builder, line, *what, *name, *k)),
         Written::Condition {
             what,
             name,
-            formula: tree,
-        } => {
-            let formula = formula(alloc, builder, line, tree)?;
-            let name = truth(builder, line, *name);
-            Ok(Statement::Rule(condition(*what, name, formula)))
-        }
-        Written::Require { formula: tree } => {
-            let formula = formula(alloc, builder, line, tree)?;
-            Ok(Statement::Rule(Rule::Require(formula)))
-        }
+            formula,
+        } => conditional(alloc, builder, line, *what, *name, formula),
+        Written::Require { formula } => requirement(alloc, builder, line, formula),
         Written::Objective {
             direction,
-            quantity: name,
-        } => Ok(Statement::Objective(Objective {
-            max: is_max(*direction),
-            of: quantity(
-                built_in(bytes_in(line, *name)),
-                number(builder, line, *name),
-            ),
-        })),
+            quantity,
+        } => Ok(objective(builder, line, *direction, *quantity)),
     }
 }

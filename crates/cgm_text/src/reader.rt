@@ -27,6 +27,9 @@ pub fn read(alloc: Global, bytes: &[u8]) -> Result<Reading, TextStop>
     let mut draft = ModelDraft::new(alloc);
     match read_lines(alloc, bytes, &mut draft) {
         Ok(()) => Ok(draft.finish()),
-        Err(stop) => Err(stop),
+        Err(stop) => {
+            draft.discard();
+            Err(stop)
+        }
     }
 }

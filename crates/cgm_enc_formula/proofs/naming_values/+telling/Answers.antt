@@ -1,5 +1,6 @@
 -- What holds of the whole formula's comparisons holds of the parts', and what each node adds.
-use Rattle.std.proofs.Common.{rules, List, ℤ, ◌++◌, map, subst, sym}
+use Rattle.std.proofs.Common.{rules, ◌≡◌, List, ℤ, ◌++◌, map, of_z, to_z, w64, ap, ◌∙◌, subst, sym}
+use Rattle.std.specs.Prelude.{int_le}
 use Rattle.std.specs.List.{All}
 use Rattle.cgm_atom.specs.Literals.{bit}
 use Rattle.cgm_formula.specs.declared.assignment.Assignment.{Assignment}
@@ -8,9 +9,10 @@ use Rattle.cgm_formula.specs.declared.formula.Formula.{Formula}
 use Rattle.cgm_formula.specs.declared.formula.Formula.TheViews.{the_lemmas}
 use Rattle.cgm_formula.specs.Reading.{name_in, number_in}
 use Rattle.cgm_formula.specs.Sizes.{IsSmall, AreSmallIn}
+use Rattle.cgm_formula.specs.Truth.{linear_value}
 use Rattle.cgm_formula.proofs.Comparisons.{of_negation, of_conjunction, of_disjunction, of_implication, of_equivalence, of_at_most, of_at_least, of_equality}
 use Rattle.cgm_enc_formula.specs.NamingValues.{all_truths, told}
-use Rattle.cgm_enc_formula.proofs.ToldSteps.{all_say, all_told, any_says, any_told, equivalence_says, equivalence_told, if_ok, implication_says, implication_told, on_ok, part_said, part_told}
+use Rattle.cgm_enc_formula.proofs.ToldSteps.{all_say, all_told, any_says, any_told, at_least_says, at_least_told, at_most_says, at_most_told, equality_says, equality_told, equivalence_says, equivalence_told, if_ok, implication_says, implication_told, name_says, name_told, negation_says, negation_told, on_ok, part_said, part_told}
 use Rattle.cgm_enc_formula.proofs.naming_values.+telling.Goals as goal
 
 abbrev Small : Assignment → List ℤ → Linear × ℤ → Type 0
@@ -201,3 +203,103 @@ push_formula-returns-in_ok-second-in-Iff-clause-added t c =
     c.args.out.now.items c.push_formula-in-Iff.new.out.items c.push_formula-in-Iff-2.new.out.items c.push_equivalence.new.out.items
     c.in-Iff.is c.get-in-Iff.ensures c.get-in-Iff-2.ensures c.in_ok-first-in-Iff.ensures.says c.in_ok-second-in-Iff.ensures.says c.in_ok-first-in-Iff.ensures.added c.in_ok-second-in-Iff.ensures.added last)
     c.push_equivalence.ensures.added
+
+pub push_formula-returns-in-Name-clause-says : goal.push_formula-returns-in-Name-clause-says
+push_formula-returns-in-Name-clause-says t c =
+    let names = name_in c.args.assignment.now in
+    let numbers = number_in c.args.assignment.now c.args.sums.now in
+    let f = c.args.formula.now in
+    name_says names numbers f c.in-Name.name c.is_true.result c.in-Name.is c.is_true.ensures
+
+pub push_formula-returns-in-Name-clause-added : goal.push_formula-returns-in-Name-clause-added
+push_formula-returns-in-Name-clause-added t c =
+    let names = name_in c.args.assignment.now in
+    let numbers = number_in c.args.assignment.now c.args.sums.now in
+    let f = c.args.formula.now in
+    name_told names numbers f c.in-Name.name c.args.out.now.items c.in-Name.is
+
+pub push_formula-returns-in_ok-holds-in-Not-clause-says : goal.push_formula-returns-in_ok-holds-in-Not-clause-says
+push_formula-returns-in_ok-holds-in-Not-clause-says t c =
+    let names = name_in c.args.assignment.now in
+    let numbers = number_in c.args.assignment.now c.args.sums.now in
+    let f = c.args.formula.now in
+    negation_says names numbers f c.in-Not.part c.get.result.now c.in_ok-holds-in-Not.holds c.in-Not.is c.get.ensures c.in_ok-holds-in-Not.ensures.says
+
+pub push_formula-returns-in_ok-holds-in-Not-clause-added : goal.push_formula-returns-in_ok-holds-in-Not-clause-added
+push_formula-returns-in_ok-holds-in-Not-clause-added t c =
+    let names = name_in c.args.assignment.now in
+    let numbers = number_in c.args.assignment.now c.args.sums.now in
+    let f = c.args.formula.now in
+    negation_told names numbers f c.in-Not.part c.get.result.now c.args.out.now.items c.push_formula.new.out.items c.in-Not.is c.get.ensures c.in_ok-holds-in-Not.ensures.added
+
+pub push_formula-returns-in-AtMost-clause-says : goal.push_formula-returns-in-AtMost-clause-says
+push_formula-returns-in-AtMost-clause-says t c =
+    let names = name_in c.args.assignment.now in
+    let numbers = number_in c.args.assignment.now c.args.sums.now in
+    let f = c.args.formula.now in
+    let l = c.in-AtMost.linear in
+    let k : to_z w64 (of_z w64 c.in-AtMost.k) ≡ c.in-AtMost.k = search rules in
+    let is = c.is_at_most.ensures ∙ ap (λ (z : ℤ). int_le (linear_value numbers l) z) k in
+    if_ok c.push_bit.result _ (told names numbers f).says (at_most_says names numbers f l c.in-AtMost.k c.is_at_most.result c.in-AtMost.is is) c.push_bit.ensures.says
+
+pub push_formula-returns-in-AtMost-clause-added : goal.push_formula-returns-in-AtMost-clause-added
+push_formula-returns-in-AtMost-clause-added t c =
+    let names = name_in c.args.assignment.now in
+    let numbers = number_in c.args.assignment.now c.args.sums.now in
+    let f = c.args.formula.now in
+    let l = c.in-AtMost.linear in
+    let k : to_z w64 (of_z w64 c.in-AtMost.k) ≡ c.in-AtMost.k = search rules in
+    let is = c.is_at_most.ensures ∙ ap (λ (z : ℤ). int_le (linear_value numbers l) z) k in
+    on_ok c.push_bit.result
+    (λ last. at_most_told names numbers f l c.in-AtMost.k c.is_at_most.result c.args.out.now.items c.push_bit.new.out.items c.in-AtMost.is is last)
+    c.push_bit.ensures.added
+
+pub push_formula-returns-in-AtLeast-clause-says : goal.push_formula-returns-in-AtLeast-clause-says
+push_formula-returns-in-AtLeast-clause-says t c =
+    let names = name_in c.args.assignment.now in
+    let numbers = number_in c.args.assignment.now c.args.sums.now in
+    let f = c.args.formula.now in
+    let l = c.in-AtLeast.linear in
+    let k : to_z w64 (of_z w64 c.in-AtLeast.k) ≡ c.in-AtLeast.k = search rules in
+    let is = c.is_at_least.ensures ∙ ap (λ (z : ℤ). int_le z (linear_value numbers l)) k in
+    if_ok c.push_bit-in-AtLeast.result _ (told names numbers f).says (at_least_says names numbers f l c.in-AtLeast.k c.is_at_least.result c.in-AtLeast.is is) c.push_bit-in-AtLeast.ensures.says
+
+pub push_formula-returns-in-AtLeast-clause-added : goal.push_formula-returns-in-AtLeast-clause-added
+push_formula-returns-in-AtLeast-clause-added t c =
+    let names = name_in c.args.assignment.now in
+    let numbers = number_in c.args.assignment.now c.args.sums.now in
+    let f = c.args.formula.now in
+    let l = c.in-AtLeast.linear in
+    let k : to_z w64 (of_z w64 c.in-AtLeast.k) ≡ c.in-AtLeast.k = search rules in
+    let is = c.is_at_least.ensures ∙ ap (λ (z : ℤ). int_le z (linear_value numbers l)) k in
+    on_ok c.push_bit-in-AtLeast.result
+    (λ last. at_least_told names numbers f l c.in-AtLeast.k c.is_at_least.result c.args.out.now.items c.push_bit-in-AtLeast.new.out.items c.in-AtLeast.is is last)
+    c.push_bit-in-AtLeast.ensures.added
+
+pub push_formula-returns-in-Equal-clause-says : goal.push_formula-returns-in-Equal-clause-says
+push_formula-returns-in-Equal-clause-says t c =
+    let names = name_in c.args.assignment.now in
+    let numbers = number_in c.args.assignment.now c.args.sums.now in
+    let f = c.args.formula.now in
+    let l = c.in-Equal.linear in
+    let k : to_z w64 (of_z w64 c.in-Equal.k) ≡ c.in-Equal.k = search rules in
+    let most = c.is_at_most-in-Equal.ensures ∙ ap (λ (z : ℤ). int_le (linear_value numbers l) z) k in
+    let least = c.is_at_least-in-Equal.ensures ∙ ap (λ (z : ℤ). int_le z (linear_value numbers l)) k in
+    if_ok c.push_equality.result _ (told names numbers f).says
+    (equality_says names numbers f l c.in-Equal.k c.is_at_most-in-Equal.result c.is_at_least-in-Equal.result c.in-Equal.is most least)
+    c.push_equality.ensures.says
+
+pub push_formula-returns-in-Equal-clause-added : goal.push_formula-returns-in-Equal-clause-added
+push_formula-returns-in-Equal-clause-added t c =
+    let names = name_in c.args.assignment.now in
+    let numbers = number_in c.args.assignment.now c.args.sums.now in
+    let f = c.args.formula.now in
+    let l = c.in-Equal.linear in
+    let k : to_z w64 (of_z w64 c.in-Equal.k) ≡ c.in-Equal.k = search rules in
+    let most = c.is_at_most-in-Equal.ensures ∙ ap (λ (z : ℤ). int_le (linear_value numbers l) z) k in
+    let least = c.is_at_least-in-Equal.ensures ∙ ap (λ (z : ℤ). int_le z (linear_value numbers l)) k in
+    on_ok c.push_equality.result
+    (λ last.
+    equality_told names numbers f l c.in-Equal.k c.is_at_most-in-Equal.result c.is_at_least-in-Equal.result c.args.out.now.items c.push_equality.new.out.items
+    c.in-Equal.is most least last)
+    c.push_equality.ensures.added

@@ -12,8 +12,8 @@ use Rattle.cgm_print.proofs.model_printer.declarations.Goals as goal
 pub returns : goal.returns
 returns c =
     let m = lists_of c.args.model.now in
-    four_groups m (map (λ (x : Element). statements.Element x) m.elements) (map (λ (x : Refinement). statements.Refine x) m.refinements) (map (λ (x : Variable). statements.Variable x) m.vars) (map (λ (x : Sum). statements.Sum x) m.sums) c.args.printer.now.text.items c.elements.new.printer.text.items c.refinements.new.printer.text.items c.variables.new.printer.text.items c.sums.new.printer.text.items
-    (c.in_ok-elements.ensures ∙ ap (λ (xs : List Element). c.args.printer.now.text.items ++ statement_lines m (map (λ (x : Element). statements.Element x) xs)) c.as_slice.ensures)
-    (c.in_ok-refinements.ensures ∙ ap (λ (xs : List Refinement). c.elements.new.printer.text.items ++ statement_lines m (map (λ (x : Refinement). statements.Refine x) xs)) c.as_slice-2.ensures)
-    (c.in_ok-variables.ensures ∙ ap (λ (xs : List Variable). c.refinements.new.printer.text.items ++ statement_lines m (map (λ (x : Variable). statements.Variable x) xs)) c.as_slice-3.ensures)
-    (c.in_ok-sums.ensures ∙ ap (λ (xs : List Sum). c.variables.new.printer.text.items ++ statement_lines m (map (λ (x : Sum). statements.Sum x) xs)) c.as_slice-4.ensures)
+    four_groups m (map (λ (x : Element). statements.Element x) m.elements) (map (λ (x : Refinement). statements.Refine x) m.refinements) (map (λ (x : Variable). statements.Variable x) m.vars) (map (λ (x : Sum). statements.Sum x) m.sums) c.args.printer.now.text.items c.lines.new.printer.text.items c.lines-2.new.printer.text.items c.lines-3.new.printer.text.items c.lines-4.new.printer.text.items
+    (c.in_ok-lines.ensures ∙ ap (λ (xs : List Element). c.args.printer.now.text.items ++ statement_lines m (map (λ (x : Element). statements.Element x) xs)) c.as_slice.ensures)
+    (c.in_ok-lines-2.ensures ∙ ap (λ (xs : List Refinement). c.lines.new.printer.text.items ++ statement_lines m (map (λ (x : Refinement). statements.Refine x) xs)) c.as_slice-2.ensures)
+    (c.in_ok-lines-3.ensures ∙ ap (λ (xs : List Variable). c.lines-2.new.printer.text.items ++ statement_lines m (map (λ (x : Variable). statements.Variable x) xs)) c.as_slice-3.ensures)
+    (c.in_ok-lines-4.ensures ∙ ap (λ (xs : List Sum). c.lines-3.new.printer.text.items ++ statement_lines m (map (λ (x : Sum). statements.Sum x) xs)) c.as_slice-4.ensures)

@@ -10,3 +10,6 @@ returns-in-Row-clause-after c = λ vars h.
     (c.restore_guard.ensures.after (vars_of_terms r.terms ++ vars)
     (subst (λ (all : List ℕ). ChangesOnly all c.args.problem.now.bounds c.args.bounds.now)
     (append_assoc (vars_of_guard r.guard) (vars_of_terms r.terms) vars) (rw c.in-Row.is at h))))
+
+pub returns-in-Clause-clause-after : goal.returns-in-Clause-clause-after
+returns-in-Clause-clause-after c = λ vars h. c.restore_atoms.ensures.after vars (rw c.in-Clause.is at h)

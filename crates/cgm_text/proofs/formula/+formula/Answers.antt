@@ -1,11 +1,11 @@
-use Rattle.std.proofs.Common.{◌∷◌, codes, map, arith}
+use Rattle.std.proofs.Common.{◌∷◌, codes, map, ap, ◌∙◌, arith}
 use Rattle.cgm_lex.specs.Lexemes.{opening, word}
 use Rattle.cgm_text.specs.Trees.{formula_in, seen_all}
-use Rattle.cgm_print.specs.Written.{joint_word, pairing_word, formulas_of}
-use Rattle.cgm_text.proofs.Exits.{exit}
-use Rattle.cgm_text.proofs.Formulas.{joint_found, joint_more, negation_found, no_connective, no_joint, no_joint_end, no_negation, no_negation_end, no_pairing, no_pairing_end, no_pairing_other, no_start, pairing_found}
+use Rattle.cgm_print.specs.Written.{joint_word, pairing_word, spelled_each, formulas_of}
+use Rattle.cgm_text.proofs.Exits.{weaken}
+use Rattle.cgm_text.proofs.Formulas.{joint_found, negation_found, no_connective, no_joint, no_joint_parts, no_negation, no_negation_end, no_pairing, no_pairing_end, no_pairing_other, no_parts_end, no_start, pairing_found, parts_more}
 use Rattle.cgm_text.proofs.formula.+formula.Goals as goal
-use Rattle.cgm_text.specs.Parsed.{BeginsNoFormula}
+use Rattle.cgm_text.specs.Parsed.{BeginsNoFormula, BeginsNoParts}
 
 pub bracketed-returns-in-None-clause-form : goal.bracketed-returns-in-None-clause-form
 bracketed-returns-in-None-clause-form t c =
@@ -16,62 +16,74 @@ formula-returns-in-None-take_open-clause-form t c =
     let line = c.args.line.now in
     no_start (seen_all line c.args.tokens.now) (c.in-None.ensures.none line) (c.in-None-take_open.ensures.none line)
 
-pub joined-returns-in_err-first-clause-form : goal.joined-returns-in_err-first-clause-form
-joined-returns-in_err-first-clause-form t c =
+pub joined-returns-in-Err-clause-form : goal.joined-returns-in-Err-clause-form
+joined-returns-in-Err-clause-form t c =
     let tokens = seen_all c.args.line.now c.args.tokens.now in
-    exit (BeginsNoFormula tokens) (BeginsNoFormula (opening ∷ word (joint_word c.args.joint) ∷ tokens)) c.from_residual.result c.in_err-first.field-0.0 c.from_residual.ensures.1 c.in_err-first.ensures.form (no_joint c.args.joint tokens)
+    weaken (BeginsNoFormula tokens) (BeginsNoFormula (opening ∷ word (joint_word c.args.joint) ∷ tokens)) c.in-Err.stop c.in-Err.ensures.form (no_joint c.args.joint tokens)
 
-pub joined-returns-in-Some-clause-found : goal.joined-returns-in-Some-clause-found
-joined-returns-in-Some-clause-found t c =
+pub joined-returns-in_ok-join-in-Ok-push_parts-clause-found : goal.joined-returns-in_ok-join-in-Ok-push_parts-clause-found
+joined-returns-in_ok-join-in-Ok-push_parts-clause-found t c =
     let line = c.args.line.now in
-    joint_found c.args.joint (formula_in line c.in_ok-join-in-Some.field-0) _ (formulas_of (map (formula_in line) c.loop-after.others)) (seen_all line c.args.tokens.now) (seen_all line c.loop-after.rest.now) (seen_all line c.in-Some.after.now) (c.in_ok-join-in-Some.ensures.tree line) c.loop-after.invariant.0 (c.in-Some.ensures.found line)
+    joint_found c.args.joint (formula_in line c.in_ok-join-in-Ok-push_parts.field-0) (formula_in line c.in-Ok.first) (formulas_of (map (formula_in line) c.push_parts.new.parts)) (seen_all line c.args.tokens.now) (seen_all line c.in-Ok.after.now) (seen_all line c.in-Ok-push_parts.rest.now) (c.in_ok-join-in-Ok-push_parts.ensures.tree line) c.in-Ok.ensures.found c.in-Ok-push_parts.ensures.found
 
-pub joined-returns-in_err-next-clause-form : goal.joined-returns-in_err-next-clause-form
-joined-returns-in_err-next-clause-form t c =
+pub joined-returns-in-Err-push_parts-clause-form : goal.joined-returns-in-Err-push_parts-clause-form
+joined-returns-in-Err-push_parts-clause-form t c =
+    let line = c.args.line.now in
+    let tokens = seen_all line c.args.tokens.now in
+    let rest = seen_all line c.in-Ok.after.now in
+    weaken (BeginsNoParts rest) (BeginsNoFormula (opening ∷ word (joint_word c.args.joint) ∷ tokens)) c.in-Err-push_parts.stop c.in-Err-push_parts.ensures.form (no_joint_parts c.args.joint (formula_in line c.in-Ok.first) tokens rest c.in-Ok.ensures.found)
+
+pub push_parts-returns-in-Some-clause-found : goal.push_parts-returns-in-Some-clause-found
+push_parts-returns-in-Some-clause-found t c =
+    let line = c.args.line.now in
+    c.loop-after.invariant.0 ∙ ap (spelled_each (formulas_of (map (formula_in line) c.loop-after.parts))) (c.in-Some.ensures.found line)
+
+pub push_parts-returns-in-Err-clause-form : goal.push_parts-returns-in-Err-clause-form
+push_parts-returns-in-Err-clause-form t c =
     let line = c.args.line.now in
     let tokens = seen_all line c.args.tokens.now in
     let rest = seen_all line c.loop-after.rest.now in
-    exit (BeginsNoFormula rest) (BeginsNoFormula (opening ∷ word (joint_word c.args.joint) ∷ tokens)) c.from_residual-in_err-next.result c.in_err-next.field-0.0 c.from_residual-in_err-next.ensures.1 c.in_err-next.ensures.form (λ none. no_joint_end c.args.joint _ (formulas_of (map (formula_in line) c.loop-after.others)) tokens rest c.loop-after.invariant.0 none (c.in-None.ensures.none line))
+    weaken (BeginsNoFormula rest) (BeginsNoParts tokens) c.in-Err.stop c.in-Err.ensures.form (λ none. no_parts_end (formulas_of (map (formula_in line) c.loop-after.parts)) tokens rest c.loop-after.invariant.0 none (c.in-None.ensures.none line))
 
-pub joined-loop-after-preserved : goal.joined-loop-after-preserved
-joined-loop-after-preserved t c =
+pub push_parts-loop-after-preserved : goal.push_parts-loop-after-preserved
+push_parts-loop-after-preserved t c =
     let line = c.args.line.now in
-    let shorter = c.in_ok-next.ensures.shorter in
-    (joint_more line _ c.loop-after.others c.push.new.parts c.in_ok-next.next (seen_all line c.args.tokens.now) (seen_all line c.loop-after.rest.now) (seen_all line c.in_ok-next.after.now) c.in_ok-push.ensures.pushed c.loop-after.invariant.0 c.in_ok-next.ensures.found, omega arith)
+    let shorter = c.in-Ok.ensures.shorter in
+    (parts_more line c.loop-after.parts c.push.new.parts c.in-Ok.next (seen_all line c.args.tokens.now) (seen_all line c.loop-after.rest.now) (seen_all line c.in-Ok.after.now) c.in_ok-push-in-Ok.ensures.pushed c.loop-after.invariant.0 c.in-Ok.ensures.found, omega arith)
 
-pub negation-returns-in_err-part-clause-form : goal.negation-returns-in_err-part-clause-form
-negation-returns-in_err-part-clause-form t c =
+pub negation-returns-in-Err-clause-form : goal.negation-returns-in-Err-clause-form
+negation-returns-in-Err-clause-form t c =
     let tokens = seen_all c.args.line.now c.args.tokens.now in
-    exit (BeginsNoFormula tokens) (BeginsNoFormula (opening ∷ word (codes "not") ∷ tokens)) c.from_residual.result c.in_err-part.field-0.0 c.from_residual.ensures.1 c.in_err-part.ensures.form (no_negation tokens)
+    weaken (BeginsNoFormula tokens) (BeginsNoFormula (opening ∷ word (codes "not") ∷ tokens)) c.in-Err.stop c.in-Err.ensures.form (no_negation tokens)
 
 pub negation-returns-in-None-clause-form : goal.negation-returns-in-None-clause-form
 negation-returns-in-None-clause-form t c =
     let line = c.args.line.now in
-    no_negation_end (formula_in line c.in_ok-part.part) (seen_all line c.args.tokens.now) (seen_all line c.in_ok-part.rest.now) c.in_ok-part.ensures.found (c.in-None.ensures.none line)
+    no_negation_end (formula_in line c.in-Ok.part) (seen_all line c.args.tokens.now) (seen_all line c.in-Ok.rest.now) c.in-Ok.ensures.found (c.in-None.ensures.none line)
 
 pub negation-returns-in_ok-negated-in-Some-clause-found : goal.negation-returns-in_ok-negated-in-Some-clause-found
 negation-returns-in_ok-negated-in-Some-clause-found t c =
     let line = c.args.line.now in
-    negation_found (formula_in line c.in_ok-negated-in-Some.field-0) (formula_in line c.in_ok-part.part) (seen_all line c.args.tokens.now) (seen_all line c.in_ok-part.rest.now) (seen_all line c.in-Some.rest.now) (c.in_ok-negated-in-Some.ensures.tree line) c.in_ok-part.ensures.found (c.in-Some.ensures.found line)
+    negation_found (formula_in line c.in_ok-negated-in-Some.field-0) (formula_in line c.in-Ok.part) (seen_all line c.args.tokens.now) (seen_all line c.in-Ok.rest.now) (seen_all line c.in-Some.rest.now) (c.in_ok-negated-in-Some.ensures.tree line) c.in-Ok.ensures.found (c.in-Some.ensures.found line)
 
-pub paired-returns-in_err-one-clause-form : goal.paired-returns-in_err-one-clause-form
-paired-returns-in_err-one-clause-form t c =
+pub paired-returns-in-Err-clause-form : goal.paired-returns-in-Err-clause-form
+paired-returns-in-Err-clause-form t c =
     let tokens = seen_all c.args.line.now c.args.tokens.now in
-    exit (BeginsNoFormula tokens) (BeginsNoFormula (opening ∷ word (pairing_word c.args.pairing) ∷ tokens)) c.from_residual.result c.in_err-one.field-0.0 c.from_residual.ensures.1 c.in_err-one.ensures.form (no_pairing c.args.pairing tokens)
+    weaken (BeginsNoFormula tokens) (BeginsNoFormula (opening ∷ word (pairing_word c.args.pairing) ∷ tokens)) c.in-Err.stop c.in-Err.ensures.form (no_pairing c.args.pairing tokens)
 
-pub paired-returns-in_err-other-clause-form : goal.paired-returns-in_err-other-clause-form
-paired-returns-in_err-other-clause-form t c =
+pub paired-returns-in-Err-formula-clause-form : goal.paired-returns-in-Err-formula-clause-form
+paired-returns-in-Err-formula-clause-form t c =
     let line = c.args.line.now in
     let tokens = seen_all line c.args.tokens.now in
-    let middle = seen_all line c.in_ok-one.rest.now in
-    exit (BeginsNoFormula middle) (BeginsNoFormula (opening ∷ word (pairing_word c.args.pairing) ∷ tokens)) c.from_residual-in_err-other.result c.in_err-other.field-0.0 c.from_residual-in_err-other.ensures.1 c.in_err-other.ensures.form (no_pairing_other c.args.pairing (formula_in line c.in_ok-one.one) tokens middle c.in_ok-one.ensures.found)
+    let middle = seen_all line c.in-Ok.rest.now in
+    weaken (BeginsNoFormula middle) (BeginsNoFormula (opening ∷ word (pairing_word c.args.pairing) ∷ tokens)) c.in-Err-formula.stop c.in-Err-formula.ensures.form (no_pairing_other c.args.pairing (formula_in line c.in-Ok.one) tokens middle c.in-Ok.ensures.found)
 
 pub paired-returns-in-None-clause-form : goal.paired-returns-in-None-clause-form
 paired-returns-in-None-clause-form t c =
     let line = c.args.line.now in
-    no_pairing_end c.args.pairing (formula_in line c.in_ok-one.one) (formula_in line c.in_ok-other.other) (seen_all line c.args.tokens.now) (seen_all line c.in_ok-one.rest.now) (seen_all line c.in_ok-other.rest.now) c.in_ok-one.ensures.found c.in_ok-other.ensures.found (c.in-None.ensures.none line)
+    no_pairing_end c.args.pairing (formula_in line c.in-Ok.one) (formula_in line c.in-Ok-formula.other) (seen_all line c.args.tokens.now) (seen_all line c.in-Ok.rest.now) (seen_all line c.in-Ok-formula.rest.now) c.in-Ok.ensures.found c.in-Ok-formula.ensures.found (c.in-None.ensures.none line)
 
 pub paired-returns-in_ok-pair-in-Some-clause-found : goal.paired-returns-in_ok-pair-in-Some-clause-found
 paired-returns-in_ok-pair-in-Some-clause-found t c =
     let line = c.args.line.now in
-    pairing_found c.args.pairing (formula_in line c.in_ok-pair-in-Some.field-0) (formula_in line c.in_ok-one.one) (formula_in line c.in_ok-other.other) (seen_all line c.args.tokens.now) (seen_all line c.in_ok-one.rest.now) (seen_all line c.in_ok-other.rest.now) (seen_all line c.in-Some.rest.now) (c.in_ok-pair-in-Some.ensures.tree line) c.in_ok-one.ensures.found c.in_ok-other.ensures.found (c.in-Some.ensures.found line)
+    pairing_found c.args.pairing (formula_in line c.in_ok-pair-in-Some.field-0) (formula_in line c.in-Ok.one) (formula_in line c.in-Ok-formula.other) (seen_all line c.args.tokens.now) (seen_all line c.in-Ok.rest.now) (seen_all line c.in-Ok-formula.rest.now) (seen_all line c.in-Some.rest.now) (c.in_ok-pair-in-Some.ensures.tree line) c.in-Ok.ensures.found c.in-Ok-formula.ensures.found (c.in-Some.ensures.found line)

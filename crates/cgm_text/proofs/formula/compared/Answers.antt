@@ -1,24 +1,18 @@
-use Rattle.std.proofs.Common.{◌∷◌, ap, ◌∙◌}
+use Rattle.std.proofs.Common.{◌∷◌}
 use Rattle.cgm_lex.specs.Lexemes.{opening, word}
 use Rattle.cgm_text.specs.Trees.{linear_in, seen_all}
-use Rattle.cgm_print.specs.Written.{comparison_word, spelled_linear}
-use Rattle.cgm_text.proofs.Exits.{exit}
-use Rattle.cgm_text.proofs.Formulas.{no_comparison, no_comparison_end, no_comparison_number}
+use Rattle.cgm_print.specs.Written.{comparison_word}
+use Rattle.cgm_text.proofs.Exits.{weaken}
+use Rattle.cgm_text.proofs.Formulas.{no_comparison, no_comparison_bound}
 use Rattle.cgm_text.proofs.formula.compared.Goals as goal
 use Rattle.cgm_text.specs.Parsed.{BeginsNoFormula, BeginsNoLinear}
 
-pub returns-in_err-left-clause-form : goal.returns-in_err-left-clause-form
-returns-in_err-left-clause-form c =
+pub returns-in-Err-clause-form : goal.returns-in-Err-clause-form
+returns-in-Err-clause-form c =
     let tokens = seen_all c.args.line.now c.args.tokens.now in
-    exit (BeginsNoLinear tokens) (BeginsNoFormula (opening ∷ word (comparison_word c.args.comparison) ∷ tokens)) c.from_residual.result c.in_err-left.field-0.0 c.from_residual.ensures.1 c.in_err-left.ensures.form (no_comparison c.args.comparison tokens)
+    weaken (BeginsNoLinear tokens) (BeginsNoFormula (opening ∷ word (comparison_word c.args.comparison) ∷ tokens)) c.in-Err.stop c.in-Err.ensures.form (no_comparison c.args.comparison tokens)
 
 pub returns-in-None-clause-form : goal.returns-in-None-clause-form
 returns-in-None-clause-form c =
     let line = c.args.line.now in
-    no_comparison_number c.args.comparison (linear_in line c.in_ok-left.left) (seen_all line c.args.tokens.now) (seen_all line c.in_ok-left.rest.now) c.in_ok-left.ensures.found (c.in-None.ensures.none line)
-
-pub returns-in-None-take_close-clause-form : goal.returns-in-None-take_close-clause-form
-returns-in-None-take_close-clause-form c =
-    let line = c.args.line.now in
-    let left = linear_in line c.in_ok-left.left in
-    no_comparison_end c.args.comparison left c.in-Some.k (seen_all line c.args.tokens.now) (seen_all line c.in-Some.rest.now) (c.in_ok-left.ensures.found ∙ ap (spelled_linear left) (c.in-Some.ensures.found line)) (c.in-None-take_close.ensures.none line)
+    no_comparison_bound c.args.comparison (linear_in line c.in-Ok.left) (seen_all line c.args.tokens.now) (seen_all line c.in-Ok.rest.now) c.in-Ok.ensures.found (c.in-None.ensures.none line)

@@ -8,7 +8,8 @@ ghost use Rattle.cgm_encode.specs.Building.{HasBoundSize, IsDefining, defining_r
 ghost use Rattle.cgm_encode.specs.Totals.{row_of};
 
 use crate::expressions::Expression;
-use cgm_atom::{BuildStop, OutOfMemory, ProblemBuilder, Row, Seq, Var};
+use cgm_atom::{BuildStop, ProblemBuilder, Row, Seq, Var};
+use cgm_base::OutOfMemory;
 use cgm_enc_formula::negative;
 use std::alloc::Global;
 

@@ -7,8 +7,8 @@ ghost use Rattle.cgm_print.specs.Printing.{IsLine};
 ghost use Rattle.cgm_print.specs.Statements.{statement_tokens};
 
 use crate::printer::Printer;
+use cgm_base::OutOfMemory;
 use cgm_model::Model;
-use std::alloc::AllocError as OutOfMemory;
 
 /// A kind of statement, by what a model keeps of one.
 pub(crate) trait Line<T> {

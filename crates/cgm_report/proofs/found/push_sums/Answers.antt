@@ -1,0 +1,20 @@
+use Rattle.std.proofs.Common.{◌≡◌, ◌∙◌, ◌++◌, ℕ, ℤ, List, ap, codes, get_or, pos, refl, to_z, of_z, w64, rules}
+use Rattle.std.specs.Int.{w128}
+use Rattle.cgm_model.specs.declared.lists.Sum.{Sum}
+use Rattle.cgm_report.specs.Report.{number_line, sum_lines}
+use Rattle.cgm_report.proofs.Zipped.{zipped_at}
+use Rattle.cgm_report.proofs.found.push_sums.Goals as goal
+
+pub loop-at-preserved : goal.loop-at-preserved
+loop-at-preserved c =
+    let xs = c.args.sums.now in
+    let ys = c.args.values.now in
+    let old = c.loop-at.report.items in
+    let y = get_or ys c.loop-at.at (pos 0) in
+    let same : to_z w64 (of_z w64 y) ≡ y = search rules in
+    let k = to_z w128 (of_z w128 c.from-value.result) in
+    let wide : k ≡ c.from-value.result = search rules in
+    zipped_at (λ (x : Sum) (k : ℤ). number_line (codes "sum") x.name k) sum_lines (record { more = λ x y xs ys. refl }) xs ys c.loop-at.at c.index-sums-at.result (pos 0) k c.loop-at-test.true c.requires (wide ∙ c.from-value.ensures ∙ same)
+    (c.args.report.now.items ++ sum_lines xs ys) old c.push_number.new.report.items c.loop-at.invariant
+    (c.in_ok-push_number.ensures ∙ ap (λ (name : List ℕ). old ++ number_line (codes "sum") name k) c.as_slice.ensures
+    ∙ ap (λ (x : Sum). old ++ number_line (codes "sum") x.name k) c.index-sums-at.is)

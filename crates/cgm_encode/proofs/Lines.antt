@@ -1,8 +1,8 @@
 -- Lines that a loop adds: what was added with those that are left comes to all.
-use Rattle.std.proofs.Common.{◌≡◌, ℕ, suc, ◌+◌, ◌<◌, List, [], ◌∷◌, ◌++◌, get_or, length, map, drop, sym, ap, ◌∙◌, arith}
-use Rattle.std.specs.Prelude.{◌-◌, flat_map, slice_get, Some}
+use Rattle.std.proofs.Common.{◌≡◌, ℕ, suc, ◌+◌, ◌<◌, ◌≤◌, List, [], ◌∷◌, ◌++◌, get_or, length, map, drop, sym, ap, ◌∙◌, arith}
+use Rattle.std.specs.Prelude.{◌-◌, flat_map, slice_get, Some, Result, Ok, Err, OnOk, is_ok, if◌then◌else◌}
 use Rattle.std.specs.List.{enumerate_from, range_with_len}
-use Rattle.std.proofs.lemmas.List.{append-nil, append_assoc, drop_more}
+use Rattle.std.proofs.lemmas.List.{append-nil, append_assoc, drop_all, drop_more}
 use Rattle.std.proofs.lemmas.Option.{get_or_from_slice_get, slice_get_within}
 use Rattle.cgm_atom.specs.AtomWords.{spaced}
 
@@ -59,3 +59,23 @@ line_of out word a b c rest one two three four five six e f g h i j =
 pub short_line_of : (out word a b c : List ℕ) (one two three four five : List ℕ) → one ≡ out ++ word → two ≡ one ++ a → three ≡ two ++ b → four ≡ three ++ c → five ≡ four ++ 10 ∷ [] → five ≡ out ++ (word ++ ((a ++ (b ++ (c ++ []))) ++ 10 ∷ []))
 short_line_of out word a b c one two three four five e f g h i =
     line_of out word a b c [] one two three four four five e f g h (sym (append-nil four)) i
+
+-- what an addition leaves where it is made
+pub on_ok_items : {T E : Type 0} (r : Result T E) (new good bad : List ℕ) → new ≡ (if is_ok r then good else bad) → OnOk r (new ≡ good)
+on_ok_items (Ok x) new good bad e = e
+on_ok_items (Err x) new good bad e = tt
+
+-- the numbers from 0 on, and none that is left
+pub ranged_all : (f : ℕ → List ℕ) (n : ℕ) (old : List ℕ) → old ++ flat_map f (range_with_len 0 (n - 0)) ≡ old ++ flat_map f (range_with_len 0 n)
+ranged_all f n old =
+    let same : n - 0 ≡ n = omega arith in
+    ap (λ (k : ℕ). old ++ flat_map f (range_with_len 0 k)) same
+
+pub ranged_end : (f : ℕ → List ℕ) (v n : ℕ) (new whole : List ℕ) → n ≤ v → new ++ flat_map f (range_with_len v (n - v)) ≡ whole → new ≡ whole
+ranged_end f v n new whole past e =
+    let none : n - v ≡ 0 = omega arith in
+    sym (append-nil new) ∙ ap (λ (k : ℕ). new ++ flat_map f (range_with_len v k)) (sym none) ∙ e
+
+pub numbered_end : {X : Type 0} (f : ℕ × X → List ℕ) (xs : List X) (n : ℕ) (new whole : List ℕ) → length xs ≤ n → new ++ flat_map f (enumerate_from n (drop n xs)) ≡ whole → new ≡ whole
+numbered_end {X} f xs n new whole past e =
+    sym (append-nil new) ∙ ap (λ (ys : List X). new ++ flat_map f (enumerate_from n ys)) (sym (drop_all n xs past)) ∙ e

@@ -49,8 +49,7 @@ fn push_range(out: &mut Vec<u8>, v: u32, lo: i64, hi: i64) -> Result<(), OutOfMe
     push_number(out, v)?;
     push_value(out, lo)?;
     push_value(out, hi)?;
-    out.push(b'\n')?;
-    Ok(())
+    out.extend_from_slice(b"\n")
 }
 
 fn push_clauses(out: &mut Vec<u8>, problem: &Problem) -> Result<(), OutOfMemory>
@@ -68,8 +67,7 @@ fn push_clause(out: &mut Vec<u8>, n: u32, clause: &Clause) -> Result<(), OutOfMe
     out.extend_from_slice(b"clause")?;
     push_number(out, n)?;
     push_atoms(out, clause.atoms.as_slice())?;
-    out.push(b'\n')?;
-    Ok(())
+    out.extend_from_slice(b"\n")
 }
 
 fn push_atoms(out: &mut Vec<u8>, atoms: &[Atom]) -> Result<(), OutOfMemory>
@@ -98,8 +96,7 @@ fn push_row(out: &mut Vec<u8>, n: u32, row: &Row) -> Result<(), OutOfMemory>
     push_guard(out, &row.guard)?;
     push_value(out, row.least)?;
     push_terms(out, row.terms.as_slice())?;
-    out.push(b'\n')?;
-    Ok(())
+    out.extend_from_slice(b"\n")
 }
 
 fn push_terms(out: &mut Vec<u8>, terms: &[(i64, Var)]) -> Result<(), OutOfMemory>
@@ -125,6 +122,5 @@ fn push_objective(out: &mut Vec<u8>, variable: Var) -> Result<(), OutOfMemory>
 {
     out.extend_from_slice(b"objective")?;
     push_number(out, variable.0)?;
-    out.push(b'\n')?;
-    Ok(())
+    out.extend_from_slice(b"\n")
 }

@@ -34,6 +34,11 @@ abbrev pub closed_answer : Option Found → List Entry → Answer
 closed_answer None entries = Unrealizable entries
 closed_answer (Some found) entries = Realized found entries
 
+-- what the worker spent is answered, and its trail added; or there is no memory
+abbrev pub IsTrailKept : {E : Type 0} → TrailState → List TrailState → List TrailState → Result (List ℕ) E → Type 0
+IsTrailKept trail before after (Ok spent) = (spent ≡ trail.moves ∷ []) × (after ≡ before ++ trail ∷ [])
+IsTrailKept trail before after (Err e) = after ≡ before
+
 -- what the worker spent is told, and its trail added; or there is no memory
 abbrev pub IsExhausted : {E : Type 0} → Option Found → List Entry → TrailState → List TrailState → List TrailState → Result Answer E → Type 0
 IsExhausted best entries trail before after (Ok answer) =

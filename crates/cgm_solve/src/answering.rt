@@ -2,7 +2,7 @@
 ghost use Rattle.std.specs.Prelude.{◌≡◌, IfOk};
 ghost use Rattle.cgm_atom.specs.Acceptance.{IsClosed};
 ghost use Rattle.cgm_solve.specs.Answers.{IsLastBestOf};
-ghost use Rattle.cgm_solve.specs.Runs.{IsExhausted, IsAnswerTold, closed_answer};
+ghost use Rattle.cgm_solve.specs.Runs.{IsAnswerTold, IsExhausted, IsTrailKept, closed_answer};
 
 use crate::running::Ended;
 use cgm_atom::{Entry, Seq};
@@ -12,6 +12,7 @@ use cgm_log::Log;
 use cgm_search::Stopped;
 use cgm_trail::{Trail, Work};
 use std::alloc::Global;
+use std::mem::drop;
 
 /// The answer of a closed log, or of one that isn't closed where the worker's budget is spent. Then the
 /// work gains its trail. Its entries are those of the log.
@@ -25,22 +26,34 @@ pub(crate) fn tell(
     requires closed { ended.stopped ≡ Stopped.Final → IsClosed ended.log.entries }
     ensures { IsAnswerTold encoded.now ended work.old work.new result }
 {
+    let best = match decoded_last_best(alloc, encoded, &ended.log) {
+        Ok(best) => best,
+        Err(_) => {
+            drop(ended);
+            return Err(OutOfMemory);
+        }
+    };
     let Ended {
         log,
         trail,
         stopped,
     } = ended;
-    let best = decoded_last_best(alloc, encoded, &log)?;
     let is_closed = log.closed();
     let entries = log.into_entries();
     if is_closed {
+        drop(trail);
         return Ok(closed_answer(best, entries));
     }
     match stopped {
         Stopped::Spent => exhausted(alloc, best, entries, trail, work),
         // A worker ends so only where the log is closed.
         Stopped::Final => unreachable!(),
-        Stopped::Memory => Err(OutOfMemory),
+        Stopped::Memory => {
+            drop(best);
+            drop(entries);
+            drop(trail);
+            Err(OutOfMemory)
+        }
     }
 }
 
@@ -80,12 +93,27 @@ fn exhausted(
 ) -> Result<Answer, OutOfMemory>
     ensures { IsExhausted best entries trail work.old work.new result }
 {
-    let spent = vec![in alloc; trail.moves()]?;
+    match keep_trail(alloc, trail, work) {
+        Ok(spent) => Ok(Answer::Exhausted {
+            best,
+            spent,
+            entries,
+        }),
+        Err(_) => {
+            drop(best);
+            drop(entries);
+            Err(OutOfMemory)
+        }
+    }
+}
+
+/// Adds the trail to the work, and answers the list of what its worker spent.
+fn keep_trail(alloc: Global, trail: Trail, work: &mut Work) -> Result<Seq<u64>, OutOfMemory>
+    ensures { IsTrailKept trail work.old work.new result }
+{
+    let moves = trail.moves();
     let trails = vec![in alloc; trail]?;
+    let spent = vec![in alloc; moves]?;
     work.keep(trails)?;
-    Ok(Answer::Exhausted {
-        best,
-        spent: Seq::of(spent),
-        entries,
-    })
+    Ok(Seq::of(spent))
 }

@@ -7,8 +7,8 @@ use Rattle.cgm_solve.proofs.answering.tell.Goals as goal
 pub returns-then-is_closed : goal.returns-then-is_closed
 returns-then-is_closed c =
     subst (λ (a : Answer). IsToldOf c.args.encoded.now c.args.ended c.args.work.now c.args.work.now a) (sym c.closed_answer.ensures) (
-    told_closed c.args.encoded.now c.args.ended c.args.work.now c.in_ok-best.best c.into_entries-entries.result
+    told_closed c.args.encoded.now c.args.ended c.args.work.now c.in-Ok.best c.into_entries-entries.result
     c.into_entries-entries.ensures
     (sym c.closed-is_closed.ensures.closed ∙ c.if-is_closed.true)
-    c.in_ok-best.ensures
+    c.in-Ok.ensures
     )

@@ -1,5 +1,6 @@
 //! The lines of a found realization.
-ghost use Rattle.std.specs.Prelude.{◌≡◌, ◌++◌, length, OnOk, IfOk};
+ghost use Rattle.std.specs.Prelude.{◌≡◌, ◌++◌, codes, length, OnOk, IfOk};
+ghost use Rattle.cgm_base.specs.Printed.{line};
 ghost use Rattle.cgm_model.specs.Model.{lists_of};
 ghost use Rattle.cgm_report.specs.Report.{element_word, objective_word, found_line, number_line, element_lines, refinement_lines, variable_lines, sum_lines};
 ghost use Rattle.cgm_report.specs.Shown.{IsShowable, shown, shown_line, shown_lines, vector_lines};
@@ -63,17 +64,25 @@ fn element_word(kind: ElementKind) -> &'static str
     }
 }
 
-/// Adds the line of one found truth value.
-fn push_line(report: &mut Vec<u8>, word: &str, name: &[u8], truth: bool) -> Result<(), OutOfMemory>
-    ensures { OnOk result (report.new.items ≡ report.old.items ++ found_line word.now name.now
-        truth) }
+/// Adds a line of three words.
+fn push_words(report: &mut Vec<u8>, word: &str, name: &[u8], last: &[u8]) -> Result<(), OutOfMemory>
+    ensures { OnOk result (report.new.items ≡ report.old.items
+        ++ line (word.now ++ codes " " ++ name.now ++ codes " " ++ last.now)) }
 {
     report.extend_from_slice(word.as_bytes())?;
     report.extend_from_slice(b" ")?;
     report.extend_from_slice(name)?;
     report.extend_from_slice(b" ")?;
-    report.extend_from_slice(truth_word(truth))?;
+    report.extend_from_slice(last)?;
     report.extend_from_slice(b"\n")
+}
+
+/// Adds the line of one found truth value.
+fn push_line(report: &mut Vec<u8>, word: &str, name: &[u8], truth: bool) -> Result<(), OutOfMemory>
+    ensures { OnOk result (report.new.items ≡ report.old.items ++ found_line word.now name.now
+        truth) }
+{
+    push_words(report, word, name, truth_word(truth))
 }
 
 fn push_elements(
@@ -119,12 +128,7 @@ fn push_number(
         number) }
 {
     let digits = format!(in alloc; "{number}")?;
-    report.extend_from_slice(word.as_bytes())?;
-    report.extend_from_slice(b" ")?;
-    report.extend_from_slice(name)?;
-    report.extend_from_slice(b" ")?;
-    report.extend_from_slice(digits.as_bytes())?;
-    report.extend_from_slice(b"\n")
+    push_words(report, word, name, digits.as_bytes())
 }
 
 fn push_variables(

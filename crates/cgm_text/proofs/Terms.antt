@@ -1,6 +1,6 @@
 -- Terms and linear expressions: their tokens tell them, and what begins with none.
-use Rattle.std.proofs.Common.{◌≡◌, ◌≢◌, ℕ, List, [], ◌∷◌, ◌++◌, map, codes, get_or, refl, ap, ◌∙◌, sym, arith}
-use Rattle.cgm_lex.specs.Lexemes.{Lexeme, opening, closing, word}
+use Rattle.std.proofs.Common.{◌≡◌, ◌≢◌, ℕ, ℤ, List, [], ◌∷◌, ◌++◌, map, codes, get_or, refl, ap, ◌∙◌, sym, arith}
+use Rattle.cgm_lex.specs.Lexemes.{Lexeme, opening, closing, number, word}
 use Rattle.std.proofs.lemmas.List.{map_push}
 use Rattle.cgm_text.specs.declared.written.Term.{Term}
 use Rattle.cgm_text.specs.Trees.{term_in}
@@ -46,6 +46,23 @@ linear_once (total t ts) (total u us) x y e =
     let first = term_once t u (spelled_terms ts (closing ∷ x)) (spelled_terms us (closing ∷ y)) rest in
     let others = terms_once ts us x y first.1 in
     (cc, others.1)
+
+-- what begins no scaled term: no times, then no number, no name, no end
+pub no_times : (tokens : List Lexeme) → ((x : List Lexeme) → tokens ≢ word (codes "*") ∷ x) → BeginsNoTerm (opening ∷ tokens)
+no_times tokens none (plain a) after e = cc
+no_times tokens none (scaled k a) after e = none (number k ∷ word a ∷ closing ∷ after) cc
+
+pub no_factor : (tokens rest : List Lexeme) → tokens ≡ word (codes "*") ∷ rest → ((k : ℤ) (x : List Lexeme) → rest ≢ number k ∷ x) → BeginsNoTerm (opening ∷ tokens)
+no_factor tokens rest so_far none (plain a) after e = cc
+no_factor tokens rest so_far none (scaled k a) after e = none k (word a ∷ closing ∷ after) cc
+
+pub no_scaled_name : (j : ℤ) (tokens rest : List Lexeme) → tokens ≡ word (codes "*") ∷ number j ∷ rest → ((w : List ℕ) (x : List Lexeme) → rest ≢ word w ∷ x) → BeginsNoTerm (opening ∷ tokens)
+no_scaled_name j tokens rest so_far none (plain a) after e = cc
+no_scaled_name j tokens rest so_far none (scaled k a) after e = none a (closing ∷ after) cc
+
+pub no_scaled_end : (j : ℤ) (w : List ℕ) (tokens rest : List Lexeme) → tokens ≡ word (codes "*") ∷ number j ∷ word w ∷ rest → ((x : List Lexeme) → rest ≢ closing ∷ x) → BeginsNoTerm (opening ∷ tokens)
+no_scaled_end j w tokens rest so_far none (plain a) after e = cc
+no_scaled_end j w tokens rest so_far none (scaled k a) after e = none after cc
 
 -- a total whose first term is none
 pub no_total : (tokens : List Lexeme) → BeginsNoTerm tokens → BeginsNoLinear (opening ∷ word (codes "+") ∷ tokens)

@@ -1,15 +1,64 @@
-use Rattle.std.proofs.Common.{◌∷◌, codes, map, ap, ◌∙◌, arith}
-use Rattle.cgm_lex.specs.Lexemes.{opening, word}
-use Rattle.cgm_text.specs.Trees.{formula_in, seen_all}
-use Rattle.cgm_print.specs.Written.{joint_word, pairing_word, spelled_each, formulas_of}
+use Rattle.std.proofs.Common.{◌≡◌, List, ◌∷◌, codes, map, ap, sym, subst, ◌∙◌, arith, IfOk, IfErr}
+use Rattle.cgm_lex.specs.Lexemes.{Lexeme, opening, word}
+use Rattle.cgm_text.specs.Trees.{IsFor, formula_in, seen_all}
+use Rattle.cgm_print.specs.Written.{joint_word, pairing_word, spelled, spelled_each, formulas_of}
 use Rattle.cgm_text.proofs.Exits.{weaken}
 use Rattle.cgm_text.proofs.Formulas.{joint_found, negation_found, no_connective, no_joint, no_joint_parts, no_negation, no_negation_end, no_pairing, no_pairing_end, no_pairing_other, no_parts_end, no_start, pairing_found, parts_more}
 use Rattle.cgm_text.proofs.formula.+formula.Goals as goal
-use Rattle.cgm_text.specs.Parsed.{BeginsNoFormula, BeginsNoParts}
+use Rattle.cgm_text.specs.declared.written.Connective.{Connective}
+use Rattle.cgm_text.specs.Parsed.{BeginsNoFormula, BeginsNoParts, connective_word}
 
 pub bracketed-returns-in-None-clause-form : goal.bracketed-returns-in-None-clause-form
 bracketed-returns-in-None-clause-form t c =
     no_connective (seen_all c.args.line.now c.args.tokens.now) c.in-None.ensures.none
+
+pub bracketed-returns-in-Not-clause-found : goal.bracketed-returns-in-Not-clause-found
+bracketed-returns-in-Not-clause-found t c =
+    let line = c.args.line.now in
+    let begins = c.in-Some.ensures.found ∙ ap (λ (w : Connective). word (connective_word w) ∷ seen_all line c.in-Some.rest.now) c.in-Not.is in
+    subst (λ (ts : List Lexeme). IfOk c.negation.result (λ parts. opening ∷ ts ≡ spelled (formula_in line parts.0) (seen_all line parts.1.now))) (sym begins) c.negation.ensures.found
+
+pub bracketed-returns-in-Not-clause-form : goal.bracketed-returns-in-Not-clause-form
+bracketed-returns-in-Not-clause-form t c =
+    let line = c.args.line.now in
+    let begins = c.in-Some.ensures.found ∙ ap (λ (w : Connective). word (connective_word w) ∷ seen_all line c.in-Some.rest.now) c.in-Not.is in
+    subst (λ (ts : List Lexeme). IfErr c.negation.result (IsFor (BeginsNoFormula (opening ∷ ts)))) (sym begins) c.negation.ensures.form
+
+pub bracketed-returns-in-Join-clause-found : goal.bracketed-returns-in-Join-clause-found
+bracketed-returns-in-Join-clause-found t c =
+    let line = c.args.line.now in
+    let begins = c.in-Some.ensures.found ∙ ap (λ (w : Connective). word (connective_word w) ∷ seen_all line c.in-Some.rest.now) c.in-Join.is in
+    subst (λ (ts : List Lexeme). IfOk c.joined.result (λ parts. opening ∷ ts ≡ spelled (formula_in line parts.0) (seen_all line parts.1.now))) (sym begins) c.joined.ensures.found
+
+pub bracketed-returns-in-Join-clause-form : goal.bracketed-returns-in-Join-clause-form
+bracketed-returns-in-Join-clause-form t c =
+    let line = c.args.line.now in
+    let begins = c.in-Some.ensures.found ∙ ap (λ (w : Connective). word (connective_word w) ∷ seen_all line c.in-Some.rest.now) c.in-Join.is in
+    subst (λ (ts : List Lexeme). IfErr c.joined.result (IsFor (BeginsNoFormula (opening ∷ ts)))) (sym begins) c.joined.ensures.form
+
+pub bracketed-returns-in-Pair-clause-found : goal.bracketed-returns-in-Pair-clause-found
+bracketed-returns-in-Pair-clause-found t c =
+    let line = c.args.line.now in
+    let begins = c.in-Some.ensures.found ∙ ap (λ (w : Connective). word (connective_word w) ∷ seen_all line c.in-Some.rest.now) c.in-Pair.is in
+    subst (λ (ts : List Lexeme). IfOk c.paired.result (λ parts. opening ∷ ts ≡ spelled (formula_in line parts.0) (seen_all line parts.1.now))) (sym begins) c.paired.ensures.found
+
+pub bracketed-returns-in-Pair-clause-form : goal.bracketed-returns-in-Pair-clause-form
+bracketed-returns-in-Pair-clause-form t c =
+    let line = c.args.line.now in
+    let begins = c.in-Some.ensures.found ∙ ap (λ (w : Connective). word (connective_word w) ∷ seen_all line c.in-Some.rest.now) c.in-Pair.is in
+    subst (λ (ts : List Lexeme). IfErr c.paired.result (IsFor (BeginsNoFormula (opening ∷ ts)))) (sym begins) c.paired.ensures.form
+
+pub bracketed-returns-in-Compare-clause-found : goal.bracketed-returns-in-Compare-clause-found
+bracketed-returns-in-Compare-clause-found t c =
+    let line = c.args.line.now in
+    let begins = c.in-Some.ensures.found ∙ ap (λ (w : Connective). word (connective_word w) ∷ seen_all line c.in-Some.rest.now) c.in-Compare.is in
+    subst (λ (ts : List Lexeme). IfOk c.compared.result (λ parts. opening ∷ ts ≡ spelled (formula_in line parts.0) (seen_all line parts.1.now))) (sym begins) c.compared.ensures.found
+
+pub bracketed-returns-in-Compare-clause-form : goal.bracketed-returns-in-Compare-clause-form
+bracketed-returns-in-Compare-clause-form t c =
+    let line = c.args.line.now in
+    let begins = c.in-Some.ensures.found ∙ ap (λ (w : Connective). word (connective_word w) ∷ seen_all line c.in-Some.rest.now) c.in-Compare.is in
+    subst (λ (ts : List Lexeme). IfErr c.compared.result (IsFor (BeginsNoFormula (opening ∷ ts)))) (sym begins) c.compared.ensures.form
 
 pub formula-returns-in-None-take_open-clause-form : goal.formula-returns-in-None-take_open-clause-form
 formula-returns-in-None-take_open-clause-form t c =

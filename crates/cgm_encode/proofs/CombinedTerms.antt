@@ -50,10 +50,10 @@ any_above (k ∷ ks) = (omega arith, any_above ks)
 
 -- ---- look-ups
 
-same_key : (x : ℕ) → is_eq (nat_cmp x x) ≡ true
+pub same_key : (x : ℕ) → is_eq (nat_cmp x x) ≡ true
 same_key x = grind (arith, nat_tests)
 
-other_key : (x k : ℕ) → x ≢ k → is_eq (nat_cmp x k) ≡ false
+pub other_key : (x k : ℕ) → x ≢ k → is_eq (nat_cmp x k) ≡ false
 other_key x k h = grind (arith, nat_tests)
 
 at_first : (e : Entry) (es : List Entry) → at (e ∷ es) e.0 ≡ e.1

@@ -1,4 +1,4 @@
-use Rattle.std.proofs.Common.{◌≡◌, ◌≢◌, ◌==◌, ◌⊎◌, ℕ, Bool, true, false, cond, of_z, to_z, w64, sym, ap, ◌∙◌, ⊎_elim, arith, rules}
+use Rattle.std.proofs.Common.{◌≡◌, ◌≢◌, ◌==◌, ℕ, Bool, true, false, cond, of_z, to_z, w64, sym, ap, ◌∙◌, ⊎_elim, arith, rules}
 use Rattle.std.specs.Prelude.{ℤ, pos, ◌+ℤ◌, Option, Some}
 use Rattle.std.specs.BTreeMap.{BTreeMap, get, is_at}
 use Rattle.std.specs.Option.{unwrap_or}

@@ -8,19 +8,20 @@ use Rattle.cgm_atom.specs.declared.constraints.Var.{Var}
 use Rattle.cgm_atom.specs.Instance.{Instance, var_count}
 use Rattle.cgm_atom.specs.Limits.{AreTermsOf}
 use Rattle.cgm_formula.specs.declared.formula.Formula.{Formula}
-use Rattle.cgm_formula.specs.declared.formula.Formula.TheVariants.{Name, Not, And, Or, Implies, Iff}
+use Rattle.cgm_formula.specs.declared.formula.Formula.TheVariants.{Name, Not, And, Or, Implies, Iff, AtMost, AtLeast, Equal}
 use Rattle.cgm_formula.specs.declared.formula.Linear.{Linear}
 use Rattle.cgm_formula.specs.declared.formula.Truth.{Truth}
 use Rattle.cgm_formula.specs.Nodes.{comparisons, formula_names as names_of}
 use Rattle.cgm_formula.proofs.Comparisons.{of_conjunction, of_disjunction, of_equivalence, of_implication, of_negation}
-use Rattle.cgm_formula.proofs.Folds.{fold-And, fold-Iff, fold-Implies, fold-Not, fold-Or}
+use Rattle.cgm_formula.proofs.Folds.{fold-And, fold-AtLeast, fold-AtMost, fold-Equal, fold-Iff, fold-Implies, fold-Name, fold-Not, fold-Or}
 use Rattle.cgm_model.specs.declared.lists.Lists.{Lists}
 use Rattle.cgm_model.specs.Formulas.{IsKnownTruth}
+use Rattle.cgm_model.specs.TruthVariables.{variable_of}
 use Rattle.cgm_enc_formula.specs.declared.literals.Literal.{Literal}
 use Rattle.cgm_enc_formula.specs.Building.{HasRoomFor, Part, definition_part, definitions_part, with_part}
-use Rattle.cgm_enc_formula.specs.Definitions.{Definition, all_of, any_of, same_as}
-use Rattle.cgm_enc_formula.specs.Naming.{Named, NamedParts, Naming, defined, naming, naming_step, parts_named}
-use Rattle.cgm_enc_formula.specs.Literals.{opposite}
+use Rattle.cgm_enc_formula.specs.Definitions.{Definition, all_of, any_of, at_least, at_most, same_as}
+use Rattle.cgm_enc_formula.specs.Naming.{Named, NamedParts, Naming, defined, equal_definitions, naming, naming_step, parts_named}
+use Rattle.cgm_enc_formula.specs.Literals.{opposite, positive}
 use Rattle.cgm_enc_formula.specs.Terms.{AreRowTerms, IsEncodableFormula, model_variables, row_terms}
 use Rattle.cgm_enc_formula.proofs.NamingKnown.{HasTerms, IsKnownNamed, naming_known, parts_known, IsNameable}
 use Rattle.cgm_enc_formula.proofs.Splits.{name_of_name, names_of_conjunction, names_of_disjunction, names_of_equivalence, names_of_implication, names_of_negation}
@@ -137,6 +138,18 @@ module _ (m : Lists) where
 
   pub naming-Or : (f : Formula) (parts : List Formula) (n : ℕ) → f ≡ Or parts → naming m f n ≡ any_named parts n
   naming-Or f parts n e = ap (λ (x : Formula). naming m x n) e ∙ ap (λ (x : Naming). x n) (fold-Or (naming_step m) parts)
+
+  pub naming-Name : (f : Formula) (name : Truth) (n : ℕ) → f ≡ Name name → naming m f n ≡ record { definitions = []; literal = positive (variable_of m name) }
+  naming-Name f name n e = ap (λ (x : Formula). naming m x n) e ∙ ap (λ (x : Naming). x n) (fold-Name (naming_step m) name)
+
+  pub naming-AtMost : (f : Formula) (l : Linear) (k : ℤ) (n : ℕ) → f ≡ AtMost l k → naming m f n ≡ defined n [] (at_most (row_terms m l) k)
+  naming-AtMost f l k n e = ap (λ (x : Formula). naming m x n) e ∙ ap (λ (x : Naming). x n) (fold-AtMost (naming_step m) l k)
+
+  pub naming-AtLeast : (f : Formula) (l : Linear) (k : ℤ) (n : ℕ) → f ≡ AtLeast l k → naming m f n ≡ defined n [] (at_least (row_terms m l) k)
+  naming-AtLeast f l k n e = ap (λ (x : Formula). naming m x n) e ∙ ap (λ (x : Naming). x n) (fold-AtLeast (naming_step m) l k)
+
+  pub naming-Equal : (f : Formula) (l : Linear) (k : ℤ) (n : ℕ) → f ≡ Equal l k → naming m f n ≡ record { definitions = equal_definitions m l k n; literal = positive (n + 2) }
+  naming-Equal f l k n e = ap (λ (x : Formula). naming m x n) e ∙ ap (λ (x : Naming). x n) (fold-Equal (naming_step m) l k)
 
   -- ---- two formulas, one after the other
 

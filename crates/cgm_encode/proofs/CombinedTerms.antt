@@ -1,17 +1,15 @@
 -- A table of numbers by variable has the terms of the shares that were added up in it.
-use Rattle.std.proofs.Common.{◌≡◌, ◌≢◌, ℕ, zero, suc, ◌+◌, ◌^◌, ◌<◌, ◌≤◌, ◌==◌, Bool, true, false, cond, not, List, [], ◌∷◌, map, refl, sym, ap, ◌∙◌, subst, arith, ⊎_elim, All}
-use Rattle.std.specs.Prelude.{ℤ, pos, ◌+ℤ◌, Some, None}
+use Rattle.std.proofs.Common.{◌≡◌, ◌≢◌, ℕ, zero, suc, ◌+◌, ◌<◌, ◌≤◌, ◌==◌, Bool, true, false, cond, not, List, [], ◌∷◌, map, refl, sym, ap, ◌∙◌, subst, arith, ⊎_elim, All}
+use Rattle.std.specs.Prelude.{ℤ, pos, ◌+ℤ◌, Some}
 use Rattle.std.specs.BTreeMap.{BTreeMap, IsOrdered, is_at}
 use Rattle.std.specs.List.{AllByRecursion, range_with_len}
 use Rattle.std.specs.List.Sorted.{IsStrictlySortedBy}
 use Rattle.std.specs.Map.{keys_of, lookup}
 use Rattle.std.specs.Option.{unwrap_or}
 use Rattle.std.specs.Ordering.{is_eq, nat_cmp}
-use Rattle.std.specs.declared.cmp.Ordering.{Ordering}
-use Rattle.std.specs.declared.cmp.Ordering.TheVariants.{Less, Equal, Greater}
-use Rattle.std.proofs.lemmas.Bool.{cases_eq, cases_lt, eq-eqb, ne_eqb}
+use Rattle.std.specs.declared.cmp.Ordering.TheVariants.{Less}
+use Rattle.std.proofs.lemmas.Bool.{cases_eq, cases_lt, ne_eqb}
 use Rattle.std.proofs.lemmas.Bool.Decides.{Decides-int_eq, nat_tests}
-use Rattle.std.proofs.lemmas.Int.{ints}
 use Rattle.std.proofs.lemmas.List.Elements.{All-head, All-tail}
 use Rattle.cgm_atom.specs.declared.constraints.Var.{Var}
 use Rattle.cgm_enc_formula.specs.Terms.{as_terms, is_zero, nonzero}
@@ -50,10 +48,10 @@ any_above (k ∷ ks) = (omega arith, any_above ks)
 
 -- ---- look-ups
 
-same_key : (x : ℕ) → is_eq (nat_cmp x x) ≡ true
+pub same_key : (x : ℕ) → is_eq (nat_cmp x x) ≡ true
 same_key x = grind (arith, nat_tests)
 
-other_key : (x k : ℕ) → x ≢ k → is_eq (nat_cmp x k) ≡ false
+pub other_key : (x k : ℕ) → x ≢ k → is_eq (nat_cmp x k) ≡ false
 other_key x k h = grind (arith, nat_tests)
 
 at_first : (e : Entry) (es : List Entry) → at (e ∷ es) e.0 ≡ e.1

@@ -1,14 +1,13 @@
 -- Expressions whose size is within the limit of a bound: so are their ranges, and the rows that define a variable by one are within their limits.
-use Rattle.std.proofs.Common.{◌≡◌, ℕ, ◌+◌, ◌^◌, ◌<◌, ◌≤◌, List, ◌∷◌, get_or, length, map, of_z, to_z, w64, arith}
-use Rattle.std.specs.Prelude.{ℤ, pos, negsuc, neg_ℤ, ◌+ℤ◌, ◌-ℤ◌, unsigned_abs}
+use Rattle.std.proofs.Common.{◌≡◌, ℕ, ◌^◌, ◌<◌, ◌≤◌, List, ◌∷◌, get_or, length, map, of_z, to_z, w64, arith}
+use Rattle.std.specs.Prelude.{ℤ, pos, negsuc, neg_ℤ, ◌-ℤ◌, unsigned_abs}
 use Rattle.std.specs.List.{All}
 use Rattle.std.proofs.lemmas.Int.{fits_signed_from_abs, ints, to_z-of_z}
 use Rattle.std.proofs.lemmas.List.Elements.{All-map}
-use Rattle.cgm_atom.specs.declared.constraints.Var.{Var}
 use Rattle.cgm_atom.specs.Bounds.{Bounds, lower_of, upper_of}
 use Rattle.cgm_atom.specs.Building.{IsRowSize}
 use Rattle.cgm_atom.specs.Instance.{Instance}
-use Rattle.cgm_atom.specs.Limits.{IsBound, greatest_size, max_bound, measure}
+use Rattle.cgm_atom.specs.Limits.{IsBound, greatest_size, max_bound}
 use Rattle.cgm_atom.specs.Narrowing.{greatest_activity}
 use Rattle.cgm_atom.proofs.Growing.{measure-longer}
 use Rattle.cgm_model.specs.declared.lists.Lists.{Lists}

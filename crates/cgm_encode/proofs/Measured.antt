@@ -1,18 +1,16 @@
 -- The expressions of sums and objectives are within the limits of the problem to which they are added.
-use Rattle.std.proofs.Common.{◌≡◌, ℕ, ◌+◌, ◌<◌, ◌≤◌, List, [], ◌∷◌, ◌++◌, length, get_or, map, sym, ap, ◌∙◌, subst, arith}
+use Rattle.std.proofs.Common.{◌≡◌, ℕ, ◌+◌, ◌<◌, ◌≤◌, List, [], ◌++◌, length, get_or, map, sym, ap, ◌∙◌, subst, arith}
 use Rattle.std.specs.Prelude.{ℤ, ◌≤ℤ◌, ◌^◌, flat_map, unsigned_abs}
 use Rattle.std.specs.List.{All, enumerate_from, range_with_len, zip}
 use Rattle.std.proofs.lemmas.List.{get_or-map, length-append, length-map}
 use Rattle.std.proofs.lemmas.List.Elements.{All-map, All-weaker}
-use Rattle.cgm_atom.specs.declared.constraints.Row.{Row}
 use Rattle.cgm_atom.specs.declared.constraints.Var.{Var}
 use Rattle.cgm_atom.specs.Adding.{CanTake}
 use Rattle.cgm_atom.specs.Building.{without_repeats}
 use Rattle.cgm_atom.specs.Instance.{Instance, var_count}
-use Rattle.cgm_atom.specs.Limits.{AreTermsOf, IsClauseOf, max_measure, measure}
+use Rattle.cgm_atom.specs.Limits.{IsClauseOf}
 use Rattle.cgm_atom.proofs.Additions.{All-back, All-front}
 use Rattle.cgm_model.specs.declared.lists.Lists.{Lists}
-use Rattle.cgm_model.specs.declared.lists.Objective.{Objective}
 use Rattle.cgm_model.specs.declared.lists.Preference.{Preference}
 use Rattle.cgm_model.specs.TruthVariables.{truth_variables}
 use Rattle.cgm_model.specs.WellFormed.{IsWellFormedModel}
@@ -22,7 +20,7 @@ use Rattle.cgm_enc_formula.proofs.TermOrders.{terms_wider}
 use Rattle.cgm_enc_graph.specs.GraphClauses.{graph_clauses}
 use Rattle.cgm_encode.specs.declared.expressions.Expression.{Expression}
 use Rattle.cgm_encode.specs.Building.{IsDefining, IsMeasured, defining_rows, expression_of, expression_range, with_ranges}
-use Rattle.cgm_encode.specs.Problem.{all_ranges, bits, box_of_problem, choice_ranges, model_rules_part, number_ranges, objective_range, objective_rows, own_ranges, preference_clauses, preferences_written, problem_of, rule_ranges, sum_range, sum_rows}
+use Rattle.cgm_encode.specs.Problem.{all_ranges, bits, choice_ranges, model_rules_part, number_ranges, objective_range, objective_rows, own_ranges, preference_clauses, preferences_written, problem_of, rule_ranges, sum_range, sum_rows}
 use Rattle.cgm_encode.specs.Quantities.{objective_total, sum_total}
 use Rattle.cgm_encode.specs.Stages.{choices_instance, graph_instance, rules_instance, with_defined}
 use Rattle.cgm_encode.specs.Totals.{Range, Total, combined_terms}

@@ -1,16 +1,14 @@
 -- Shares whose signs are changed have the sizes that they had.
-use Rattle.std.proofs.Common.{◌≡◌, ℕ, ◌+◌, ◌^◌, ◌<◌, ◌≤◌, Bool, true, false, cond, List, [], ◌∷◌, map, get_or, refl, arith}
+use Rattle.std.proofs.Common.{◌≡◌, ℕ, ◌^◌, ◌<◌, Bool, true, false, cond, List, [], ◌∷◌, map, get_or, refl, arith}
 use Rattle.std.specs.Prelude.{ℤ, neg_ℤ, unsigned_abs}
 use Rattle.std.specs.List.{All}
 use Rattle.std.proofs.lemmas.Int.{ints}
-use Rattle.std.proofs.lemmas.List.Elements.{All-cons, All-nil, All-weaker}
+use Rattle.std.proofs.lemmas.List.Elements.{All-cons, All-nil}
 use Rattle.std.proofs.lemmas.List.Sums.{sum_by-cons}
 use Rattle.cgm_model.specs.declared.lists.Lists.{Lists}
-use Rattle.cgm_model.specs.declared.lists.Objective.{Objective}
 use Rattle.cgm_model.specs.WellFormed.{IsWellFormedModel}
 use Rattle.cgm_evolve.specs.Pairs.{Pair}
 use Rattle.cgm_encode.specs.Building.{share_size}
-use Rattle.cgm_encode.specs.Quantities.{objective_total}
 use Rattle.cgm_encode.specs.Summands.{IsFitting}
 use Rattle.cgm_encode.specs.Totals.{Share, Total, opposite_total}
 use Rattle.cgm_encode.proofs.KnownParts.{known_parts}

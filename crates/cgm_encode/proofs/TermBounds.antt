@@ -1,8 +1,7 @@
 -- A coefficient times a bound, as numbers that are passed as words of 64 bits.
-use Rattle.std.proofs.Common.{◌≡◌, ℕ, ◌+◌, ◌*◌, ◌^◌, ◌<◌, ◌≤◌, sym, ap, ◌∙◌, arith}
+use Rattle.std.proofs.Common.{◌≡◌, ℕ, ◌+◌, ◌*◌, ◌^◌, ◌<◌, ◌≤◌, ap, ◌∙◌, arith}
 use Rattle.std.proofs.Math.Nat.{mul-le-mul_left}
 use Rattle.std.specs.Prelude.{ℤ, ◌*ℤ◌, unsigned_abs}
-use Rattle.std.proofs.lemmas.Int.{unsigned_abs-mul}
 use Rattle.cgm_atom.specs.Limits.{max_measure}
 
 -- within the measure's limit is within 64 bits

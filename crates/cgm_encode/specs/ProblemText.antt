@@ -1,5 +1,5 @@
 -- The text of a problem: a header, then a problem_line for each variable, clause, row and objective, each by number.
-use Rattle.std.specs.Prelude.{ℕ, List, [], ◌∷◌, ◌++◌, length, map, flat_map, codes, decimal, ℤ, Option, None, Some}
+use Rattle.std.specs.Prelude.{ℕ, List, [], ◌∷◌, ◌++◌, map, flat_map, codes, decimal, ℤ, Option, None, Some}
 use Rattle.std.specs.Fmt.{signed_decimal}
 use Rattle.std.specs.List.{enumerate_from, range_with_len}
 use Rattle.cgm_atom.specs.declared.constraints.Atom.{Atom}

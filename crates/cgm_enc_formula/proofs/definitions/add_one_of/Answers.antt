@@ -1,11 +1,10 @@
-use Rattle.std.proofs.Common.{◌≡◌, ◌∷◌, ◌++◌, [], ◌∙◌, List, false, length, map, take, ap, subst, sym}
+use Rattle.std.proofs.Common.{◌∷◌, [], ◌∙◌, List, false, map, ap, subst, sym}
 use Rattle.std.proofs.lemmas.List.{take_all}
 use Rattle.std.proofs.lemmas.Result.{on_ok_weaker}
 use Rattle.cgm_atom.specs.declared.constraints.Atom.{Atom}
 use Rattle.cgm_atom.specs.Adding.{CanTake, with_written}
 use Rattle.cgm_atom.specs.Literals.{clause}
 use Rattle.cgm_enc_formula.specs.declared.literals.Literal.{Literal}
-use Rattle.cgm_enc_formula.specs.Definitions.{one_of}
 use Rattle.cgm_enc_formula.specs.Literals.{atom_of}
 use Rattle.cgm_enc_formula.proofs.Mapped.{appended_by}
 use Rattle.cgm_enc_formula.proofs.definitions.add_one_of.Goals as goal

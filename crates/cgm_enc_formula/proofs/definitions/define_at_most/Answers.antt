@@ -1,5 +1,5 @@
-use Rattle.std.proofs.Common.{◌≡◌, ◌+◌, ◌-◌, ◌^◌, ◌≤◌, ◌∷◌, [], List, length, of_z, to_z, w64, ap, ◌∙◌, arith, rules}
-use Rattle.std.specs.Prelude.{ℤ, neg_ℤ, pos, ◌+ℤ◌, ◌-ℤ◌}
+use Rattle.std.proofs.Common.{◌≡◌, ◌+◌, ◌-◌, ◌^◌, ◌≤◌, length, of_z, to_z, w64, ap, ◌∙◌, arith, rules}
+use Rattle.std.specs.Prelude.{ℤ, neg_ℤ, pos, ◌+ℤ◌}
 use Rattle.std.proofs.lemmas.Int.{to_z-of_z}
 use Rattle.cgm_atom.specs.declared.constraints.Atom.{Atom}
 use Rattle.cgm_atom.specs.Instance.{Instance, var_count}

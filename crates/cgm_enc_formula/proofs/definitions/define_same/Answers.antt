@@ -1,4 +1,4 @@
-use Rattle.std.proofs.Common.{◌≡◌, ◌∷◌, ◌∙◌, [], ap, subst, sym}
+use Rattle.std.proofs.Common.{◌∷◌, ◌∙◌, [], ap, subst, sym}
 use Rattle.cgm_atom.specs.declared.constraints.Clause.{Clause}
 use Rattle.cgm_atom.specs.Adding.{CanTake, with_written}
 use Rattle.cgm_atom.specs.Instance.{var_count}

@@ -10,12 +10,13 @@ use Rattle.cgm_formula.proofs.Comparisons.{of_at_least, of_at_most, of_equality}
 use Rattle.cgm_model.specs.Model.{lists_of}
 use Rattle.cgm_model.proofs.Places.{drop-read}
 use Rattle.cgm_enc_formula.specs.declared.literals.Literal.{Literal}
-use Rattle.cgm_enc_formula.specs.Building.{HasRoomFor, definition_part, with_part}
-use Rattle.cgm_enc_formula.specs.Definitions.{Definition, all_of, any_of, same_as}
+use Rattle.cgm_enc_formula.specs.Building.{HasRoomFor, Part, definition_part, definitions_part, with_part}
+use Rattle.cgm_enc_formula.specs.Definitions.{Definition, all_of, any_of, at_least, at_most, same_as}
 use Rattle.cgm_enc_formula.specs.Literals.{opposite, positive}
-use Rattle.cgm_enc_formula.specs.Naming.{Named, naming}
-use Rattle.cgm_enc_formula.specs.Terms.{AreRowTerms, IsEncodableFormula, model_variables}
-use Rattle.cgm_enc_formula.proofs.NamingSteps.{Adds, AreNamed, Fits, count_after, encodable_conjunction, encodable_disjunction, encodable_equivalence, encodable_implication, encodable_name, encodable_negation, first_of_two, front_fits, iff_definition, implies_definition, literal_within, literals_within, naming-And, naming-Iff, naming-Implies, naming-Not, naming-Or, named_more, next_fits, next_known, parts_at, second_at, second_naming, second_of_two, two_added, two_definitions, whole_added, whole_fits}
+use Rattle.cgm_enc_formula.specs.Naming.{Named, equal_definitions, naming}
+use Rattle.cgm_enc_formula.specs.Terms.{AreRowTerms, IsEncodableFormula, model_variables, row_terms}
+use Rattle.cgm_enc_formula.proofs.NamingSteps.{Adds, AreNamed, Fits, count_after, encodable_conjunction, encodable_disjunction, encodable_equivalence, encodable_implication, encodable_name, encodable_negation, first_of_two, front_fits, iff_definition, implies_definition, literal_within, literals_within, naming-And, naming-AtLeast, naming-AtMost, naming-Equal, naming-Iff, naming-Implies, naming-Name, naming-Not, naming-Or, named_more, next_fits, next_known, parts_at, second_at, second_naming, second_of_two, two_added, two_definitions, whole_added, whole_fits}
+use Rattle.cgm_enc_formula.proofs.Steps.{one_definition, with_none}
 use Rattle.cgm_enc_formula.proofs.names.+naming.Goals as goal
 
 pub name_formula-truth_variable-requires :
@@ -668,3 +669,153 @@ name_each-loop-part-preserved t c =
     let far = subst (λ (others : List Formula). AreNamed m b parts p ls others) here c.loop-part.invariant in
     subst (λ (items : List Literal). AreNamed m b parts q items rest) (sym {A = List Literal} c.in_ok-push.ensures.items)
     (named_more m b p q parts ls l part rest far c.in_ok-name_formula.ensures.added c.in_ok-name_formula.ensures.literal)
+
+pub name_formula-returns-in-Name-clause-literal : goal.name_formula-returns-in-Name-clause-literal
+name_formula-returns-in-Name-clause-literal t c =
+    let m = lists_of c.args.model.now in
+    let b = c.args.builder.now in
+    let n = var_count b in
+    let f = c.args.formula.now in
+    c.positive.ensures ∙ ap (λ (k : ℕ). positive k) c.truth_variable.ensures ∙ ap (λ (x : Named). x.literal) (sym (naming-Name m f c.in-Name.name n c.in-Name.is))
+
+pub name_formula-returns-in-Name-clause-added : goal.name_formula-returns-in-Name-clause-added
+name_formula-returns-in-Name-clause-added t c =
+    let m = lists_of c.args.model.now in
+    let b = c.args.builder.now in
+    let n = var_count b in
+    let f = c.args.formula.now in
+    sym (with_none b) ∙ ap (λ (x : Named). with_part b (definitions_part n x.definitions)) (sym (naming-Name m f c.in-Name.name n c.in-Name.is))
+
+pub name_formula-returns-in_ok-l-in-Not-clause-literal : goal.name_formula-returns-in_ok-l-in-Not-clause-literal
+name_formula-returns-in_ok-l-in-Not-clause-literal t c =
+    let m = lists_of c.args.model.now in
+    let b = c.args.builder.now in
+    let n = var_count b in
+    let f = c.args.formula.now in
+    c.opposite.ensures
+    ∙ ap (λ (l : Literal). opposite l) (c.in_ok-l-in-Not.ensures.literal ∙ ap (λ (g : Formula). (naming m g n).literal) c.get.ensures)
+    ∙ ap (λ (x : Named). x.literal) (sym (naming-Not m f c.in-Not.part n c.in-Not.is))
+
+pub name_formula-returns-in_ok-l-in-Not-clause-added : goal.name_formula-returns-in_ok-l-in-Not-clause-added
+name_formula-returns-in_ok-l-in-Not-clause-added t c =
+    let m = lists_of c.args.model.now in
+    let b = c.args.builder.now in
+    let n = var_count b in
+    let f = c.args.formula.now in
+    c.in_ok-l-in-Not.ensures.added
+    ∙ ap (λ (g : Formula). with_part b (definitions_part n (naming m g n).definitions)) c.get.ensures
+    ∙ ap (λ (x : Named). with_part b (definitions_part n x.definitions)) (sym (naming-Not m f c.in-Not.part n c.in-Not.is))
+
+pub name_formula-name_at_most-requires-clause-room : goal.name_formula-name_at_most-requires-clause-room
+name_formula-name_at_most-requires-clause-room t c =
+    let m = lists_of c.args.model.now in
+    let b = c.args.builder.now in
+    let n = var_count b in
+    let f = c.args.formula.now in
+    let l = c.in-AtMost.linear in
+    let k : to_z w64 (of_z w64 c.in-AtMost.k) ≡ c.in-AtMost.k = search rules in
+    let room = subst (λ (x : Named). Fits b x.definitions) (naming-AtMost m f l c.in-AtMost.k n c.in-AtMost.is) c.requires.room in
+    subst (λ (z : ℤ). HasRoomFor b (definition_part n (at_most (row_terms m l) z))) (sym k)
+    (subst (λ (x : Part). HasRoomFor b x) (one_definition n (at_most (row_terms m l) c.in-AtMost.k)) room)
+
+pub name_formula-returns-in-AtMost-clause-literal : goal.name_formula-returns-in-AtMost-clause-literal
+name_formula-returns-in-AtMost-clause-literal t c =
+    let m = lists_of c.args.model.now in
+    let b = c.args.builder.now in
+    let n = var_count b in
+    let f = c.args.formula.now in
+    let last : n ≡ n + 0 = omega arith in
+    IfOk-weaker c.name_at_most.result (λ l. l ≡ positive n) (λ l. l ≡ (naming m f n).literal)
+    (λ l h. h ∙ ap (λ (j : ℕ). positive j) last ∙ ap (λ (x : Named). x.literal) (sym (naming-AtMost m f c.in-AtMost.linear c.in-AtMost.k n c.in-AtMost.is)))
+    c.name_at_most.ensures.literal
+
+pub name_formula-returns-in-AtMost-clause-added : goal.name_formula-returns-in-AtMost-clause-added
+name_formula-returns-in-AtMost-clause-added t c =
+    let m = lists_of c.args.model.now in
+    let b = c.args.builder.now in
+    let n = var_count b in
+    let f = c.args.formula.now in
+    let l = c.in-AtMost.linear in
+    let k : to_z w64 (of_z w64 c.in-AtMost.k) ≡ c.in-AtMost.k = search rules in
+    on_ok_weaker c.name_at_most.result
+    (λ h.
+    h
+    ∙ ap (λ (z : ℤ). with_part b (definition_part n (at_most (row_terms m l) z))) k
+    ∙ ap (λ (x : Part). with_part b x) (sym (one_definition n (at_most (row_terms m l) c.in-AtMost.k)))
+    ∙ ap (λ (x : Named). with_part b (definitions_part n x.definitions)) (sym (naming-AtMost m f l c.in-AtMost.k n c.in-AtMost.is)))
+    c.name_at_most.ensures.added
+
+pub name_formula-name_at_least-requires-clause-room : goal.name_formula-name_at_least-requires-clause-room
+name_formula-name_at_least-requires-clause-room t c =
+    let m = lists_of c.args.model.now in
+    let b = c.args.builder.now in
+    let n = var_count b in
+    let f = c.args.formula.now in
+    let l = c.in-AtLeast.linear in
+    let k : to_z w64 (of_z w64 c.in-AtLeast.k) ≡ c.in-AtLeast.k = search rules in
+    let room = subst (λ (x : Named). Fits b x.definitions) (naming-AtLeast m f l c.in-AtLeast.k n c.in-AtLeast.is) c.requires.room in
+    subst (λ (z : ℤ). HasRoomFor b (definition_part n (at_least (row_terms m l) z))) (sym k)
+    (subst (λ (x : Part). HasRoomFor b x) (one_definition n (at_least (row_terms m l) c.in-AtLeast.k)) room)
+
+pub name_formula-returns-in-AtLeast-clause-literal : goal.name_formula-returns-in-AtLeast-clause-literal
+name_formula-returns-in-AtLeast-clause-literal t c =
+    let m = lists_of c.args.model.now in
+    let b = c.args.builder.now in
+    let n = var_count b in
+    let f = c.args.formula.now in
+    let last : n ≡ n + 0 = omega arith in
+    IfOk-weaker c.name_at_least.result (λ l. l ≡ positive n) (λ l. l ≡ (naming m f n).literal)
+    (λ l h. h ∙ ap (λ (j : ℕ). positive j) last ∙ ap (λ (x : Named). x.literal) (sym (naming-AtLeast m f c.in-AtLeast.linear c.in-AtLeast.k n c.in-AtLeast.is)))
+    c.name_at_least.ensures.literal
+
+pub name_formula-returns-in-AtLeast-clause-added : goal.name_formula-returns-in-AtLeast-clause-added
+name_formula-returns-in-AtLeast-clause-added t c =
+    let m = lists_of c.args.model.now in
+    let b = c.args.builder.now in
+    let n = var_count b in
+    let f = c.args.formula.now in
+    let l = c.in-AtLeast.linear in
+    let k : to_z w64 (of_z w64 c.in-AtLeast.k) ≡ c.in-AtLeast.k = search rules in
+    on_ok_weaker c.name_at_least.result
+    (λ h.
+    h
+    ∙ ap (λ (z : ℤ). with_part b (definition_part n (at_least (row_terms m l) z))) k
+    ∙ ap (λ (x : Part). with_part b x) (sym (one_definition n (at_least (row_terms m l) c.in-AtLeast.k)))
+    ∙ ap (λ (x : Named). with_part b (definitions_part n x.definitions)) (sym (naming-AtLeast m f l c.in-AtLeast.k n c.in-AtLeast.is)))
+    c.name_at_least.ensures.added
+
+pub name_formula-name_equal-requires-clause-room : goal.name_formula-name_equal-requires-clause-room
+name_formula-name_equal-requires-clause-room t c =
+    let m = lists_of c.args.model.now in
+    let b = c.args.builder.now in
+    let n = var_count b in
+    let f = c.args.formula.now in
+    let l = c.in-Equal.linear in
+    let k : to_z w64 (of_z w64 c.in-Equal.k) ≡ c.in-Equal.k = search rules in
+    subst (λ (z : ℤ). HasRoomFor b (definitions_part n (equal_definitions m l z n))) (sym k)
+    (subst (λ (x : Named). Fits b x.definitions) (naming-Equal m f l c.in-Equal.k n c.in-Equal.is) c.requires.room)
+
+pub name_formula-returns-in-Equal-clause-literal : goal.name_formula-returns-in-Equal-clause-literal
+name_formula-returns-in-Equal-clause-literal t c =
+    let m = lists_of c.args.model.now in
+    let b = c.args.builder.now in
+    let n = var_count b in
+    let f = c.args.formula.now in
+    IfOk-weaker c.name_equal.result (λ l. l ≡ positive (n + 2)) (λ l. l ≡ (naming m f n).literal)
+    (λ l h. h ∙ ap (λ (x : Named). x.literal) (sym (naming-Equal m f c.in-Equal.linear c.in-Equal.k n c.in-Equal.is)))
+    c.name_equal.ensures.literal
+
+pub name_formula-returns-in-Equal-clause-added : goal.name_formula-returns-in-Equal-clause-added
+name_formula-returns-in-Equal-clause-added t c =
+    let m = lists_of c.args.model.now in
+    let b = c.args.builder.now in
+    let n = var_count b in
+    let f = c.args.formula.now in
+    let l = c.in-Equal.linear in
+    let k : to_z w64 (of_z w64 c.in-Equal.k) ≡ c.in-Equal.k = search rules in
+    on_ok_weaker c.name_equal.result
+    (λ h.
+    h
+    ∙ ap (λ (z : ℤ). with_part b (definitions_part n (equal_definitions m l z n))) k
+    ∙ ap (λ (x : Named). with_part b (definitions_part n x.definitions)) (sym (naming-Equal m f l c.in-Equal.k n c.in-Equal.is)))
+    c.name_equal.ensures.added

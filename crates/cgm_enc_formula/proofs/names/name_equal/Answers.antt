@@ -1,9 +1,8 @@
 -- The three definitions follow one another.
-use Rattle.std.proofs.Common.{◌≡◌, ℕ, ◌+◌, ◌<◌, ◌≤◌, ◌∷◌, [], ◌++◌, List, get_or, of_z, to_z, w64, subst, sym, ap, ◌∙◌, arith, rules}
+use Rattle.std.proofs.Common.{◌≡◌, ℕ, ◌+◌, ◌<◌, ◌∷◌, [], List, of_z, to_z, w64, subst, sym, ap, ◌∙◌, arith, rules}
 use Rattle.std.specs.Prelude.{ℤ}
-use Rattle.std.specs.List.{All}
 use Rattle.std.proofs.lemmas.List.Elements.{All-cons, All-nil}
-use Rattle.std.proofs.lemmas.Result.{IfOk-weaker, on_ok_weaker}
+use Rattle.std.proofs.lemmas.Result.{on_ok_weaker}
 use Rattle.cgm_atom.specs.Instance.{Instance, var_count}
 use Rattle.cgm_formula.specs.declared.formula.Linear.{Linear}
 use Rattle.cgm_model.specs.declared.lists.Lists.{Lists}

@@ -10,7 +10,6 @@ use Rattle.cgm_model.specs.declared.lists.Rule.{Rule}
 use Rattle.cgm_model.specs.Formulas.{IsKnownTruth, condition_names}
 use Rattle.cgm_model.specs.Model.{lists_of}
 use Rattle.cgm_model.specs.TruthVariables.{variable_of}
-use Rattle.cgm_enc_formula.specs.Literals.{atom_of}
 use Rattle.cgm_enc_formula.specs.Rules.{rule_clause}
 use Rattle.cgm_enc_formula.proofs.rules.add_condition.Goals as goal
 

@@ -1,4 +1,4 @@
-use Rattle.std.proofs.Common.{◌≤◌, ◌^◌, List, length, map, ap, ◌∙◌, subst, sym, arith}
+use Rattle.std.proofs.Common.{List, length, map, ap, ◌∙◌, subst, sym, arith}
 use Rattle.std.specs.List.{enumerate_from, flat_map}
 use Rattle.std.proofs.lemmas.Result.{on_ok_weaker}
 use Rattle.cgm_atom.specs.Adding.{CanTake, with_written}

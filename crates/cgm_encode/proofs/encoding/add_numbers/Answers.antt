@@ -1,4 +1,4 @@
-use Rattle.std.proofs.Common.{◌≡◌, ◌≤◌, ◌∙◌, ap, arith, length}
+use Rattle.std.proofs.Common.{◌∙◌, ap, arith, length}
 use Rattle.cgm_atom.specs.Adding.{with_clauses}
 use Rattle.cgm_atom.specs.Instance.{Instance, var_count}
 use Rattle.cgm_model.specs.Model.{lists_of}

@@ -1,11 +1,10 @@
-use Rattle.std.proofs.Common.{◌≡◌, ◌+◌, ◌≤◌, ◌∙◌, ℕ, List, ap, arith, length, map, subst, sym}
+use Rattle.std.proofs.Common.{◌∙◌, ℕ, List, ap, arith, length, map, subst, sym}
 use Rattle.std.specs.Prelude.{◌≤ℤ◌}
 use Rattle.std.specs.List.{All}
 use Rattle.cgm_atom.specs.Building.{empty_instance}
 use Rattle.cgm_atom.specs.Instance.{Instance, var_count}
 use Rattle.cgm_model.specs.declared.lists.Variable.{Variable}
 use Rattle.cgm_model.specs.Model.{lists_of}
-use Rattle.cgm_model.specs.TruthVariables.{truth_variables}
 use Rattle.cgm_encode.specs.Building.{AreBounds, with_ranges}
 use Rattle.cgm_encode.specs.Problem.{bits, own_range}
 use Rattle.cgm_encode.proofs.AddedVariables.{ranges_count}

@@ -1,5 +1,5 @@
-use Rattle.std.proofs.Common.{◌≡◌, ◌+◌, ◌*◌, ◌≤◌, ◌∙◌, List, ap, arith, length, subst, sym}
-use Rattle.std.specs.List.{All, range_with_len}
+use Rattle.std.proofs.Common.{◌∙◌, List, ap, arith, length, subst, sym}
+use Rattle.std.specs.List.{All}
 use Rattle.std.proofs.lemmas.List.FromFn.{length-map-range_with_len}
 use Rattle.cgm_atom.specs.Instance.{Instance, var_count}
 use Rattle.cgm_model.specs.Model.{lists_of}

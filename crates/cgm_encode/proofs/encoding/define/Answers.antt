@@ -1,12 +1,11 @@
-use Rattle.std.proofs.Common.{◌≡◌, ◌+◌, ◌<◌, ◌≤◌, ◌∙◌, ℕ, List, ap, arith, length, map, subst, sym}
+use Rattle.std.proofs.Common.{◌≡◌, ◌+◌, ◌<◌, ◌∙◌, ℕ, List, ap, arith, length, map, subst, sym}
 use Rattle.std.specs.Prelude.{◌≤ℤ◌, flat_map}
-use Rattle.std.specs.List.{All, enumerate_from, range_with_len, zip}
-use Rattle.std.proofs.lemmas.List.{length-append, length-map}
+use Rattle.std.specs.List.{All, range_with_len, zip}
+use Rattle.std.proofs.lemmas.List.{length-map}
 use Rattle.std.proofs.lemmas.List.FromFn.{length-range_with_len}
 use Rattle.cgm_atom.specs.declared.constraints.Row.{Row}
 use Rattle.cgm_atom.specs.Instance.{Instance, var_count}
-use Rattle.cgm_encode.specs.declared.expressions.Expression.{Expression}
-use Rattle.cgm_encode.specs.Building.{AreBounds, HasBoundSize, IsDefining, defining_rows, expression_range, with_ranges, with_rows}
+use Rattle.cgm_encode.specs.Building.{AreBounds, HasBoundSize, defining_rows, expression_range, with_ranges, with_rows}
 use Rattle.cgm_encode.specs.Totals.{Range}
 use Rattle.cgm_encode.proofs.DefiningSizes.{ranges_bound, sizes_longer}
 use Rattle.cgm_encode.proofs.Measured.{all_defining, ranges_ordered, rows_numbered, variables_within}

@@ -1,4 +1,4 @@
-use Rattle.std.proofs.Common.{rules, refl}
+use Rattle.std.proofs.Common.{rules}
 use Rattle.std.specs.Prelude.{pos}
 use Rattle.cgm_model.specs.declared.lists.Weighing.{Weighing}
 use Rattle.cgm_enc_formula.proofs.Mapped.{appended_by}

@@ -1,6 +1,5 @@
-use Rattle.std.proofs.Common.{◌≡◌, ◌≤◌, Bool, true, false, cond, max, of_z, to_z, w64, ap, ◌∙◌, sym, arith, rules}
+use Rattle.std.proofs.Common.{◌≡◌, ◌≤◌, Bool, true, false, cond, of_z, to_z, w64, ap, ◌∙◌, sym, arith, rules}
 use Rattle.std.specs.Prelude.{ℤ, pos, ◌*ℤ◌, int_lt, unsigned_abs}
-use Rattle.std.proofs.lemmas.Int.{to_z-of_z}
 use Rattle.cgm_atom.specs.Bounds.{lower_of, upper_of}
 use Rattle.cgm_atom.specs.Limits.{greatest_size, max_measure}
 use Rattle.cgm_encode.proofs.TermBounds.{product_limit, product_size, product_value}

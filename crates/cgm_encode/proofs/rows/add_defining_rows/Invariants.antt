@@ -1,4 +1,3 @@
-use Rattle.std.proofs.Common.{drop}
 use Rattle.cgm_encode.proofs.AddedRows.{AreRowsLeft}
 use Rattle.cgm_encode.proofs.rows.add_defining_rows.Given as goal
 

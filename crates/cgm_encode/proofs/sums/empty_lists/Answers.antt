@@ -1,4 +1,4 @@
-use Rattle.std.proofs.Common.{◌≡◌, ℕ, ◌+◌, ◌++◌, ◌∷◌, [], List, ap, get_or, length, ◌∙◌}
+use Rattle.std.proofs.Common.{ℕ, ◌+◌, ◌++◌, ◌∷◌, [], List, ap, get_or, length, ◌∙◌}
 use Rattle.std.proofs.lemmas.List.{length_push}
 use Rattle.cgm_encode.specs.Totals.{Share}
 use Rattle.cgm_encode.proofs.Kept.{empty_more}

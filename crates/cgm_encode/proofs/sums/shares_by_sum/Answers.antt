@@ -1,4 +1,4 @@
-use Rattle.std.proofs.Common.{◌≤◌, List, [], ap, arith, drop, length, subst, sym}
+use Rattle.std.proofs.Common.{◌≤◌, List, ap, arith, length, subst, sym}
 use Rattle.std.specs.Prelude.{pos}
 use Rattle.std.specs.List.{All}
 use Rattle.std.proofs.lemmas.List.{drop_all}

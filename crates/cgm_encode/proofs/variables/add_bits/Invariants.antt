@@ -1,4 +1,3 @@
-use Rattle.std.proofs.Common.{◌≡◌}
 use Rattle.cgm_encode.proofs.AddedVariables.{AreBitsLeft}
 use Rattle.cgm_encode.proofs.variables.add_bits.Given as goal
 

@@ -1,4 +1,4 @@
-use Rattle.std.proofs.Common.{◌+◌, ◌≡◌, ◌∙◌, ap, arith, drop, get_or, ℕ}
+use Rattle.std.proofs.Common.{◌+◌, ◌≡◌, ◌∙◌, ap, arith, drop, get_or}
 use Rattle.std.specs.Prelude.{pos}
 use Rattle.cgm_atom.specs.Instance.{Instance, var_count}
 use Rattle.cgm_atom.proofs.RowSums.{rest_at}

@@ -31,17 +31,17 @@ pub(crate) fn is_chosen(
     match head {
         "order" => is_ordered(alloc, problem, trail, rest),
         "all" => are_all(alloc, problem, rest),
-        "raise" => raise(problem, activity, rest),
-        "heaviest" => is_heaviest(problem, trail, activity, rest),
+        "raise" => Ok(raise(problem, activity, rest)),
+        "heaviest" => Ok(is_heaviest(problem, trail, activity, rest)),
         _ => Ok(true),
     }
 }
 
 /// Whether the word is this choice.
-fn is_choice(word: &str, found: Option<Atom>) -> Result<bool, Fail> {
+fn is_choice(word: &str, found: Option<Atom>) -> bool {
     match word {
-        "none" => Ok(found.is_none()),
-        a => Ok(found == Some(atom(a)?)),
+        "none" => found.is_none(),
+        a => found == Some(atom(a)),
     }
 }
 
@@ -49,9 +49,7 @@ fn is_choice(word: &str, found: Option<Atom>) -> Result<bool, Fail> {
 fn order_of(alloc: Global, problem: &Problem, seed: &str, worker: &str) -> Result<Order, Fail>
     ensures { IfOk result (λ o. length o.variables ≡ var_count problem.now) }
 {
-    let seed = count(seed)?;
-    let worker = place(worker)?;
-    Ok(Order::new(alloc, problem, seed, worker)?)
+    Ok(Order::new(alloc, problem, count(seed), place(worker))?)
 }
 
 fn is_ordered(alloc: Global, problem: &Problem, trail: &Trail, words: &str) -> Result<bool, Fail>
@@ -60,7 +58,7 @@ fn is_ordered(alloc: Global, problem: &Problem, trail: &Trail, words: &str) -> R
     let (seed, rest) = parted(words);
     let (worker, wanted) = parted(rest);
     let mut order = order_of(alloc, problem, seed, worker)?;
-    is_choice(wanted, decision(problem, trail, &mut order))
+    Ok(is_choice(wanted, decision(problem, trail, &mut order)))
 }
 
 /// What the order decides on the box of a trail.
@@ -115,18 +113,17 @@ fn follow(
     Ok(false)
 }
 
-fn raise(problem: &Problem, activity: &mut Activity, words: &str) -> Result<bool, Fail>
+fn raise(problem: &Problem, activity: &mut Activity, words: &str) -> bool
     requires { length activity.old.weights ≡ var_count problem.now }
     ensures { length activity.new.weights ≡ var_count problem.now }
 {
     let (x, times) = parted(words);
-    let x = place(x)?;
-    let times = place(times)?;
+    let x = place(x);
     if x >= problem.vars() {
-        return Ok(false);
+        return false;
     }
-    raise_often(activity, x, times);
-    Ok(true)
+    raise_often(activity, x, place(times));
+    true
 }
 
 /// Raises a variable many times.
@@ -141,12 +138,7 @@ fn raise_often(activity: &mut Activity, x: u32, times: u32)
     }
 }
 
-fn is_heaviest(
-    problem: &Problem,
-    trail: &Trail,
-    activity: &Activity,
-    wanted: &str,
-) -> Result<bool, Fail>
+fn is_heaviest(problem: &Problem, trail: &Trail, activity: &Activity, wanted: &str) -> bool
     requires problem { trail.now.problem ≡ problem.now }
     requires order { length activity.now.weights ≡ var_count problem.now }
 {

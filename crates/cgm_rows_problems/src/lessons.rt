@@ -70,9 +70,9 @@ fn take(
 {
     let (head, rest) = parted(statement);
     match head {
-        "decide" => decide(alloc, problem, log, trail, atom(rest)?),
+        "decide" => decide(alloc, problem, log, trail, atom(rest)),
         "follow" => {
-            let (by, a) = reasoned(rest)?;
+            let (by, a) = reasoned(rest);
             follow(alloc, problem, log, trail, by, a)
         }
         _ => Ok(()),
@@ -134,7 +134,7 @@ fn taught_after(
 
 /// What a conflict after some steps teaches, over the empty log.
 fn lesson(alloc: Global, problem: &Problem, text: &str) -> Result<Learned, Fail> {
-    let conflict = hint(after(text, "conflict"))?;
+    let conflict = hint(after(text, "conflict"));
     let index = LogIndex::new(alloc);
     let log = IndexedLog::of(&[], &index);
     taught_after(alloc, problem, &log, text, &conflict)
@@ -143,26 +143,26 @@ fn lesson(alloc: Global, problem: &Problem, text: &str) -> Result<Learned, Fail>
 /// Whether the lesson of a case is what it says.
 pub(crate) fn is_taught(alloc: Global, problem: &Problem, text: &str) -> Result<bool, Fail> {
     let l = lesson(alloc, problem, text)?;
-    is_lesson(alloc, &l, after(text, "lemma"), after(text, "back"))
+    Ok(is_lesson(&l, after(text, "lemma"), after(text, "back")))
 }
 
-fn is_lesson(alloc: Global, learned: &Learned, lemma: &str, back: &str) -> Result<bool, Fail> {
+fn is_lesson(learned: &Learned, lemma: &str, back: &str) -> bool {
     let (bound, level) = parted(back);
     if !is_count(bound, learned.bound) {
-        return Ok(false);
+        return false;
     }
     if !is_count(level, learned.level) {
-        return Ok(false);
+        return false;
     }
     match lemma.split_once(": ") {
-        None => Ok(false),
-        Some((wanted, named)) => is_lemma(alloc, learned, wanted, named),
+        None => false,
+        Some((wanted, named)) => is_lemma(learned, wanted, named),
     }
 }
 
-fn is_lemma(alloc: Global, learned: &Learned, wanted: &str, named: &str) -> Result<bool, Fail> {
-    if !are_atoms(alloc, wanted, learned.clause.atoms.as_slice())? {
-        return Ok(false);
+fn is_lemma(learned: &Learned, wanted: &str, named: &str) -> bool {
+    if !are_atoms(wanted, learned.clause.atoms.as_slice()) {
+        return false;
     }
-    are_hints(alloc, named, learned.hints.as_slice())
+    are_hints(named, learned.hints.as_slice())
 }

@@ -16,7 +16,7 @@ pub(crate) fn failing<'t>(
     case: &'t str,
 ) -> Result<Option<&'t str>, Fail> {
     let mut b = BoxState::of(alloc, problem)?;
-    narrow_each(alloc, problem, &mut b, case)
+    Ok(narrow_each(alloc, problem, &mut b, case))
 }
 
 fn narrow_each<'t>(
@@ -24,25 +24,19 @@ fn narrow_each<'t>(
     problem: &Problem,
     bounds: &mut BoxState,
     case: &'t str,
-) -> Result<Option<&'t str>, Fail>
+) -> Option<&'t str>
     requires { IsBoxOf problem.now.bounds bounds.old }
 {
     for statement in case.split(';') {
         let (head, rest) = parted(statement);
-        if !is_met(alloc, problem, bounds, head, rest)? {
-            return Ok(Some(statement));
+        if !is_met(alloc, problem, bounds, head, rest) {
+            return Some(statement);
         }
     }
-    Ok(None)
+    None
 }
 
-fn is_met(
-    alloc: Global,
-    problem: &Problem,
-    bounds: &mut BoxState,
-    head: &str,
-    rest: &str,
-) -> Result<bool, Fail>
+fn is_met(alloc: Global, problem: &Problem, bounds: &mut BoxState, head: &str, rest: &str) -> bool
     requires { IsBoxOf problem.now.bounds bounds.old }
     ensures { IsBoxOf problem.now.bounds bounds.new }
 {
@@ -52,36 +46,31 @@ fn is_met(
         "box" => has_ranges(problem, bounds, rest),
         "reset" => {
             bounds.reset(problem);
-            Ok(true)
+            true
         }
-        _ => Ok(true),
+        _ => true,
     }
 }
 
-fn is_assumed(problem: &Problem, bounds: &mut BoxState, words: &str) -> Result<bool, Fail>
+fn is_assumed(problem: &Problem, bounds: &mut BoxState, words: &str) -> bool
     requires { IsBoxOf problem.now.bounds bounds.old }
     ensures { IsBoxOf problem.now.bounds bounds.new }
 {
     let (a, wanted) = parted(words);
-    let a = atom(a)?;
+    let a = atom(a);
     if a.var.0 >= problem.vars() {
-        return Ok(false);
+        return false;
     }
-    Ok(bounds.assume(a) == (wanted == "= yes"))
+    bounds.assume(a) == (wanted == "= yes")
 }
 
-fn is_narrowed(
-    alloc: Global,
-    problem: &Problem,
-    bounds: &mut BoxState,
-    words: &str,
-) -> Result<bool, Fail>
+fn is_narrowed(alloc: Global, problem: &Problem, bounds: &mut BoxState, words: &str) -> bool
     requires { IsBoxOf problem.now.bounds bounds.old }
     ensures { IsBoxOf problem.now.bounds bounds.new }
 {
     let (by, wanted) = parted(words);
-    let narrowed = narrow_by(alloc, problem, bounds, hint(by)?);
-    Ok(wanted == answer(narrowed))
+    let narrowed = narrow_by(alloc, problem, bounds, hint(by));
+    wanted == answer(narrowed)
 }
 
 fn answer(narrowed: Narrowed) -> &'static str {
@@ -103,18 +92,18 @@ fn narrow_by(alloc: Global, problem: &Problem, bounds: &mut BoxState, by: Hint) 
 }
 
 /// Whether these are the values of all variables.
-pub(crate) fn has_ranges(problem: &Problem, bounds: &BoxState, ranges: &str) -> Result<bool, Fail>
+pub(crate) fn has_ranges(problem: &Problem, bounds: &BoxState, ranges: &str) -> bool
     requires { IsBoxOf problem.now.bounds bounds.now }
 {
     let mut x: u32 = 0;
     for word in ranges.split_whitespace() {
         if x >= problem.vars() {
-            return Ok(false);
+            return false;
         }
-        if (bounds.lo(Var(x)), bounds.hi(Var(x))) != range(word)? {
-            return Ok(false);
+        if (bounds.lo(Var(x)), bounds.hi(Var(x))) != range(word) {
+            return false;
         }
         x += 1;
     }
-    Ok(x == problem.vars())
+    x == problem.vars()
 }

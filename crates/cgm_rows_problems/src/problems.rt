@@ -1,7 +1,7 @@
 // Problems as text, and how they are made. The statement `vars` has the least and the greatest value
 // of each variable, `clause` the atoms of a clause, `row` the terms, the least sum and the guard of a
 // row, and `objectives` the objectives.
-ghost use Rattle.std.specs.Prelude.{◌≡◌, ◌≢◌, ◌<◌, ◌≤ℤ◌, pos, length, IsTrue, IfOk, IfSome, OnOk};
+ghost use Rattle.std.specs.Prelude.{◌≡◌, ◌≢◌, ◌+◌, ◌<◌, ◌≤ℤ◌, pos, IsTrue, IfOk, IfSome, OnOk};
 ghost use Rattle.std.specs.List.{All};
 ghost use Rattle.cgm_atom.specs.Limits.{AreTermsOf, IsAbsent, IsAtomOf};
 ghost use Rattle.cgm_rows_problems.specs.Sizes.{HasSizes};
@@ -24,18 +24,17 @@ pub(crate) fn discard(problem: Problem) {
 }
 
 fn build(alloc: Global, builder: &mut ProblemBuilder, text: &str) -> Result<(), Fail>
-    requires { HasSizes builder.old 0 0 0 0 }
+    requires { HasSizes builder.old 0 0 0 }
 {
     let count = add_variables(builder, after(text, "vars"))?;
-    add_clauses(alloc, builder, count, text)?;
-    add_rows(alloc, builder, count, text)?;
+    add_constraints(alloc, builder, count, text)?;
     add_objectives(builder, count, after(text, "objectives"))
 }
 
 /// Adds all variables, and answers their number.
 fn add_variables(builder: &mut ProblemBuilder, ranges: &str) -> Result<u32, Fail>
-    requires { HasSizes builder.old 0 0 0 0 }
-    ensures { IfOk result (λ count. HasSizes builder.new count 0 0 0) }
+    requires { HasSizes builder.old 0 0 0 }
+    ensures { IfOk result (λ count. HasSizes builder.new count 0 0) }
 {
     let mut count: u32 = 0;
     for word in ranges.split_whitespace() {
@@ -53,33 +52,83 @@ fn add_variables(builder: &mut ProblemBuilder, ranges: &str) -> Result<u32, Fail
 pub(crate) fn bounds(word: &str) -> Result<(i64, i64), Fail>
     ensures { IfOk result (λ bounds. bounds.0 ≤ℤ bounds.1) }
 {
-    let (lo, hi) = range(word)?;
+    let (lo, hi) = range(word);
     if lo > hi {
         return Err(Fail::new("no values"));
     }
     Ok((lo, hi))
 }
 
-fn add_clauses(
+/// Adds the clauses and rows in the order of their statements.
+fn add_constraints(
     alloc: Global,
     builder: &mut ProblemBuilder,
     count: u32,
     text: &str,
 ) -> Result<(), Fail>
-    requires { HasSizes builder.old count 0 0 0 }
-    ensures { OnOk result (HasSizes builder.new count (length builder.new.clauses) 0 0) }
+    requires { HasSizes builder.old count 0 0 }
+    ensures { OnOk result (HasSizes builder.new count 2000 0) }
 {
-    let mut made: u32 = 0;
+    let mut seen: u32 = 0;
     for statement in text.split(';') {
-        let (head, words) = parted(statement);
-        if head == "clause" {
-            if made >= 1_000 {
-                return Err(Fail::new("too many clauses"));
-            }
-            builder.clause(clause_of(alloc, count, words)?)?;
-            made += 1;
+        if seen >= 2_000 {
+            return Err(Fail::new("too many statements"));
         }
+        add_constraint(alloc, builder, count, seen, statement)?;
+        seen += 1;
     }
+    Ok(())
+}
+
+/// Adds the clause or row of a statement, if it has one, behind so many statements.
+fn add_constraint(
+    alloc: Global,
+    builder: &mut ProblemBuilder,
+    count: u32,
+    seen: u32,
+    statement: &str,
+) -> Result<(), Fail>
+    requires sizes { HasSizes builder.old count seen 0 }
+    requires room { seen < 2000 }
+    ensures { OnOk result (HasSizes builder.new count (seen + 1) 0) }
+{
+    let (head, words) = parted(statement);
+    match head {
+        "clause" => add_clause(alloc, builder, count, seen, words),
+        "row" => add_row(alloc, builder, count, seen, words),
+        _ => Ok(()),
+    }
+}
+
+fn add_clause(
+    alloc: Global,
+    builder: &mut ProblemBuilder,
+    count: u32,
+    seen: u32,
+    words: &str,
+) -> Result<(), Fail>
+    requires sizes { HasSizes builder.old count seen 0 }
+    requires room { seen < 2000 }
+    ensures { OnOk result (HasSizes builder.new count (seen + 1) 0) }
+{
+    let clause = clause_of(alloc, count, words)?;
+    builder.clause(clause)?;
+    Ok(())
+}
+
+fn add_row(
+    alloc: Global,
+    builder: &mut ProblemBuilder,
+    count: u32,
+    seen: u32,
+    words: &str,
+) -> Result<(), Fail>
+    requires sizes { HasSizes builder.old count seen 0 }
+    requires room { seen < 2000 }
+    ensures { OnOk result (HasSizes builder.new count (seen + 1) 0) }
+{
+    let row = row_of(alloc, count, words)?;
+    builder.row(row)?;
     Ok(())
 }
 
@@ -117,24 +166,6 @@ fn is_atom(count: u32, atom: Atom) -> bool
     atom.k.unsigned_abs() <= MAX_ATOM_NUMBER
 }
 
-fn add_rows(alloc: Global, builder: &mut ProblemBuilder, count: u32, text: &str) -> Result<(), Fail>
-    requires { HasSizes builder.old count (length builder.old.clauses) 0 0 }
-    ensures { OnOk result (HasSizes builder.new count (length builder.new.clauses) (length builder.new.rows) 0) }
-{
-    let mut made: u32 = 0;
-    for statement in text.split(';') {
-        let (head, words) = parted(statement);
-        if head == "row" {
-            if made >= 1_000 {
-                return Err(Fail::new("too many rows"));
-            }
-            builder.row(row_of(alloc, count, words)?)?;
-            made += 1;
-        }
-    }
-    Ok(())
-}
-
 /// The row of these words over so many variables, as in `2*0 -3*1 >= 4 if 2>=1`.
 pub(crate) fn row_of(alloc: Global, count: u32, words: &str) -> Result<Row, Fail>
     ensures guard { IfOk result (λ r. IfSome r.guard (λ g. g.var.0 < count)) }
@@ -143,7 +174,7 @@ pub(crate) fn row_of(alloc: Global, count: u32, words: &str) -> Result<Row, Fail
     match words.split_once(">= ") {
         None => Err(Fail::new("no row")),
         Some((sum, rest)) => {
-            let (least, guard) = guarded(rest)?;
+            let (least, guard) = guarded(rest);
             if !is_guard(count, guard) {
                 return Err(Fail::new("no guard of the problem"));
             }
@@ -161,10 +192,10 @@ pub(crate) fn row_of(alloc: Global, count: u32, words: &str) -> Result<Row, Fail
 }
 
 /// The least sum and the guard, if there is one.
-fn guarded(words: &str) -> Result<(i64, Option<Atom>), Fail> {
+fn guarded(words: &str) -> (i64, Option<Atom>) {
     match words.split_once(" if ") {
-        None => Ok((number(words.trim())?, None)),
-        Some((least, guard)) => Ok((number(least)?, Some(atom(guard)?))),
+        None => (number(words.trim()), None),
+        Some((least, guard)) => (number(least), Some(atom(guard))),
     }
 }
 
@@ -173,7 +204,7 @@ fn terms(alloc: Global, words: &str) -> Result<Vec<(i64, Var)>, Fail> {
     for word in words.split_whitespace() {
         match word.split_once('*') {
             None => return Err(Fail::new("no term")),
-            Some((coefficient, x)) => all.push((number(coefficient)?, Var(place(x)?)))?,
+            Some((coefficient, x)) => all.push((number(coefficient), Var(place(x))))?,
         }
     }
     Ok(all)
@@ -233,11 +264,11 @@ fn is_absent(variable: Var, terms: &[(i64, Var)]) -> bool
 }
 
 fn add_objectives(builder: &mut ProblemBuilder, count: u32, words: &str) -> Result<(), Fail>
-    requires { HasSizes builder.old count (length builder.old.clauses) (length builder.old.rows) 0 }
+    requires { HasSizes builder.old count 2000 0 }
 {
     let mut made: u32 = 0;
     for word in words.split_whitespace() {
-        let x = place(word)?;
+        let x = place(word);
         if made >= 8 {
             return Err(Fail::new("too many objectives"));
         }

@@ -80,7 +80,7 @@ fn worker(alloc: Global, problem: &Problem, budget: u64) -> Result<Worker<Alone>
 
 /// Whether a worker ends as the case says.
 pub(crate) fn has_ended(alloc: Global, problem: &Problem, case: &str) -> Result<bool, Fail> {
-    let budget = count(after(case, "budget"))?;
+    let budget = count(after(case, "budget"));
     if budget > 1_000_000 {
         return Err(Fail::new("too great a budget"));
     }
@@ -92,7 +92,7 @@ fn ends_so(mut w: Worker<Alone>, wanted: &str) -> Result<bool, Fail> {
     let (trader, _) = w.into_parts();
     match trader.into_log_if_alone() {
         None => Err(Fail::new("no log")),
-        Some(log) => is_end(&log, ended, wanted),
+        Some(log) => Ok(is_end(&log, ended, wanted)),
     }
 }
 
@@ -120,15 +120,15 @@ fn is_whole(record: &Record) -> bool {
     record.last.load(Ordering::SeqCst) == 3
 }
 
-fn is_end(log: &Log, ended: Option<(Stopped, u64)>, wanted: &str) -> Result<bool, Fail> {
+fn is_end(log: &Log, ended: Option<(Stopped, u64)>, wanted: &str) -> bool {
     let (head, rest) = parted(wanted);
     match ended {
-        None => Ok(false),
+        None => false,
         Some((stopped, spent)) => match head {
-            "spent" => Ok(stopped == Stopped::Spent && !log.closed() && is_count(rest, spent)),
-            "none" => Ok(is_final(log, stopped) && count_bests(log) == 0),
-            "least" => Ok(is_final(log, stopped) && last_value(log) == Some(number(rest)?)),
-            _ => Err(Fail::new("no end")),
+            "spent" => stopped == Stopped::Spent && !log.closed() && is_count(rest, spent),
+            "none" => is_final(log, stopped) && count_bests(log) == 0,
+            "least" => is_final(log, stopped) && last_value(log) == Some(number(rest)),
+            _ => false,
         },
     }
 }

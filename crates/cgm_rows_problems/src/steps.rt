@@ -58,7 +58,7 @@ fn step(
         "follow" => follow(problem, trail, rest),
         "jump" => jump(alloc, problem, trail, rest),
         "restart" => Ok(restart(problem, trail)),
-        "land" => land(problem, trail, rest),
+        "land" => Ok(land(problem, trail, rest)),
         "by-row" => sweep_row(problem, trail, rest),
         _ => Ok(true),
     }
@@ -103,7 +103,7 @@ fn decide(alloc: Global, problem: &Problem, trail: &mut Trail, word: &str) -> Re
     requires { trail.old.problem ≡ problem.now }
     ensures { trail.new.problem ≡ problem.now }
 {
-    let a = atom(word)?;
+    let a = atom(word);
     if !may_decide(alloc, problem, trail, a)? {
         return Ok(false);
     }
@@ -115,7 +115,7 @@ fn follow(problem: &Problem, trail: &mut Trail, words: &str) -> Result<bool, Fai
     requires { trail.old.problem ≡ problem.now }
     ensures { trail.new.problem ≡ problem.now }
 {
-    let (by, a) = reasoned(words)?;
+    let (by, a) = reasoned(words);
     make(problem, trail, by, a)
 }
 
@@ -132,9 +132,9 @@ pub(crate) fn make(problem: &Problem, trail: &mut Trail, by: Hint, atom: Atom) -
 }
 
 /// A hint and an atom.
-pub(crate) fn reasoned(words: &str) -> Result<(Hint, Atom), Fail> {
+pub(crate) fn reasoned(words: &str) -> (Hint, Atom) {
     let (by, a) = parted(words);
-    Ok((hint(by)?, atom(a)?))
+    (hint(by), atom(a))
 }
 
 fn jump(alloc: Global, problem: &Problem, trail: &mut Trail, words: &str) -> Result<bool, Fail>
@@ -142,8 +142,8 @@ fn jump(alloc: Global, problem: &Problem, trail: &mut Trail, words: &str) -> Res
     ensures { trail.new.problem ≡ problem.now }
 {
     let (level, rest) = parted(words);
-    let level = count(level)?;
-    let (by, a) = reasoned(rest)?;
+    let level = count(level);
+    let (by, a) = reasoned(rest);
     if !may_jump(alloc, problem, trail, level, a)? {
         return Ok(false);
     }
@@ -203,19 +203,19 @@ fn restart(problem: &Problem, trail: &mut Trail) -> bool
     true
 }
 
-fn land(problem: &Problem, trail: &mut Trail, word: &str) -> Result<bool, Fail>
+fn land(problem: &Problem, trail: &mut Trail, word: &str) -> bool
     requires { trail.old.problem ≡ problem.now }
     ensures { trail.new.problem ≡ problem.now }
 {
-    let first = count(word)?;
+    let first = count(word);
     if first >= MANY {
-        return Ok(false);
+        return false;
     }
     if !can_land(trail, first) {
-        return Ok(false);
+        return false;
     }
     trail.land(first);
-    Ok(true)
+    true
 }
 
 /// Whether the trail may make so many moves more.
@@ -240,12 +240,12 @@ fn sweep_clauses(
     ensures store { IsStoreOf problem.now store.new }
 {
     let (steps, wanted) = parted(words);
-    let mut left = count(steps)?;
+    let mut left = count(steps);
     if !has_room(trail, left) {
         return Ok(false);
     }
     let swept = store.propagate(trail, &mut left)?;
-    is_answer(problem, swept, left, wanted)
+    Ok(is_answer(problem, swept, left, wanted))
 }
 
 fn sweep_row(problem: &Problem, trail: &mut Trail, words: &str) -> Result<bool, Fail>
@@ -254,11 +254,11 @@ fn sweep_row(problem: &Problem, trail: &mut Trail, words: &str) -> Result<bool, 
 {
     let (n, rest) = parted(words);
     let (steps, wanted) = parted(rest);
-    let n = place(n)?;
+    let n = place(n);
     if n >= problem.rows() {
         return Ok(false);
     }
-    sweep_by(problem, n, trail, count(steps)?, wanted)
+    sweep_by(problem, n, trail, count(steps), wanted)
 }
 
 fn sweep_by(
@@ -277,21 +277,21 @@ fn sweep_by(
         return Ok(false);
     }
     let swept = propagate_row(problem, n, trail, &mut left)?;
-    is_answer(problem, swept, left, wanted)
+    Ok(is_answer(problem, swept, left, wanted))
 }
 
 /// Whether the answer and the steps that are left are the wanted ones. `clause` stands for a conflict
 /// with any clause of the problem, and a hint for one with what it names.
-fn is_answer(problem: &Problem, swept: Swept, left: u64, wanted: &str) -> Result<bool, Fail> {
+fn is_answer(problem: &Problem, swept: Swept, left: u64, wanted: &str) -> bool {
     let (answer, rest) = parted(wanted);
     if !is_count(rest, left) {
-        return Ok(false);
+        return false;
     }
     match answer {
-        "quiet" => Ok(swept == Swept::Quiet),
-        "spent" => Ok(swept == Swept::Spent),
-        "clause" => Ok(is_clause_of(problem, swept)),
-        named => Ok(swept == Swept::Conflict(hint(named)?)),
+        "quiet" => swept == Swept::Quiet,
+        "spent" => swept == Swept::Spent,
+        "clause" => is_clause_of(problem, swept),
+        named => swept == Swept::Conflict(hint(named)),
     }
 }
 

@@ -27,7 +27,8 @@ fn fill(alloc: Global, problem: &Problem, store: &mut ClauseStore, text: &str) -
     ensures { IsStoreOf problem.now store.new }
 {
     add_named(alloc, problem, store, text)?;
-    forget(problem, store, after(text, "forget"))
+    forget(problem, store, after(text, "forget"));
+    Ok(())
 }
 
 /// Adds the clauses of a text, of which the first lemma may land then.
@@ -45,17 +46,16 @@ fn add_named(
     if place.is_empty() {
         return add_all(alloc, problem, store, text, 1);
     }
-    add_landed(alloc, problem, store, text, count(place)?)
+    add_landed(alloc, problem, store, text, count(place))
 }
 
-fn forget(problem: &Problem, store: &mut ClauseStore, name: &str) -> Result<(), Fail>
+fn forget(problem: &Problem, store: &mut ClauseStore, name: &str)
     requires { IsStoreOf problem.now store.old }
     ensures { IsStoreOf problem.now store.new }
 {
     if !name.is_empty() {
-        store.forget(&hint(name)?);
+        store.forget(&hint(name));
     }
-    Ok(())
 }
 
 /// Adds clauses, of which the first lemma then lands at a place.
@@ -111,7 +111,7 @@ fn add(
         return Ok(());
     }
     let (name, atoms) = parted(rest);
-    let name = hint(name)?;
+    let name = hint(name);
     if !can_land(name, first) {
         return Err(Fail::new("no name that can land"));
     }

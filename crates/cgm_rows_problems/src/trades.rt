@@ -36,7 +36,7 @@ fn is_answered(alloc: Global, log: &mut Log, statement: &str) -> Result<bool, Fa
         None => Ok(true),
         Some((asked, answer)) => {
             let traded = traded_by(alloc, log, asked)?;
-            is_answer(alloc, &traded, answer)
+            Ok(is_answer(&traded, answer))
         }
     }
 }
@@ -46,20 +46,20 @@ fn traded_by(alloc: Global, log: &mut Log, asked: &str) -> Result<Traded, Fail> 
         ("offer", values) => offer(alloc, log, numbers(alloc, values)?),
         ("close", cut) => {
             let (best, part) = parted(cut);
-            end_by_cut(alloc, log, count(best)?, place(part)?)
+            end_by_cut(alloc, log, count(best), place(part))
         }
         _ => Err(Fail::new("no trade")),
     }
 }
 
-fn is_answer(alloc: Global, traded: &Traded, answer: &str) -> Result<bool, Fail> {
+fn is_answer(traded: &Traded, answer: &str) -> bool {
     match traded {
-        Traded::Closed { .. } => Ok(answer == "closed"),
+        Traded::Closed { .. } => answer == "closed",
         Traded::Landed { first, fate, .. } => match fate {
-            None => Ok(is_landed(*first, answer)),
-            Some(Fate::Kept { ordinal }) => Ok(is_kept(*first, *ordinal, answer)),
+            None => is_landed(*first, answer),
+            Some(Fate::Kept { ordinal }) => is_kept(*first, *ordinal, answer),
             Some(Fate::Behind { ordinal, values }) => {
-                is_behind(alloc, *ordinal, values.as_slice(), answer)
+                is_behind(*ordinal, values.as_slice(), answer)
             }
         },
     }
@@ -76,16 +76,16 @@ fn is_kept(place: u64, ordinal: u64, answer: &str) -> bool {
     head == "kept" && is_count(first, place) && is_count(second, ordinal)
 }
 
-fn is_behind(alloc: Global, ordinal: u64, values: &[i64], answer: &str) -> Result<bool, Fail> {
+fn is_behind(ordinal: u64, values: &[i64], answer: &str) -> bool {
     let (head, rest) = parted(answer);
     let (number, wanted) = parted(rest);
     if head != "behind" {
-        return Ok(false);
+        return false;
     }
     if !is_count(number, ordinal) {
-        return Ok(false);
+        return false;
     }
-    are_numbers(alloc, wanted, values)
+    are_numbers(wanted, values)
 }
 
 /// Trades a candidate, which has to be a solution.

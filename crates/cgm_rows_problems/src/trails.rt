@@ -97,20 +97,20 @@ fn is_so(
     if !is_chosen(alloc, problem, trail, activity, statement)? {
         return Ok(false);
     }
-    is_met(problem, trail, statement)
+    Ok(is_met(problem, trail, statement))
 }
 
 /// Whether what a statement says of the trail is so.
-fn is_met(problem: &Problem, trail: &Trail, statement: &str) -> Result<bool, Fail>
+fn is_met(problem: &Problem, trail: &Trail, statement: &str) -> bool
     requires { trail.now.problem ≡ problem.now }
 {
     let (head, rest) = parted(statement);
     match head {
-        "counts" => Ok(has_counts(trail, rest)),
+        "counts" => has_counts(trail, rest),
         "bounds" => has_bounds(problem, trail, rest),
         "start" => has_start(trail, rest),
         "change" => has_change(trail, rest),
-        _ => Ok(true),
+        _ => true,
     }
 }
 
@@ -125,34 +125,34 @@ fn has_counts(trail: &Trail, words: &str) -> bool {
 }
 
 /// Whether the box of the trail is one of those that are told, parted by `or`.
-fn has_bounds(problem: &Problem, trail: &Trail, words: &str) -> Result<bool, Fail>
+fn has_bounds(problem: &Problem, trail: &Trail, words: &str) -> bool
     requires { trail.now.problem ≡ problem.now }
 {
     trail.recall_trail();
     for ranges in words.split('|') {
-        if has_ranges(problem, trail.state(), ranges)? {
-            return Ok(true);
+        if has_ranges(problem, trail.state(), ranges) {
+            return true;
         }
     }
-    Ok(false)
+    false
 }
 
-fn has_start(trail: &Trail, words: &str) -> Result<bool, Fail> {
+fn has_start(trail: &Trail, words: &str) -> bool {
     let (level, start) = parted(words);
-    let level = count(level)?;
+    let level = count(level);
     if level > trail.level() {
-        return Ok(false);
+        return false;
     }
-    Ok(is_count(start, trail.level_start(level)))
+    is_count(start, trail.level_start(level))
 }
 
-fn has_change(trail: &Trail, words: &str) -> Result<bool, Fail> {
+fn has_change(trail: &Trail, words: &str) -> bool {
     let (n, rest) = parted(words);
-    let n = count(n)?;
+    let n = count(n);
     if n >= trail.changes() {
-        return Ok(false);
+        return false;
     }
-    Ok(is_change(trail.change(n), change(rest)?))
+    is_change(trail.change(n), change(rest))
 }
 
 /// Whether this is the change, and keeps its earlier bound.
@@ -165,19 +165,19 @@ fn is_change(found: &Change, wanted: Change) -> bool {
     *found == wanted && found.earlier() == was
 }
 
-fn change(words: &str) -> Result<Change, Fail> {
+fn change(words: &str) -> Change {
     let (a, rest) = parted(words);
     let (was, by) = parted(rest);
-    Ok(Change {
-        atom: atom(a)?,
-        was: number(was)?,
-        reason: reason(by)?,
-    })
+    Change {
+        atom: atom(a),
+        was: number(was),
+        reason: reason(by),
+    }
 }
 
-fn reason(word: &str) -> Result<Reason, Fail> {
+fn reason(word: &str) -> Reason {
     match word {
-        "d" => Ok(Reason::Decision),
-        by => Ok(Reason::By(hint(by)?)),
+        "d" => Reason::Decision,
+        by => Reason::By(hint(by)),
     }
 }

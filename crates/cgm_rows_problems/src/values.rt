@@ -42,7 +42,7 @@ fn is_met(alloc: Global, problem: &Problem, statement: &str) -> Result<bool, Fai
         "holds" => is_solved(alloc, problem, rest),
         "breaks" => is_broken(alloc, problem, rest),
         "sizes" => Ok(has_sizes(problem, rest)),
-        "atoms" => has_atoms(alloc, problem, rest),
+        "atoms" => Ok(has_atoms(problem, rest)),
         _ => Ok(true),
     }
 }
@@ -54,7 +54,7 @@ fn is_solved(alloc: Global, problem: &Problem, values: &str) -> Result<bool, Fai
 fn is_broken(alloc: Global, problem: &Problem, rest: &str) -> Result<bool, Fail> {
     match rest.split_once(" : ") {
         None => Err(Fail::new("no values")),
-        Some((part, values)) => breaks(alloc, problem, violated(part)?, values),
+        Some((part, values)) => breaks(alloc, problem, violated(part), values),
     }
 }
 
@@ -67,13 +67,13 @@ fn breaks(alloc: Global, problem: &Problem, first: Violated, values: &str) -> Re
     Ok(first_violated(problem, values.as_slice()) == Some(first))
 }
 
-fn violated(words: &str) -> Result<Violated, Fail> {
+fn violated(words: &str) -> Violated {
     match parted(words) {
-        ("bound", x) => Ok(Violated::Bound(place(x)?)),
-        ("clause", n) => Ok(Violated::Clause(place(n)?)),
-        ("row", n) => Ok(Violated::Row(place(n)?)),
-        ("count", _) => Ok(Violated::Count),
-        _ => Err(Fail::new("no part")),
+        ("bound", x) => Violated::Bound(place(x)),
+        ("clause", n) => Violated::Clause(place(n)),
+        ("row", n) => Violated::Row(place(n)),
+        ("count", _) => Violated::Count,
+        _ => Violated::Bound(u32::MAX),
     }
 }
 
@@ -85,13 +85,13 @@ fn has_sizes(problem: &Problem, words: &str) -> bool {
         && is_count(rows, u64::from(problem.rows()))
 }
 
-fn has_atoms(alloc: Global, problem: &Problem, words: &str) -> Result<bool, Fail> {
+fn has_atoms(problem: &Problem, words: &str) -> bool {
     let (n, wanted) = parted(words);
-    let n = place(n)?;
+    let n = place(n);
     if n >= problem.clauses() {
-        return Ok(false);
+        return false;
     }
-    are_atoms(alloc, wanted, problem.clause(n).atoms.as_slice())
+    are_atoms(wanted, problem.clause(n).atoms.as_slice())
 }
 
 /// Whether the builder refuses a case's variable or row as it says.

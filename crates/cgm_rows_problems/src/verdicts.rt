@@ -20,7 +20,7 @@ pub(crate) fn is_told_by(
     wanted: &str,
 ) -> Result<bool, Fail> {
     let verdict = check(alloc, problem, entries)?;
-    is_verdict(alloc, &verdict, wanted)
+    Ok(is_verdict(&verdict, wanted))
 }
 
 fn entries_of(alloc: Global, text: &str) -> Result<Vec<Entry>, Fail> {
@@ -50,7 +50,7 @@ fn best(values: Vec<i64>) -> Entry {
 
 fn lemma(alloc: Global, words: &str) -> Result<Entry, Fail> {
     let (bound, rest) = parted(words);
-    let bound = count(bound)?;
+    let bound = count(bound);
     match rest.split_once(':') {
         None => Err(Fail::new("no lemma")),
         Some((wanted, named)) => Ok(Entry::Lemma {
@@ -64,68 +64,73 @@ fn lemma(alloc: Global, words: &str) -> Result<Entry, Fail> {
     }
 }
 
-fn is_verdict(alloc: Global, verdict: &Verdict, wanted: &str) -> Result<bool, Fail> {
+fn is_verdict(verdict: &Verdict, wanted: &str) -> bool {
     match verdict {
-        Verdict::NoSolution => Ok(wanted == "none"),
-        Verdict::Open { best } => is_open(alloc, best, wanted),
-        Verdict::Least { values } => has_values(alloc, "least", values.as_slice(), wanted),
+        Verdict::NoSolution => wanted == "none",
+        Verdict::Open { best } => is_open(best, wanted),
+        Verdict::Least { values } => has_values("least", values.as_slice(), wanted),
         Verdict::Refused { step, why } => is_refusal(*step, *why, wanted),
     }
 }
 
-fn is_open(alloc: Global, best: &Option<Seq<i64>>, wanted: &str) -> Result<bool, Fail> {
+fn is_open(best: &Option<Seq<i64>>, wanted: &str) -> bool {
     match best {
-        None => Ok(wanted == "open"),
-        Some(values) => has_values(alloc, "open", values.as_slice(), wanted),
+        None => wanted == "open",
+        Some(values) => has_values("open", values.as_slice(), wanted),
     }
 }
 
 /// Whether the words are this one and these values.
-fn has_values(alloc: Global, word: &str, values: &[i64], wanted: &str) -> Result<bool, Fail> {
+fn has_values(word: &str, values: &[i64], wanted: &str) -> bool {
     let (head, rest) = parted(wanted);
     if head != word {
-        return Ok(false);
+        return false;
     }
-    are_numbers(alloc, rest, values)
+    are_numbers(rest, values)
 }
 
 /// Whether the words are a refusal, this entry and this fault.
-fn is_refusal(step: u64, why: BadStep, wanted: &str) -> Result<bool, Fail> {
+fn is_refusal(step: u64, why: BadStep, wanted: &str) -> bool {
     let (head, rest) = parted(wanted);
     let (place, fault) = parted(rest);
     if head != "refused" {
-        return Ok(false);
+        return false;
     }
     if !is_count(place, step) {
-        return Ok(false);
+        return false;
     }
-    Ok(why == bad_step(fault)?)
+    let (fault, number) = parted(fault);
+    why == bad_step(fault, number)
 }
 
-fn bad_step(words: &str) -> Result<BadStep, Fail> {
-    match parted(words) {
-        ("after-end", _) => Ok(BadStep::AfterEnd),
-        ("not-less", _) => Ok(BadStep::NotLess),
-        ("no-conflict", _) => Ok(BadStep::NoConflict),
-        (fault, number) => numbered_step(fault, count(number)?),
-    }
-}
-
-fn numbered_step(fault: &str, number: u64) -> Result<BadStep, Fail> {
+fn bad_step(fault: &str, number: &str) -> BadStep {
     match fault {
-        "values" => Ok(BadStep::Values { given: number }),
-        "atom" => Ok(BadStep::Atom { place: number }),
-        "hint" => Ok(BadStep::Hint { place: number }),
-        "bound" => Ok(BadStep::Bound { found: number }),
-        part => placed_step(part, u32::try_from(number)?),
+        "after-end" => BadStep::AfterEnd,
+        "not-less" => BadStep::NotLess,
+        "no-conflict" => BadStep::NoConflict,
+        other => numbered_step(other, count(number)),
     }
 }
 
-fn placed_step(part: &str, number: u32) -> Result<BadStep, Fail> {
+fn numbered_step(fault: &str, number: u64) -> BadStep {
+    match fault {
+        "values" => BadStep::Values { given: number },
+        "atom" => BadStep::Atom { place: number },
+        "hint" => BadStep::Hint { place: number },
+        "bound" => BadStep::Bound { found: number },
+        other => placed_step(other, number),
+    }
+}
+
+fn placed_step(part: &str, number: u64) -> BadStep {
+    let number = match u32::try_from(number) {
+        Ok(fits) => fits,
+        Err(_) => u32::MAX,
+    };
     match part {
-        "bounds" => Ok(BadStep::Bounds { var: number }),
-        "clause" => Ok(BadStep::Clause { number }),
-        "row" => Ok(BadStep::Row { number }),
-        _ => Err(Fail::new("no fault")),
+        "bounds" => BadStep::Bounds { var: number },
+        "clause" => BadStep::Clause { number },
+        "row" => BadStep::Row { number },
+        _ => BadStep::Bounds { var: u32::MAX },
     }
 }

@@ -95,3 +95,7 @@ longer p old new b h = (
 pub landed_on_ok : {T E : Type 0} (r : Result T E) (p : Instance) (old news now : List Entry) (b copy : Batch) → copy ≡ b → OnOk r (now ≡ with_landed p (old ++ news) copy) → OnOk r (HasLanded p old b now)
 landed_on_ok (Ok x) p old news now b copy e h = (news, h ∙ ap (λ (a : Batch). with_landed p (old ++ news) a) e)
 landed_on_ok (Err x) p old news now b copy e h = tt
+
+pub longer_on_ok : {T E : Type 0} (r : Result T E) (p : Instance) (old new : List Entry) (b : Batch) → OnOk r (HasLanded p old b new) → OnOk r (IsLongerLog old new)
+longer_on_ok (Ok x) p old new b h = longer p old new b h
+longer_on_ok (Err x) p old new b h = tt

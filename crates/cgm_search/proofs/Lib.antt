@@ -11,5 +11,6 @@ pub mod Reasons
 pub mod Rounds
 pub mod Seats
 pub mod TakenLemmas
+pub mod UnitParts
 pub mod UsedBounds
 pub mod WholeWorkers

@@ -1,7 +1,8 @@
 -- What a trade does to the seat of a worker, and what the search then knows.
-use Rattle.std.proofs.Common.{◌≡◌, List, ◌++◌, sym, ap, ◌∙◌}
+use Rattle.std.proofs.Common.{◌≡◌, List, ◌++◌, sym, ap, subst, ◌∙◌}
 use Rattle.std.specs.Prelude.{Result, Ok, Err, OnOk}
 use Rattle.cgm_atom.specs.declared.entries.Entry.{Entry}
+use Rattle.cgm_atom.specs.Acceptance.{IsAccepted}
 use Rattle.cgm_atom.specs.Instance.{Instance}
 use Rattle.cgm_log.specs.declared.batches.Batch.{Batch}
 use Rattle.cgm_log.specs.declared.batches.Traded.{Traded}
@@ -25,3 +26,9 @@ told_on_ok (Ok x) old new seat seat' t b copy h same e f told c entries =
     sits_traded old new seat seat' h same e
     (told ∙ with_batch_known old seat t b h ∙ ap (λ (a : Batch). after_trade old.known t a) (sym c) ∙ sym entries) f
 told_on_ok (Err x) old new seat seat' t b copy h same e f told c entries = tt
+
+pub accepted_after : (s : Search) (seat seat' : Seat) (t : Traded) (b copy : Batch) → Sits s seat → seat'.problem ≡ seat.problem → seat'.told ≡ with_batch seat t b → copy ≡ b → IsAccepted seat'.problem seat'.told → IsAccepted s.known.problem (after_trade s.known t copy)
+accepted_after s seat seat' t b copy sits same told c h =
+    rw c
+    (subst (λ (log : List Entry). IsAccepted s.known.problem log) (told ∙ with_batch_known s seat t b sits)
+    (subst (λ (p : Instance). IsAccepted p seat'.told) (same ∙ sits.same_problem) h))

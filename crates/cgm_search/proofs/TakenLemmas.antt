@@ -35,7 +35,7 @@ use Rattle.cgm_search.specs.Trading.{HasLanded}
 use Rattle.cgm_search.proofs.Absorbing.{next_atoms_known}
 use Rattle.cgm_search.proofs.Keeping.{last_named}
 use Rattle.cgm_trail.specs.Steps.{IsGiven}
-use Rattle.cgm_trail.specs.TrailState.{IsOpenIn, TrailState, box_of, cut_trail}
+use Rattle.cgm_trail.specs.TrailState.{IsOpenIn, TrailState, box_of, cut_trail, level_of}
 
 -- ---- a proper batch
 
@@ -195,3 +195,11 @@ pub given_after_cut : (t : TrailState) (l : Learned) (a : Atom) → length (box_
 given_after_cut t l a even unit last =
     let there : l.clause.atoms ≢ [] = λ none. not_empty last.0 a (sym last.1 ∙ none) in
     given_by_unit (box_of (cut_trail l.level t)) l.clause a even (unit there).1 last
+
+-- its level is less than the trail's, and its last atom is open after the cut
+pub open_after_cut : (t : TrailState) (l : Learned) (a : Atom) → IsUnitAfterCut t l → (others : List Atom) × (l.clause.atoms ≡ others ++ a ∷ []) → (l.level < level_of t.changes) × IsOpenIn (box_of (cut_trail l.level t)) a
+open_after_cut t l a unit last =
+    let there : l.clause.atoms ≢ [] = λ none. not_empty last.0 a (sym last.1 ∙ none) in
+    let found = unit there in
+    let same = same_last last.0 found.1.others a found.1.last (sym last.1 ∙ found.1.parts) in
+    (found.0, subst (λ (x : Atom). IsOpenIn (box_of (cut_trail l.level t)) x) (sym same.1) found.1.open_last)

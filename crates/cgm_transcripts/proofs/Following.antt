@@ -1,0 +1,21 @@
+-- Bytes that are spelled one after another.
+use Rattle.std.proofs.Common.{◌≡◌, ℕ, List, [], ◌∷◌, ◌++◌, refl, sym, ap, append_assoc}
+use Rattle.std.specs.Prelude.{Option, Some, None}
+use Rattle.cgm_transcripts.specs.Content.{bytes_followed, after_byte}
+
+-- a byte after bytes is the last one of them
+pub followed-after_byte : (front : List ℕ) (byte : ℕ) (rest : Option (List ℕ))
+    → bytes_followed (Some front) (after_byte (Some byte) rest) ≡ bytes_followed (Some (front ++ byte ∷ [])) rest
+followed-after_byte front byte None = refl
+followed-after_byte front byte (Some more) = ap Some (sym (append_assoc front (byte ∷ []) more))
+
+-- no bytes before
+pub followed-nothing : (rest : Option (List ℕ)) → bytes_followed (Some []) rest ≡ rest
+followed-nothing None = refl
+followed-nothing (Some more) = refl
+
+-- bytes after bytes, all before the rest
+pub followed-append : (front more : List ℕ) (rest : Option (List ℕ))
+    → bytes_followed (Some front) (bytes_followed (Some more) rest) ≡ bytes_followed (Some (front ++ more)) rest
+followed-append front more None = refl
+followed-append front more (Some last) = ap Some (sym (append_assoc front more last))

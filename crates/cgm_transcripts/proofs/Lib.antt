@@ -1,0 +1,3 @@
+mod ContentLines
+mod EachItem
+mod Following

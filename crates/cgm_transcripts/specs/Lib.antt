@@ -1,0 +1,5 @@
+pub mod Agreement
+pub mod Content
+pub mod Ending
+pub mod Flaws
+pub mod Folder

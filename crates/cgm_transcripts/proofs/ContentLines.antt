@@ -16,7 +16,7 @@ pub content_step : (front more line : List ℕ) (rest : List (List ℕ)) → lin
 content_step front more line rest found =
     ap (λ first. bytes_followed (Some front) (bytes_followed first (content_bytes rest))) found ∙ followed-append front more (content_bytes rest)
 
--- a line that spells nothing leaves no content_bytes
+-- a line that spells nothing leaves no content
 pub content_flaw : (front line : List ℕ) (rest : List (List ℕ)) → line_bytes line (is_nothing rest) ≡ None
     → bytes_followed (Some front) (content_bytes (line ∷ rest)) ≡ None
 content_flaw front line rest flaw = ap (λ first. bytes_followed (Some front) (bytes_followed first (content_bytes rest))) flaw
@@ -54,7 +54,7 @@ content_at_line f xs i d front now inside (more, (found, grown)) =
     ∙ content_step front more (f (get_or xs i d)) (map f (drop (i + 1) xs)) (ap (line_bytes (f (get_or xs i d))) (nothing_after f xs i inside) ∙ found)
     ∙ ap (λ bytes. bytes_followed (Some bytes) (content_bytes (map f (drop (i + 1) xs)))) (sym grown)
 
--- the line at a place that spells nothing leaves no content_bytes
+-- the line at a place that spells nothing leaves no content
 pub content_at_flaw : {A : Type 0} (f : A → List ℕ) (xs : List A) (i : ℕ) (d : A) (front : List ℕ)
     → i < length xs → line_bytes (f (get_or xs i d)) (nat_eq (i + 1) (length xs)) ≡ None
     → bytes_followed (Some front) (content_bytes (map f (drop i xs))) ≡ None

@@ -1,4 +1,4 @@
--- The bytes that content_bytes lines spell.
+-- The bytes that content lines spell.
 use Rattle.std.specs.Prelude.{ℕ, ◌+◌, ◌-◌, ◌*◌, ◌%◌, ◌==◌, nat_le, Bool, true, false, ◌&&◌, List, [], ◌∷◌, ◌++◌, length, take, reverse, take_while, Option, Some, None, option_and_then, option_map, if◌then◌else◌}
 
 -- a printable byte of ASCII, which may stand for itself; a backslash is looked at before
@@ -53,7 +53,7 @@ abbrev mutual
 abbrev pub is_open : List ℕ → Bool
 is_open line = length (take_while (λ byte. byte == 92) (reverse line)) % 2 == 1
 
--- the bytes of a content_bytes line, with its line feed or, of an open last line, without
+-- the bytes of a content line, with its line feed or, of an open last line, without
 abbrev pub line_bytes : List ℕ → Bool → Option (List ℕ)
 line_bytes line is_last =
     if is_open line then (if is_last then unescaped (take (length line - 1) line) else None)
@@ -63,7 +63,7 @@ abbrev pub is_nothing : List (List ℕ) → Bool
 is_nothing [] = true
 is_nothing (_ ∷ _) = false
 
--- the bytes of content_bytes lines together
+-- the bytes of content lines together
 abbrev pub content_bytes : List (List ℕ) → Option (List ℕ)
 content_bytes [] = Some []
 content_bytes (line ∷ more) = bytes_followed (line_bytes line (is_nothing more)) (content_bytes more)

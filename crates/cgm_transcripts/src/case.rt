@@ -3,16 +3,16 @@ ghost use Rattle.std.specs.Prelude.{IfOk, ◌≤◌};
 
 /// A case of a transcript.
 #[derive(Drop)]
-pub(crate) struct Case {
-    pub(crate) name: String,
-    pub(crate) steps: Vec<Step>,
+pub(crate) struct Case<'a> {
+    pub(crate) name: &'a str,
+    pub(crate) steps: Vec<Step<'a>>,
 }
 
 /// A step of a case.
 #[derive(Drop)]
-pub(crate) enum Step {
+pub(crate) enum Step<'a> {
     /// The folder has this file from here on.
-    File(NamedFile),
+    File(NamedFile<'a>),
     /// The shelf and the sink move at most so many bytes a call from here on.
     Piece(Piece),
     /// A call of the next run fails.
@@ -24,8 +24,8 @@ pub(crate) enum Step {
 }
 
 #[derive(Drop)]
-pub(crate) struct NamedFile {
-    pub(crate) name: String,
+pub(crate) struct NamedFile<'a> {
+    pub(crate) name: &'a str,
     pub(crate) bytes: Vec<u8>,
 }
 
@@ -36,13 +36,20 @@ pub(crate) struct Piece {
     ghost moves: { 1 ≤ size },
 }
 
+/// What a call of a shelf or a sink does.
+#[derive(Clone, Copy)]
+pub(crate) enum Call {
+    Read,
+    Start,
+    Write,
+    Print,
+}
+
 /// The calls of one kind are numbered from 1 on.
 #[derive(Clone, Copy)]
-pub(crate) enum FailingCall {
-    Read(u64),
-    Start(u64),
-    Write(u64),
-    Print(u64),
+pub(crate) struct FailingCall {
+    pub(crate) call: Call,
+    pub(crate) number: u64,
 }
 
 /// A run of the program and what it must give.

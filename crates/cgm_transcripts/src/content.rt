@@ -8,7 +8,7 @@ use crate::escapes::unescape;
 use crate::flaw::{Fault, Flaw};
 use std::alloc::Global;
 
-/// The bytes of content_bytes lines. Each has its line feed, unless a lone backslash takes away the last
+/// The bytes of content lines. Each has its line feed, unless a lone backslash takes away the last
 /// one's.
 pub(crate) fn content_of(alloc: Global, lines: &[Line<'_>]) -> Result<Vec<u8>, Flaw>
     ensures bytes { IfOk result (λ bytes. content_bytes (map (λ line. line.bytes.now) lines.now)

@@ -29,6 +29,24 @@ pub(crate) enum Keyword {
     FailPrint,
 }
 
+const KEYWORDS: &[(&str, Keyword)] = &[
+    ("case", Keyword::Case),
+    ("file", Keyword::File),
+    ("run", Keyword::Run),
+    ("word", Keyword::Word),
+    ("status", Keyword::Status),
+    ("prints", Keyword::Prints),
+    ("begins", Keyword::Begins),
+    ("leaves", Keyword::Leaves),
+    ("missing", Keyword::Missing),
+    ("alone", Keyword::Alone),
+    ("piece", Keyword::Piece),
+    ("fail-read", Keyword::FailRead),
+    ("fail-start", Keyword::FailStart),
+    ("fail-write", Keyword::FailWrite),
+    ("fail-print", Keyword::FailPrint),
+];
+
 /// A directive: what stands after its word and a space, and its content lines.
 #[derive(Drop)]
 pub(crate) struct Directive<'a> {
@@ -111,22 +129,10 @@ pub(crate) fn first_word(bytes: &[u8]) -> (&[u8], &[u8]) {
 }
 
 fn keyword_of(word: &[u8]) -> Option<Keyword> {
-    match word {
-        b"case" => Some(Keyword::Case),
-        b"file" => Some(Keyword::File),
-        b"run" => Some(Keyword::Run),
-        b"word" => Some(Keyword::Word),
-        b"status" => Some(Keyword::Status),
-        b"prints" => Some(Keyword::Prints),
-        b"begins" => Some(Keyword::Begins),
-        b"leaves" => Some(Keyword::Leaves),
-        b"missing" => Some(Keyword::Missing),
-        b"alone" => Some(Keyword::Alone),
-        b"piece" => Some(Keyword::Piece),
-        b"fail-read" => Some(Keyword::FailRead),
-        b"fail-start" => Some(Keyword::FailStart),
-        b"fail-write" => Some(Keyword::FailWrite),
-        b"fail-print" => Some(Keyword::FailPrint),
-        _ => None,
+    for (name, keyword) in KEYWORDS {
+        if word == name.as_bytes() {
+            return Some(*keyword);
+        }
     }
+    None
 }

@@ -147,11 +147,14 @@ pub(crate) fn spell(text: &mut String, bytes: &[u8]) -> Result<(), AllocError> {
 
 fn spell_byte(text: &mut String, byte: u8) -> Result<(), AllocError> {
     match byte {
-        b'\\' => text.push_str("\\\\")?,
-        b'\t' => text.push_str("\\t")?,
-        b'\r' => text.push_str("\\r")?,
-        32..=126 => text.push(byte as char)?,
-        _ => write!(text, "\\x{byte:02x}")?,
+        b'\\' => text.push_str("\\\\"),
+        b'\t' => text.push_str("\\t"),
+        b'\r' => text.push_str("\\r"),
+        32..=126 => text.push(byte as char),
+        _ => spell_number(text, byte),
     }
-    Ok(())
+}
+
+fn spell_number(text: &mut String, byte: u8) -> Result<(), AllocError> {
+    write!(text, "\\x{byte:02x}")
 }

@@ -5,7 +5,7 @@ ghost use Rattle.cgm_transcripts.specs.declared.flaw.Flaw.TheVariants as flaws;
 use std::alloc::{AllocError, AllocFailed};
 
 /// What is wrong with a line.
-#[derive(Clone, Copy, Debug, PartialEq, Eq)]
+#[derive(Clone, Copy)]
 pub(crate) enum Fault {
     NoDirective,
     NoContentHere,
@@ -48,7 +48,7 @@ impl Fault {
 }
 
 /// Why a transcript can't be read.
-#[derive(Clone, Copy, Debug, PartialEq, Eq)]
+#[derive(Clone, Copy)]
 pub(crate) enum Flaw {
     /// It isn't of the form, at this line.
     Form { line: u64, fault: Fault },

@@ -9,7 +9,7 @@ use std::alloc::{AllocError, Global};
 /// How many bytes a call of a shelf moves at most where nothing else is said.
 pub(crate) const LARGE: usize = 1 << 30;
 
-/// Files in memory, and their names. A name may stand twice.
+/// Files in memory, their names, and names that a run may make files of. A name may stand twice.
 #[derive(Drop)]
 pub(crate) struct Folder {
     alloc: Global,
@@ -32,7 +32,7 @@ impl Folder {
     pub(crate) fn set(&mut self, name: &str, bytes: &[u8]) -> Result<(), AllocError>
         ensures { OnOk result (OnlyChanges (files_of self.old) (files_of self.new) name.now bytes.now) }
     {
-        self.names.push(String::from_str(self.alloc, name)?)?;
+        add_name(self.alloc, &mut self.names, name)?;
         self.held.put(name, bytes)
     }
 
@@ -43,47 +43,47 @@ impl Folder {
         self.held.bytes(name)
     }
 
+    /// The names of the files, and others that were added.
+    pub(crate) fn names(&self) -> &[String] {
+        self.names.as_slice()
+    }
+
+    /// Adds the names that words may give: each word, and what stands after its first `=`.
+    pub(crate) fn add_names(&mut self, words: &[String]) -> Result<(), AllocError> {
+        for word in words {
+            add_name(self.alloc, &mut self.names, word.as_str())?;
+            match word.as_str().split_once('=') {
+                Some((_, name)) => add_name(self.alloc, &mut self.names, name)?,
+                None => {}
+            }
+        }
+        Ok(())
+    }
+
     /// Puts all files onto a shelf.
     pub(crate) fn put_all(&self, shelf: &mut MemShelf) -> Result<(), AllocError> {
-        for name in &self.names {
-            match self.held.bytes(name.as_str()) {
-                Some(bytes) => shelf.put(name.as_str(), bytes)?,
-                None => {}
-            }
-        }
-        Ok(())
+        put_files(&self.held, self.names.as_slice(), shelf)
     }
 
-    /// Takes the files of these names from a shelf.
-    pub(crate) fn take_all(
-        &mut self,
-        shelf: &MemShelf,
-        names: Vec<String>,
-    ) -> Result<(), AllocError> {
-        for name in &names {
-            match shelf.bytes(name.as_str()) {
-                Some(bytes) => self.held.put(name.as_str(), bytes)?,
-                None => {}
-            }
-        }
-        self.names = names;
-        Ok(())
+    /// Takes the files of all its names from a shelf.
+    pub(crate) fn take_all(&mut self, shelf: &MemShelf) -> Result<(), AllocError> {
+        put_files(shelf, self.names.as_slice(), &mut self.held)
     }
+}
 
-    /// The names of the files, and those that words may give: each word, and what stands after its
-    /// first `=`.
-    pub(crate) fn names_with(&self, words: &[String]) -> Result<Vec<String>, AllocError> {
-        let mut names = Vec::new(self.alloc);
-        for name in &self.names {
-            names.push(String::from_str(self.alloc, name.as_str())?)?;
+fn add_name(alloc: Global, names: &mut Vec<String>, name: &str) -> Result<(), AllocError> {
+    let name = String::from_str(alloc, name)?;
+    names.push(name)?;
+    Ok(())
+}
+
+/// Puts the files of these names from one shelf onto another.
+fn put_files(from: &MemShelf, names: &[String], onto: &mut MemShelf) -> Result<(), AllocError> {
+    for name in names {
+        match from.bytes(name.as_str()) {
+            Some(bytes) => onto.put(name.as_str(), bytes)?,
+            None => {}
         }
-        for word in words {
-            names.push(String::from_str(self.alloc, word.as_str())?)?;
-            match word.as_str().split_once('=') {
-                Some((_, name)) => names.push(String::from_str(self.alloc, name)?)?,
-                None => {}
-            }
-        }
-        Ok(names)
     }
+    Ok(())
 }

@@ -1,8 +1,8 @@
 //! The transcripts of the folder in which the program runs.
 use crate::request::Request;
 use crate::stop::Stop;
-use std::alloc::Global;
-use std::fs::read_dir;
+use std::alloc::{AllocError, Global};
+use std::fs::{DirEntry, read_dir};
 use std::io;
 use std::rt::Files;
 
@@ -12,42 +12,59 @@ pub(crate) fn take_folder<R: Files + AllocGlobal + Clone + Drop>(
     rt: &R,
     request: &mut Request,
 ) -> Result<(), Stop> {
-    request.files = texts_in(rt, ".", "")?;
-    request.wrong = texts_in(rt, "wrong", "wrong/")?;
-    request.broken = texts_in(rt, "broken", "broken/")?;
-    Ok(())
+    take_texts(rt, ".", "", &mut request.files)?;
+    take_texts(rt, "wrong", "wrong/", &mut request.wrong)?;
+    take_texts(rt, "broken", "broken/", &mut request.broken)
 }
 
-/// The names of a folder's texts behind a front, in their order.
-fn texts_in<R: Files + AllocGlobal + Clone + Drop>(
+/// Adds the names of a folder's texts behind a front, and brings the names into their order.
+fn take_texts<R: Files + AllocGlobal + Clone + Drop>(
     rt: &R,
     folder: &str,
     front: &str,
-) -> Result<Vec<String>, Stop> {
-    match list_texts(rt, folder, front) {
-        Ok(names) => Ok(names),
+    names: &mut Vec<String>,
+) -> Result<(), Stop> {
+    match add_texts(rt, folder, front, names) {
+        Ok(()) => {
+            names.sort()?;
+            Ok(())
+        }
         Err(_) => Err(Stop::NoFolder),
     }
 }
 
-fn list_texts<R: Files + AllocGlobal + Clone + Drop>(
+fn add_texts<R: Files + AllocGlobal + Clone + Drop>(
     rt: &R,
     folder: &str,
     front: &str,
-) -> io::Result<Vec<String>> {
-    let mut names = Vec::new(rt.alloc());
+    names: &mut Vec<String>,
+) -> io::Result<()> {
     for entry in read_dir(rt, folder)? {
-        let entry = entry?;
-        add_text(rt.alloc(), &mut names, front, entry.file_name())?;
+        add_entry(rt.alloc(), names, front, entry?)?;
     }
-    names.sort()?;
-    Ok(names)
+    Ok(())
+}
+
+fn add_entry<R: Files + AllocGlobal + Clone + Drop>(
+    alloc: Global,
+    names: &mut Vec<String>,
+    front: &str,
+    entry: DirEntry<R>,
+) -> Result<(), AllocError> {
+    add_text(alloc, names, front, entry.file_name())
 }
 
 /// Adds a file's name behind a front, where it is that of a text.
-fn add_text(alloc: Global, names: &mut Vec<String>, front: &str, name: &str) -> io::Result<()> {
-    if name.ends_with(".txt") {
-        names.push(format!(in alloc; "{front}{name}")?)?;
+fn add_text(
+    alloc: Global,
+    names: &mut Vec<String>,
+    front: &str,
+    name: &str,
+) -> Result<(), AllocError> {
+    if !name.ends_with(".txt") {
+        return Ok(());
     }
+    let text = format!(in alloc; "{front}{name}")?;
+    names.push(text)?;
     Ok(())
 }

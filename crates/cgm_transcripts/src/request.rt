@@ -36,51 +36,79 @@ impl Request {
         self.files.is_empty() && self.wrong.is_empty() && self.broken.is_empty()
     }
 
-    fn add(&mut self, group: Group, name: String) -> Result<(), Stop> {
+    /// The names of a group.
+    fn names_of(&mut self, group: Group) -> &mut Vec<String> {
         match group {
-            Group::Files => self.files.push(name)?,
-            Group::Wrong => self.wrong.push(name)?,
-            Group::Broken => self.broken.push(name)?,
+            Group::Files => &mut self.files,
+            Group::Wrong => &mut self.wrong,
+            Group::Broken => &mut self.broken,
         }
+    }
+
+    /// Adds a word that names a file.
+    fn add(&mut self, alloc: Global, group: Group, word: &str) -> Result<(), Stop> {
+        if word.starts_with("--") {
+            return Err(Stop::Usage);
+        }
+        let name = String::from_str(alloc, word)?;
+        self.names_of(group).push(name)?;
         Ok(())
     }
 }
 
-/// What the words ask for.
-pub(crate) fn request_of(alloc: Global, words: &[String]) -> Result<Request, Stop> {
-    let mut request = Request::new(alloc);
+/// Asks for what the words say.
+pub(crate) fn take_words(
+    alloc: Global,
+    words: &[String],
+    request: &mut Request,
+) -> Result<(), Stop> {
     let mut group = Group::Files;
     let mut left = words;
     while let Some((word, after)) = left.split_first() {
         left = after;
-        match word.as_str() {
-            "--wrong" => group = Group::Wrong,
-            "--broken" => group = Group::Broken,
-            "--only" => {
-                let (name, rest) = only_name(alloc, after)?;
-                request.only = Some(name);
-                left = rest;
+        match group_of(word.as_str()) {
+            Some(next) => group = next,
+            None => {
+                if word.as_str() == "--only" {
+                    left = take_only(alloc, after, request)?;
+                } else {
+                    request.add(alloc, group, word.as_str())?;
+                }
             }
-            name => request.add(group, file_name(alloc, name)?)?,
         }
     }
-    Ok(request)
+    Ok(())
 }
 
-/// The word after `--only`, and what is left.
-fn only_name(alloc: Global, words: &[String]) -> Result<(String, &[String]), Stop>
-    ensures { IfOk result (λ parts. length parts.1.now ≤ length words.now) }
+/// The group that a word begins.
+fn group_of(word: &str) -> Option<Group> {
+    if word == "--wrong" {
+        Some(Group::Wrong)
+    } else if word == "--broken" {
+        Some(Group::Broken)
+    } else {
+        None
+    }
+}
+
+/// Asks only for the cases of the name that stands after `--only`. What is left stands after it.
+fn take_only<'w>(
+    alloc: Global,
+    words: &'w [String],
+    request: &mut Request,
+) -> Result<&'w [String], Stop>
+    ensures { IfOk result (λ rest. length rest.now ≤ length words.now) }
 {
     match words.split_first() {
-        Some((name, rest)) => Ok((String::from_str(alloc, name.as_str())?, rest)),
+        Some((name, rest)) => {
+            request.only = Some(String::from_str(alloc, name.as_str())?);
+            Ok(rest)
+        }
         None => Err(Stop::Usage),
     }
 }
 
-/// A word that names a file.
-fn file_name(alloc: Global, word: &str) -> Result<String, Stop> {
-    if word.starts_with("--") {
-        return Err(Stop::Usage);
-    }
-    Ok(String::from_str(alloc, word)?)
+/// Gives the memory of a request back.
+pub(crate) fn discard(request: Request) {
+    let _gone = request;
 }

@@ -7,7 +7,7 @@ use crate::directive::{Directive, Keyword};
 use crate::escapes::unescape;
 use crate::flaw::{Fault, Flaw};
 use crate::values::{name_of, no_content, no_text, number_of, text_of};
-use std::alloc::Global;
+use std::alloc::{AllocError, Global};
 
 /// The run of a directive `run` at this place and of those that belong to it, and the place after them.
 pub(crate) fn run_of(
@@ -20,10 +20,12 @@ pub(crate) fn run_of(
 {
     let line = directives[first].line;
     no_content(&directives[first])?;
-    let (words, at) = words_of(alloc, directives, first)?;
+    let mut words = Vec::new(alloc);
+    let at = add_words(alloc, directives, first, &mut words)?;
     let status = status_of(directives, at, line)?;
     let output = output_of(alloc, directives, at + 1, line)?;
-    let (files, after) = files_of(alloc, directives, at + 2)?;
+    let mut files = Vec::new(alloc);
+    let after = add_files(alloc, directives, at + 2, &mut files)?;
     let run = Run {
         line,
         words,
@@ -34,58 +36,68 @@ pub(crate) fn run_of(
     Ok((run, after))
 }
 
-/// The words of a run, those of its own line or else those of the lines `word` that follow, and the
-/// place after them.
-fn words_of(
+/// Adds the words of a run, those of its own line or else those of the lines `word` that follow. The
+/// place after them is answered.
+fn add_words(
     alloc: Global,
     directives: &[Directive<'_>],
     first: usize,
-) -> Result<(Vec<String>, usize), Flaw>
+    words: &mut Vec<String>,
+) -> Result<usize, Flaw>
     requires { first < length directives.now }
-    ensures { IfOk result (λ read. (first < read.1) × (read.1 ≤ length directives.now)) }
+    ensures { IfOk result (λ after. (first < after) × (after ≤ length directives.now)) }
 {
     let directive = &directives[first];
     if directive.rest.is_empty() {
-        return word_lines_of(alloc, directives, first + 1);
+        return add_word_lines(alloc, directives, first + 1, words);
     }
-    let words = words_in(alloc, directive.line, directive.rest)?;
-    Ok((words, first + 1))
+    add_parted(alloc, directive.line, directive.rest, words)?;
+    Ok(first + 1)
 }
 
-/// The words of a line, which single spaces part.
-fn words_in(alloc: Global, line: u64, bytes: &[u8]) -> Result<Vec<String>, Flaw> {
-    let mut words = Vec::new(alloc);
+/// Adds the words of a line, which single spaces part.
+fn add_parted(alloc: Global, line: u64, bytes: &[u8], words: &mut Vec<String>) -> Result<(), Flaw> {
     for word in bytes.split(|byte| *byte == b' ') {
-        words.push(text_of(alloc, line, word)?)?;
+        add_word(alloc, line, word, words)?;
     }
-    Ok(words)
+    Ok(())
 }
 
-/// The words of the lines `word` from a place on, and the place after them.
-fn word_lines_of(
+fn add_word(alloc: Global, line: u64, bytes: &[u8], words: &mut Vec<String>) -> Result<(), Flaw> {
+    let word = String::from_str(alloc, text_of(line, bytes)?)?;
+    words.push(word)?;
+    Ok(())
+}
+
+/// Adds the words of the lines `word` from a place on. The place after them is answered.
+fn add_word_lines(
     alloc: Global,
     directives: &[Directive<'_>],
     from: usize,
-) -> Result<(Vec<String>, usize), Flaw>
+    words: &mut Vec<String>,
+) -> Result<usize, Flaw>
     requires { from ≤ length directives.now }
-    ensures { IfOk result (λ read. (from ≤ read.1) × (read.1 ≤ length directives.now)) }
+    ensures { IfOk result (λ after. (from ≤ after) × (after ≤ length directives.now)) }
 {
-    let mut words = Vec::new(alloc);
     for at in from..directives.len() {
         let directive = &directives[at];
         if directive.keyword != Keyword::Word {
-            return Ok((words, at));
+            return Ok(at);
         }
-        words.push(word_of(alloc, directive)?)?;
+        add_word_line(alloc, directive, words)?;
     }
-    Ok((words, directives.len()))
+    Ok(directives.len())
 }
 
-/// The word of a line `word`.
-fn word_of(alloc: Global, directive: &Directive<'_>) -> Result<String, Flaw> {
+/// Adds the word of a line `word`.
+fn add_word_line(
+    alloc: Global,
+    directive: &Directive<'_>,
+    words: &mut Vec<String>,
+) -> Result<(), Flaw> {
     no_content(directive)?;
     match unescape(alloc, directive.rest)? {
-        Some(bytes) => text_of(alloc, directive.line, bytes.as_slice()),
+        Some(bytes) => add_word(alloc, directive.line, bytes.as_slice(), words),
         None => Err(Flaw::Form {
             line: directive.line,
             fault: Fault::Escape,
@@ -152,42 +164,53 @@ fn extent_of(keyword: Keyword) -> Option<Extent> {
     }
 }
 
-/// The files that the run must leave, and those that must be missing then, from a place on, and the
-/// place after them.
-fn files_of(
+/// Adds the files that the run must leave, and those that must be missing then, from a place on. The
+/// place after them is answered.
+fn add_files(
     alloc: Global,
     directives: &[Directive<'_>],
     from: usize,
-) -> Result<(Vec<WantedFile>, usize), Flaw>
+    files: &mut Vec<WantedFile>,
+) -> Result<usize, Flaw>
     requires { from ≤ length directives.now }
-    ensures { IfOk result (λ read. (from ≤ read.1) × (read.1 ≤ length directives.now)) }
+    ensures { IfOk result (λ after. (from ≤ after) × (after ≤ length directives.now)) }
 {
-    let mut files = Vec::new(alloc);
     for at in from..directives.len() {
         match file_of(alloc, &directives[at])? {
             Some(file) => files.push(file)?,
-            None => return Ok((files, at)),
+            None => return Ok(at),
         }
     }
-    Ok((files, directives.len()))
+    Ok(directives.len())
 }
 
 /// The file that a directive wants to be left or to be missing, or none of another directive.
 fn file_of(alloc: Global, directive: &Directive<'_>) -> Result<Option<WantedFile>, Flaw> {
     match directive.keyword {
-        Keyword::Leaves => {
-            let name = name_of(alloc, directive)?;
-            let bytes = content_of(alloc, directive.content.as_slice())?;
-            Ok(Some(wanted(directive.line, name, Some(bytes))))
-        }
-        Keyword::Missing => {
-            no_content(directive)?;
-            Ok(Some(wanted(directive.line, name_of(alloc, directive)?, None)))
-        }
+        Keyword::Leaves => left_file(alloc, directive),
+        Keyword::Missing => missing_file(alloc, directive),
         _ => Ok(None),
     }
 }
 
-fn wanted(line: u64, name: String, bytes: Option<Vec<u8>>) -> WantedFile {
-    WantedFile { line, name, bytes }
+fn left_file(alloc: Global, directive: &Directive<'_>) -> Result<Option<WantedFile>, Flaw> {
+    let name = name_of(directive)?;
+    let bytes = content_of(alloc, directive.content.as_slice())?;
+    Ok(Some(wanted_file(alloc, directive.line, name, Some(bytes))?))
+}
+
+fn missing_file(alloc: Global, directive: &Directive<'_>) -> Result<Option<WantedFile>, Flaw> {
+    no_content(directive)?;
+    let name = name_of(directive)?;
+    Ok(Some(wanted_file(alloc, directive.line, name, None)?))
+}
+
+fn wanted_file(
+    alloc: Global,
+    line: u64,
+    name: &str,
+    bytes: Option<Vec<u8>>,
+) -> Result<WantedFile, AllocError> {
+    let name = String::from_str(alloc, name)?;
+    Ok(WantedFile { line, name, bytes })
 }

@@ -1,5 +1,5 @@
 //! One case's run.
-use crate::case::{Case, FailingCall, Piece, Run, Step};
+use crate::case::{Call, Case, FailingCall, Piece, Run, Step};
 use crate::comparison::{Ended, first_difference};
 use crate::folder::{Folder, LARGE};
 use crate::program::Program;
@@ -24,16 +24,32 @@ struct Scene {
 pub(crate) fn run_case<P: Program>(
     alloc: Global,
     program: &P,
-    case: &Case,
+    case: &Case<'_>,
 ) -> Result<Option<Told>, AllocError> {
     let mut scene = Scene::new(alloc);
-    for step in &case.steps {
-        match scene.take_step(program, step)? {
-            Some(told) => return Ok(Some(told)),
-            None => {}
-        }
-    }
-    Ok(None)
+    let told = scene.take_steps(program, case.steps.as_slice());
+    discard(scene);
+    told
+}
+
+/// Gives the memory of a scene back.
+fn discard(scene: Scene) {
+    let _gone = scene;
+}
+
+/// Gives the memory of a shelf back.
+fn discard_shelf(shelf: MemShelf) {
+    let _gone = shelf;
+}
+
+/// Gives the memory of a sink back.
+fn discard_sink(sink: MemSink) {
+    let _gone = sink;
+}
+
+fn add_number(numbers: &mut Vec<u64>, number: u64) -> Result<(), AllocError> {
+    numbers.push(number)?;
+    Ok(())
 }
 
 impl Scene {
@@ -48,14 +64,29 @@ impl Scene {
         }
     }
 
+    /// Takes steps up to the first difference, and tells that one.
+    fn take_steps<P: Program>(
+        &mut self,
+        program: &P,
+        steps: &[Step<'_>],
+    ) -> Result<Option<Told>, AllocError> {
+        for step in steps {
+            match self.take_step(program, step) {
+                Ok(None) => {}
+                told => return told,
+            }
+        }
+        Ok(None)
+    }
+
     fn take_step<P: Program>(
         &mut self,
         program: &P,
-        step: &Step,
+        step: &Step<'_>,
     ) -> Result<Option<Told>, AllocError> {
         match step {
             Step::Run(run) => return self.play(program, run),
-            Step::File(file) => self.folder.set(file.name.as_str(), file.bytes.as_slice())?,
+            Step::File(file) => self.folder.set(file.name, file.bytes.as_slice())?,
             Step::Piece(piece) => self.piece = *piece,
             Step::Fail(call) => self.fail(*call)?,
             Step::Alone => {}
@@ -66,35 +97,36 @@ impl Scene {
     /// Has a call of the next run fail. A shelf in memory numbers starts and appends together, and a
     /// run starts one file at most, before it appends to it. So the start has number 1, there is no
     /// other one that could fail, and append K has number K + 1.
-    fn fail(&mut self, call: FailingCall) -> Result<(), AllocError> {
-        match call {
-            FailingCall::Read(number) => self.failing_reads.push(number)?,
-            FailingCall::Start(1) => self.failing_writes.push(1)?,
-            FailingCall::Start(_) => {}
-            FailingCall::Write(number) => self.failing_writes.push(number.saturating_add(1))?,
-            FailingCall::Print(number) => self.failing_prints.push(number)?,
+    fn fail(&mut self, failing: FailingCall) -> Result<(), AllocError> {
+        let number = failing.number;
+        match failing.call {
+            Call::Read => add_number(&mut self.failing_reads, number),
+            Call::Start => {
+                if number == 1 {
+                    add_number(&mut self.failing_writes, 1)
+                } else {
+                    Ok(())
+                }
+            }
+            Call::Write => add_number(&mut self.failing_writes, number.saturating_add(1)),
+            Call::Print => add_number(&mut self.failing_prints, number),
         }
-        Ok(())
     }
 
-    /// Runs the program over the folder's files, and takes back what it left.
+    /// Runs the program over the folder's files, and tells what differs first.
     fn play<P: Program>(&mut self, program: &P, run: &Run) -> Result<Option<Told>, AllocError> {
-        let mut shelf = self.next_shelf()?;
-        let mut sink = self.next_sink();
-        let status = program.run(self.alloc, run.words.as_slice(), &mut shelf, &mut sink);
-        let names = self.folder.names_with(run.words.as_slice())?;
-        let told = self.judge(run, status, &sink, &shelf, names.as_slice())?;
-        self.folder.take_all(&shelf, names)?;
-        Ok(told)
+        self.folder.add_names(run.words.as_slice())?;
+        let mut shelf = self.next_shelf();
+        let told = self.play_over(program, run, &mut shelf);
+        discard_shelf(shelf);
+        told
     }
 
-    /// The shelf of the next run, with the folder's files.
-    fn next_shelf(&mut self) -> Result<MemShelf, AllocError> {
+    /// The shelf of the next run, with no files.
+    fn next_shelf(&mut self) -> MemShelf {
         let reads = mem::replace(&mut self.failing_reads, Vec::new(self.alloc));
         let writes = mem::replace(&mut self.failing_writes, Vec::new(self.alloc));
-        let mut shelf = MemShelf::new(self.alloc, self.piece.size, reads, writes);
-        self.folder.put_all(&mut shelf)?;
-        Ok(shelf)
+        MemShelf::new(self.alloc, self.piece.size, reads, writes)
     }
 
     /// The sink of the next run.
@@ -103,19 +135,49 @@ impl Scene {
         MemSink::new(self.alloc, self.piece.size, prints)
     }
 
-    /// Tells what differs first of a run.
+    /// Puts the folder's files onto the shelf, and runs the program over it.
+    fn play_over<P: Program>(
+        &mut self,
+        program: &P,
+        run: &Run,
+        shelf: &mut MemShelf,
+    ) -> Result<Option<Told>, AllocError> {
+        self.folder.put_all(shelf)?;
+        let mut sink = self.next_sink();
+        let status = program.run(self.alloc, run.words.as_slice(), shelf, &mut sink);
+        let told = self.judge(run, status, sink.written(), shelf);
+        discard_sink(sink);
+        told
+    }
+
+    /// Tells what differs first of a run. Where nothing does, the folder takes what the run left.
     fn judge(
+        &mut self,
+        run: &Run,
+        status: Status,
+        printed: &[u8],
+        shelf: &MemShelf,
+    ) -> Result<Option<Told>, AllocError> {
+        match self.difference(run, status, printed, shelf) {
+            Ok(None) => {
+                self.folder.take_all(shelf)?;
+                Ok(None)
+            }
+            told => told,
+        }
+    }
+
+    fn difference(
         &self,
         run: &Run,
         status: Status,
-        sink: &MemSink,
+        printed: &[u8],
         shelf: &MemShelf,
-        names: &[String],
     ) -> Result<Option<Told>, AllocError> {
         let ended = Ended {
             status,
-            printed: sink.written(),
-            names,
+            printed,
+            names: self.folder.names(),
             before: &self.folder,
             after: shelf,
         };

@@ -49,16 +49,22 @@ fn tell_output(alloc: Global, run: &Run, ended: &Ended<'_>) -> Result<Told, Allo
 }
 
 fn tell_file(alloc: Global, file: &WantedFile, shelf: &MemShelf) -> Result<Told, AllocError> {
-    let name = file.name.as_str();
-    let text = match (&file.bytes, shelf.bytes(name)) {
-        (Some(wanted), Some(came)) => tell_bytes(alloc, name, wanted.as_slice(), came)?,
-        (Some(_), None) => format!(in alloc; "{name} is wanted, and isn't there")?,
-        _ => format!(in alloc; "{name} is there, and no file is wanted")?,
-    };
+    let text = file_text(alloc, file, shelf.bytes(file.name.as_str()))?;
     Ok(Told {
         line: file.line,
         text,
     })
+}
+
+fn file_text(alloc: Global, file: &WantedFile, came: Option<&[u8]>) -> Result<String, AllocError> {
+    let name = file.name.as_str();
+    match &file.bytes {
+        Some(wanted) => match came {
+            Some(came) => tell_bytes(alloc, name, wanted.as_slice(), came),
+            None => format!(in alloc; "{name} is wanted, and isn't there"),
+        },
+        None => format!(in alloc; "{name} is there, and no file is wanted"),
+    }
 }
 
 fn tell_changed(alloc: Global, line: u64, name: &str) -> Result<Told, AllocError> {
@@ -72,10 +78,23 @@ fn tell_bytes(alloc: Global, what: &str, wanted: &[u8], came: &[u8]) -> Result<S
     let start = last_line_start(same);
     let number = feeds_in(same).saturating_add(1);
     let mut text = format!(in alloc; "{what} differs in its line {number}: wanted ")?;
-    spell_line(&mut text, wanted, start)?;
-    text.push_str(", came ")?;
-    spell_line(&mut text, came, start)?;
+    spell_lines(&mut text, wanted, came, start)?;
     Ok(text)
+}
+
+/// Spells the lines of both that begin at a place.
+fn spell_lines(
+    text: &mut String,
+    wanted: &[u8],
+    came: &[u8],
+    start: usize,
+) -> Result<(), AllocError>
+    requires wanted { start ≤ length wanted.now }
+    requires came { start ≤ length came.now }
+{
+    spell_line(text, wanted, start)?;
+    text.push_str(", came ")?;
+    spell_line(text, came, start)
 }
 
 /// How many bytes at the front are the same.
@@ -112,15 +131,19 @@ fn spell_line(text: &mut String, bytes: &[u8], start: usize) -> Result<(), Alloc
 {
     let (_, rest) = bytes.split_at(start);
     text.push('\'')?;
-    match rest.iter().position(|byte| *byte == b'\n') {
+    spell_first_line(text, rest)?;
+    text.push('\'')
+}
+
+fn spell_first_line(text: &mut String, bytes: &[u8]) -> Result<(), AllocError> {
+    match bytes.iter().position(|byte| *byte == b'\n') {
         Some(end) => {
-            let (line, _) = rest.split_at(end);
-            spell(text, line)?;
+            let (line, _) = bytes.split_at(end);
+            spell(text, line)
         }
         None => {
-            spell(text, rest)?;
-            text.push('\\')?;
+            spell(text, bytes)?;
+            text.push('\\')
         }
     }
-    text.push('\'')
 }

@@ -5,11 +5,12 @@ use crate::ending::{Ending, Tally, ending_of};
 use crate::flaw::Flaw;
 use crate::listing::take_folder;
 use crate::program::Program;
-use crate::request::{Request, request_of};
+use crate::request::{Request, discard, take_words};
 use crate::scene::run_case;
-use crate::stop::{Stop, form_text, print_stop};
+use crate::stop::{Stop, print_stop};
+use crate::telling::Told;
 use cgm_shelf::{ReadStop, Shelf, Sink, read_whole, write_whole};
-use std::alloc::Global;
+use std::alloc::{AllocError, Global};
 use std::rt::Files;
 
 /// Runs a program on the cases that the words ask for, prints each that differs and the counts, and
@@ -21,27 +22,32 @@ pub fn run_transcripts<R: Files + AllocGlobal + Clone + Drop, P: Program, F: She
     shelf: &mut F,
     out: &mut O,
 ) -> Ending {
-    match answer(rt, program, words, shelf, out) {
+    let mut request = Request::new(rt.alloc());
+    let ending = answer(rt, program, words, &mut request, shelf, out);
+    discard(request);
+    match ending {
         Ok(ending) => ending,
         Err(stop) => {
-            print_stop(rt.alloc(), out, &stop);
+            print_stop(out, stop);
             Ending::Unfit
         }
     }
 }
 
+/// Asks for what the words say, and runs it.
 fn answer<R: Files + AllocGlobal + Clone + Drop, P: Program, F: Shelf, O: Sink>(
     rt: &R,
     program: &P,
     words: &[String],
+    request: &mut Request,
     shelf: &mut F,
     out: &mut O,
 ) -> Result<Ending, Stop> {
-    let mut request = request_of(rt.alloc(), words)?;
+    take_words(rt.alloc(), words, request)?;
     if request.is_empty() {
-        take_folder(rt, &mut request)?;
+        take_folder(rt, request)?;
     }
-    run_request(rt.alloc(), program, &request, shelf, out)
+    run_request(rt.alloc(), program, request, shelf, out)
 }
 
 fn run_request<P: Program, F: Shelf, O: Sink>(
@@ -84,11 +90,18 @@ fn print_counts<O: Sink>(
 ) -> Result<(), Stop> {
     let all = tally.all();
     let told = tally.told;
-    let line = format!(in alloc; "{all} {what}, {told} {did}\n")?;
-    print(out, line.as_str())
+    print(out, format!(in alloc; "{all} {what}, {told} {did}\n"))
 }
 
-fn print<O: Sink>(out: &mut O, text: &str) -> Result<(), Stop> {
+/// Prints a line, where there was memory for it.
+fn print<O: Sink>(out: &mut O, line: Result<String, AllocError>) -> Result<(), Stop> {
+    match line {
+        Ok(line) => print_text(out, line.as_str()),
+        Err(_) => Err(Stop::Memory),
+    }
+}
+
+fn print_text<O: Sink>(out: &mut O, text: &str) -> Result<(), Stop> {
     match write_whole(out, text.as_bytes()) {
         Ok(()) => Ok(()),
         Err(_) => Err(Stop::NoOutput),
@@ -104,23 +117,44 @@ fn refuse_files<F: Shelf, O: Sink>(
 ) -> Result<Tally, Stop> {
     let mut tally = Tally::NONE;
     for name in names {
-        let text = bytes_of(alloc, name.as_str(), shelf)?;
-        let is_told = tell_text(alloc, name.as_str(), text.as_slice(), out)?;
-        tally.count(is_told);
+        tally.count(refuse_file(alloc, name.as_str(), shelf, out)?);
     }
     Ok(tally)
 }
 
-/// Prints at which line a text isn't a transcript, and says whether it isn't one.
-fn tell_text<O: Sink>(alloc: Global, name: &str, text: &[u8], out: &mut O) -> Result<bool, Stop> {
-    match cases_of(alloc, text) {
-        Ok(_) => Ok(false),
-        Err(Flaw::Memory) => Err(Stop::Memory),
-        Err(Flaw::Form { line, fault }) => {
-            let text = form_text(alloc, name, line, fault)?;
-            print(out, text.as_str())?;
+/// Prints at which line a file isn't a transcript, and says whether it isn't one.
+fn refuse_file<F: Shelf, O: Sink>(
+    alloc: Global,
+    name: &str,
+    shelf: &mut F,
+    out: &mut O,
+) -> Result<bool, Stop> {
+    let text = bytes_of(alloc, name, shelf, out)?;
+    match flaw_of(alloc, text.as_slice()) {
+        Some(flaw) => {
+            tell_flaw(alloc, name, flaw, out)?;
             Ok(true)
         }
+        None => Ok(false),
+    }
+}
+
+/// Why a text is no transcript, if it is none.
+fn flaw_of(alloc: Global, text: &[u8]) -> Option<Flaw> {
+    match cases_of(alloc, text) {
+        Ok(_) => None,
+        Err(flaw) => Some(flaw),
+    }
+}
+
+/// Prints why a text is no transcript.
+fn tell_flaw<O: Sink>(alloc: Global, name: &str, flaw: Flaw, out: &mut O) -> Result<(), Stop> {
+    match flaw {
+        Flaw::Form { line, fault } => {
+            let words = fault.words();
+            print(out, format!(in alloc; "{name}: line {line}: {words}\n"))
+        }
+        Flaw::Memory => Err(Stop::Memory),
     }
 }
 
@@ -135,22 +169,61 @@ fn run_files<P: Program, F: Shelf, O: Sink>(
 ) -> Result<Tally, Stop> {
     let mut tally = Tally::NONE;
     for name in names {
-        let text = bytes_of(alloc, name.as_str(), shelf)?;
-        let cases = cases_in(alloc, name.as_str(), text.as_slice())?;
-        for case in &cases {
-            if is_chosen(only, case) {
-                let is_told = tell_case(alloc, program, name.as_str(), case, out)?;
-                tally.count(is_told);
-            }
-        }
+        let text = bytes_of(alloc, name.as_str(), shelf, out)?;
+        run_text(
+            alloc,
+            program,
+            name.as_str(),
+            text.as_slice(),
+            only,
+            out,
+            &mut tally,
+        )?;
     }
     Ok(tally)
 }
 
+/// Runs the cases of a file's text.
+fn run_text<P: Program, O: Sink>(
+    alloc: Global,
+    program: &P,
+    name: &str,
+    text: &[u8],
+    only: &Option<String>,
+    out: &mut O,
+    tally: &mut Tally,
+) -> Result<(), Stop> {
+    match cases_of(alloc, text) {
+        Ok(cases) => run_cases(alloc, program, name, cases.as_slice(), only, out, tally),
+        Err(flaw) => {
+            tell_flaw(alloc, name, flaw, out)?;
+            Err(Stop::Told)
+        }
+    }
+}
+
+/// Runs the chosen cases of a file.
+fn run_cases<P: Program, O: Sink>(
+    alloc: Global,
+    program: &P,
+    name: &str,
+    cases: &[Case<'_>],
+    only: &Option<String>,
+    out: &mut O,
+    tally: &mut Tally,
+) -> Result<(), Stop> {
+    for case in cases {
+        if is_chosen(only, case) {
+            tally.count(tell_case(alloc, program, name, case, out)?);
+        }
+    }
+    Ok(())
+}
+
 /// Whether the case is to be run.
-fn is_chosen(only: &Option<String>, case: &Case) -> bool {
+fn is_chosen(only: &Option<String>, case: &Case<'_>) -> bool {
     match only {
-        Some(name) => case.name.as_str() == name.as_str(),
+        Some(name) => case.name == name.as_str(),
         None => true,
     }
 }
@@ -160,42 +233,51 @@ fn tell_case<P: Program, O: Sink>(
     alloc: Global,
     program: &P,
     file: &str,
-    case: &Case,
+    case: &Case<'_>,
     out: &mut O,
 ) -> Result<bool, Stop> {
-    match run_case(alloc, program, case)? {
-        Some(told) => {
-            let name = case.name.as_str();
-            let line = told.line;
-            let text = told.text.as_str();
-            let line = format!(in alloc; "{file} {name}: line {line}: {text}\n")?;
-            print(out, line.as_str())?;
-            Ok(true)
-        }
-        None => Ok(false),
+    match run_case(alloc, program, case) {
+        Ok(Some(told)) => print_told(alloc, file, case.name, told, out),
+        Ok(None) => Ok(false),
+        Err(_) => Err(Stop::Memory),
     }
+}
+
+/// Prints what differs, which is something.
+fn print_told<O: Sink>(
+    alloc: Global,
+    file: &str,
+    name: &str,
+    told: Told,
+    out: &mut O,
+) -> Result<bool, Stop> {
+    let line = told.line;
+    let text = told.text.as_str();
+    print(
+        out,
+        format!(in alloc; "{file} {name}: line {line}: {text}\n"),
+    )?;
+    Ok(true)
 }
 
 /// The bytes of a file.
-fn bytes_of<F: Shelf>(alloc: Global, name: &str, shelf: &mut F) -> Result<Vec<u8>, Stop> {
+fn bytes_of<F: Shelf, O: Sink>(
+    alloc: Global,
+    name: &str,
+    shelf: &mut F,
+    out: &mut O,
+) -> Result<Vec<u8>, Stop> {
     match read_whole(alloc, shelf, name, None) {
         Ok(bytes) => Ok(bytes),
         Err(ReadStop::Memory) => Err(Stop::Memory),
-        Err(_) => Err(Stop::NoFile {
-            name: String::from_str(alloc, name)?,
-        }),
+        Err(_) => Err(tell_unread(alloc, name, out)),
     }
 }
 
-/// The cases of a file's text.
-fn cases_in(alloc: Global, name: &str, text: &[u8]) -> Result<Vec<Case>, Stop> {
-    match cases_of(alloc, text) {
-        Ok(cases) => Ok(cases),
-        Err(Flaw::Memory) => Err(Stop::Memory),
-        Err(Flaw::Form { line, fault }) => Err(Stop::NoTranscript {
-            name: String::from_str(alloc, name)?,
-            line,
-            fault,
-        }),
+/// Prints that a file can't be read.
+fn tell_unread<O: Sink>(alloc: Global, name: &str, out: &mut O) -> Stop {
+    match print(out, format!(in alloc; "{name} can't be read\n")) {
+        Ok(()) => Stop::Told,
+        Err(stop) => stop,
     }
 }

@@ -3,13 +3,12 @@ ghost use Rattle.std.specs.Prelude.{IfOk, ◌≤◌};
 
 use crate::directive::Directive;
 use crate::flaw::{Fault, Flaw};
-use std::alloc::Global;
 use std::str::from_utf8;
 
 /// The text that these bytes of a line are.
-pub(crate) fn text_of(alloc: Global, line: u64, bytes: &[u8]) -> Result<String, Flaw> {
+pub(crate) fn text_of(line: u64, bytes: &[u8]) -> Result<&str, Flaw> {
     match from_utf8(bytes) {
-        Ok(text) => Ok(String::from_str(alloc, text)?),
+        Ok(text) => Ok(text),
         Err(_) => Err(Flaw::Form {
             line,
             fault: Fault::NotText,
@@ -18,14 +17,14 @@ pub(crate) fn text_of(alloc: Global, line: u64, bytes: &[u8]) -> Result<String, 
 }
 
 /// The name that stands after a directive's word.
-pub(crate) fn name_of(alloc: Global, directive: &Directive<'_>) -> Result<String, Flaw> {
+pub(crate) fn name_of<'a>(directive: &Directive<'a>) -> Result<&'a str, Flaw> {
     if directive.rest.is_empty() {
         return Err(Flaw::Form {
             line: directive.line,
             fault: Fault::NoName,
         });
     }
-    text_of(alloc, directive.line, directive.rest)
+    text_of(directive.line, directive.rest)
 }
 
 /// The number that stands after the word of a directive without content.

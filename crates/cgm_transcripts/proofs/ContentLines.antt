@@ -1,5 +1,5 @@
 -- Content lines one by one.
-use Rattle.std.proofs.Common.{◌≡◌, ℕ, suc, ◌+◌, ◌-◌, ◌<◌, ◌≤◌, false, nat_eq, List, [], ◌∷◌, ◌++◌, length, map, drop, get_or, refl, sym, ap, ◌∙◌, add-one, arith, length-drop}
+use Rattle.std.proofs.Common.{◌≡◌, ℕ, ◌+◌, ◌-◌, ◌<◌, ◌≤◌, Bool, true, nat_eq, List, [], ◌∷◌, ◌++◌, length, map, take, drop, get_or, refl, sym, ap, ◌∙◌, add-one, arith, length-drop}
 use Rattle.std.specs.Prelude.{Some, None}
 use Rattle.std.proofs.Math.Seq.{drop-cons}
 use Rattle.std.proofs.lemmas.List.{length-map}
@@ -7,8 +7,8 @@ use Rattle.std.proofs.lemmas.Bool.Decides.{nat_tests}
 use Rattle.cgm_transcripts.specs.declared.flaw.Flaw.{Flaw}
 use Rattle.cgm_transcripts.specs.declared.flaw.Flaw.TheVariants.{Form, Memory}
 use Rattle.cgm_transcripts.specs.Flaws.{OnForm}
-use Rattle.cgm_transcripts.specs.Content.{bytes_followed, content_bytes, line_bytes, is_nothing}
-use Rattle.cgm_transcripts.proofs.Following.{followed-append}
+use Rattle.cgm_transcripts.specs.Content.{bytes_followed, content_bytes, line_bytes, is_nothing, is_open, unescaped}
+use Rattle.cgm_transcripts.proofs.Following.{followed-append, suc_is_some}
 
 -- a line whose bytes are known comes before the rest
 pub content_step : (front more line : List ℕ) (rest : List (List ℕ)) → line_bytes line (is_nothing rest) ≡ Some more
@@ -25,9 +25,6 @@ content_flaw front line rest flaw = ap (λ first. bytes_followed (Some front) (b
 pub items_from : {A : Type 0} (f : A → List ℕ) (xs : List A) (i : ℕ) (d : A) → i < length xs
     → map f (drop i xs) ≡ f (get_or xs i d) ∷ map f (drop (i + 1) xs)
 items_from f xs i d inside = rw add-one (ap (map f) (drop-cons xs i d inside))
-
-suc_is_some : (n : ℕ) → false ≡ nat_eq (suc n) 0
-suc_is_some n = grind (arith, nat_tests)
 
 nothing_by_length : (ys : List (List ℕ)) → is_nothing ys ≡ nat_eq (length ys) 0
 nothing_by_length [] = refl
@@ -66,3 +63,8 @@ content_at_flaw f xs i d front inside flaw =
 pub on_form : {P Q : Type 0} → (P → Q) → (flaw : Flaw) → OnForm P flaw → OnForm Q flaw
 on_form from (Form line fault) held = from held
 on_form from Memory held = tt
+
+-- an open last line has the bytes before its backslash
+pub open_last : (line : List ℕ) (is_last : Bool) → true ≡ is_open line → is_last ≡ true
+    → line_bytes line is_last ≡ unescaped (take (length line - 1) line)
+open_last line is_last opened last = rw (← opened) (rw last refl)

@@ -13,6 +13,15 @@ use cgm_shelf::{ReadStop, Shelf, Sink, read_whole, write_whole};
 use std::alloc::{AllocError, Global};
 use std::rt::Files;
 
+/// What is counted, and what those that are told did.
+type Counted = (&'static str, &'static str);
+
+const BROKEN: Counted = ("broken texts", "told");
+
+const WRONG: Counted = ("wrong cases", "told");
+
+const CASES: Counted = ("cases", "differ");
+
 /// Runs a program on the cases that the words ask for, prints each that differs and the counts, and
 /// says how it ends.
 pub fn run_transcripts<R: Files + AllocGlobal + Clone + Drop, P: Program, F: Shelf, O: Sink>(
@@ -58,25 +67,24 @@ fn run_request<P: Program, F: Shelf, O: Sink>(
     out: &mut O,
 ) -> Result<Ending, Stop> {
     let broken = refuse_files(alloc, request.broken.as_slice(), shelf, out)?;
-    print_counts(alloc, out, broken, "broken texts", "told")?;
     let wrong = run_files(
         alloc,
         program,
+        WRONG,
         request.wrong.as_slice(),
         &request.only,
         shelf,
         out,
     )?;
-    print_counts(alloc, out, wrong, "wrong cases", "told")?;
     let cases = run_files(
         alloc,
         program,
+        CASES,
         request.files.as_slice(),
         &request.only,
         shelf,
         out,
     )?;
-    print_counts(alloc, out, cases, "cases", "differ")?;
     Ok(ending_of(cases, wrong, broken))
 }
 
@@ -84,13 +92,13 @@ fn run_request<P: Program, F: Shelf, O: Sink>(
 fn print_counts<O: Sink>(
     alloc: Global,
     out: &mut O,
+    (what, did): Counted,
     tally: Tally,
-    what: &str,
-    did: &str,
-) -> Result<(), Stop> {
+) -> Result<Tally, Stop> {
     let all = tally.all();
     let told = tally.told;
-    print(out, format!(in alloc; "{all} {what}, {told} {did}\n"))
+    print(out, format!(in alloc; "{all} {what}, {told} {did}\n"))?;
+    Ok(tally)
 }
 
 /// Prints a line, where there was memory for it.
@@ -108,7 +116,8 @@ fn print_text<O: Sink>(out: &mut O, text: &str) -> Result<(), Stop> {
     }
 }
 
-/// Reads texts that are to be no transcripts, and prints for each at which line it isn't one.
+/// Reads texts that are to be no transcripts, and prints for each at which line it isn't one, and then
+/// their counts.
 fn refuse_files<F: Shelf, O: Sink>(
     alloc: Global,
     names: &[String],
@@ -119,7 +128,7 @@ fn refuse_files<F: Shelf, O: Sink>(
     for name in names {
         tally.count(refuse_file(alloc, name.as_str(), shelf, out)?);
     }
-    Ok(tally)
+    print_counts(alloc, out, BROKEN, tally)
 }
 
 /// Prints at which line a file isn't a transcript, and says whether it isn't one.
@@ -158,10 +167,11 @@ fn tell_flaw<O: Sink>(alloc: Global, name: &str, flaw: Flaw, out: &mut O) -> Res
     }
 }
 
-/// Runs the cases of transcripts, and prints each that differs.
+/// Runs the cases of transcripts, and prints each that differs, and then their counts.
 fn run_files<P: Program, F: Shelf, O: Sink>(
     alloc: Global,
     program: &P,
+    counted: Counted,
     names: &[String],
     only: &Option<String>,
     shelf: &mut F,
@@ -180,7 +190,7 @@ fn run_files<P: Program, F: Shelf, O: Sink>(
             &mut tally,
         )?;
     }
-    Ok(tally)
+    print_counts(alloc, out, counted, tally)
 }
 
 /// Runs the cases of a file's text.

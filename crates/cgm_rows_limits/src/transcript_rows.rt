@@ -1,10 +1,28 @@
-//! Whole runs of the program over transcripts in memory.
-use crate::ending::Ending;
-use crate::program::run_program;
+// Whole runs over transcripts in memory: how they end, and with what their output ends.
+use crate::runs::{owned_words, run_with};
+use cgm_base::Status;
 use cgm_shelf::{MemShelf, MemSink};
+use cgm_trail::Work;
+use cgm_transcripts::{Ending, Program, run_transcripts};
 use std::alloc::{AllocError, Global};
 use std::rt::Files;
 use std::test::Fail;
+
+/// The commands, with one worker.
+struct Commands;
+
+impl Program for Commands {
+    fn run(
+        &self,
+        alloc: Global,
+        words: &[String],
+        shelf: &mut MemShelf,
+        sink: &mut MemSink,
+    ) -> Status {
+        let mut work = Work::new(alloc);
+        run_with(alloc, words, shelf, sink, &mut work)
+    }
+}
 
 /// The transcripts: one whose case agrees, one whose case differs, one with a case of each kind, and
 /// a text that is none.
@@ -26,7 +44,7 @@ const TEXTS: &[(&str, &str)] = &[
 
 const USAGE: &str = "usage: cgm_cases [FILE..] [--wrong FILE..] [--broken FILE..] [--only NAME]\n";
 
-/// Words, how the program ends with them, and with what its output ends.
+/// Words, how they end, and with what their output ends.
 const ROWS: &[(&str, Ending, &str)] = &[
     (
         "good",
@@ -64,16 +82,8 @@ const ROWS: &[(&str, Ending, &str)] = &[
     ("good --no", Ending::Unfit, USAGE),
 ];
 
-fn owned_words(alloc: Global, words: &str) -> Result<Vec<String>, AllocError> {
-    let mut owned = Vec::new(alloc);
-    for word in words.split(' ') {
-        owned.push(String::from_str(alloc, word)?)?;
-    }
-    Ok(owned)
-}
-
 /// A shelf with the transcripts.
-fn shelf_of(alloc: Global) -> Result<MemShelf, AllocError> {
+fn shelf_of_texts(alloc: Global) -> Result<MemShelf, AllocError> {
     let mut shelf = MemShelf::new(alloc, 4096, Vec::new(alloc), Vec::new(alloc));
     for (name, text) in TEXTS {
         shelf.put(name, text.as_bytes())?;
@@ -81,27 +91,43 @@ fn shelf_of(alloc: Global) -> Result<MemShelf, AllocError> {
     Ok(shelf)
 }
 
-/// How the program ends with these words, and whether its output ends with this text.
-fn ends_with<R: Files + AllocGlobal + Clone + Drop>(
+/// Whether these words end so, and their output ends with this text.
+fn is_ended<R: Files + AllocGlobal + Clone + Drop>(
     rt: &R,
     words: &str,
+    ending: Ending,
     printed: &str,
-) -> Result<(Ending, bool), AllocError> {
-    let alloc = rt.alloc();
-    let mut shelf = shelf_of(alloc)?;
-    let mut sink = MemSink::new(alloc, 4096, Vec::new(alloc));
-    let owned = owned_words(alloc, words)?;
-    let ending = run_program(rt, owned.as_slice(), &mut shelf, &mut sink);
-    let does_end = sink.written().ends_with(printed.as_bytes());
-    Ok((ending, does_end))
+) -> Result<bool, AllocError> {
+    let owned = owned_words(rt.alloc(), words)?;
+    is_ended_by(rt, owned.as_slice(), ending, printed)
+}
+
+fn is_ended_by<R: Files + AllocGlobal + Clone + Drop>(
+    rt: &R,
+    words: &[String],
+    ending: Ending,
+    printed: &str,
+) -> Result<bool, AllocError> {
+    let mut shelf = shelf_of_texts(rt.alloc())?;
+    Ok(is_ended_over(rt, words, &mut shelf, ending, printed))
+}
+
+fn is_ended_over<R: Files + AllocGlobal + Clone + Drop>(
+    rt: &R,
+    words: &[String],
+    shelf: &mut MemShelf,
+    ending: Ending,
+    printed: &str,
+) -> bool {
+    let mut sink = MemSink::new(rt.alloc(), 4096, Vec::new(rt.alloc()));
+    let ended = run_transcripts(rt, &Commands, words, shelf, &mut sink);
+    ended == ending && sink.written().ends_with(printed.as_bytes())
 }
 
 #[test]
 fn each_ending(rt: HostRuntime) -> Result<(), Fail> {
     for (words, ending, printed) in ROWS {
-        let (ended, does_end) = ends_with(&rt, words, printed)?;
-        assert!(rt; ended == *ending, "at {words}");
-        assert!(rt; does_end, "at {words}");
+        assert!(rt; is_ended(&rt, words, *ending, printed)?, "at {words}");
     }
     Ok(())
 }

@@ -1,3 +1,0 @@
-mod ContentLines
-mod EachItem
-mod Following

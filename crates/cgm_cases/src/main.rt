@@ -1,30 +1,12 @@
 //! The cases: runs the cases of transcripts over the commands, and tells each that differs.
 #![tactic(auto)]
 
-mod case;
-mod case_reader;
-mod comparison;
-mod content;
-mod directive;
-mod ending;
-mod escapes;
-mod flaw;
-mod folder;
-mod listing;
-mod program;
-mod request;
-mod run_reader;
-mod scene;
-mod stop;
-mod telling;
-#[cfg(test)]
-mod tests;
-mod values;
+mod commands;
 
 use cgm_cli::words_after_name;
 use cgm_shelf::{FileShelf, OutSink};
-use ending::Ending;
-use program::run_program;
+use cgm_transcripts::{Ending, run_transcripts};
+use commands::Commands;
 use std::env;
 use std::process::ExitCode;
 
@@ -32,7 +14,7 @@ fn main(rt: HostRuntime) -> ExitCode {
     let mut shelf = FileShelf::new(&rt);
     let mut out = OutSink::new(&rt);
     let ending = match words_after_name(rt.alloc(), env::args(&rt)) {
-        Ok(words) => run_program(&rt, words.as_slice(), &mut shelf, &mut out),
+        Ok(words) => run_transcripts(&rt, &Commands, words.as_slice(), &mut shelf, &mut out),
         Err(_) => Ending::Unfit,
     };
     ExitCode::from(ending.code())

@@ -12,24 +12,8 @@ type Failing = (u64, u64, u64);
 /// The words of a run, what fails in it, its status, and how many faults the shelf and the sink count.
 type FaultRow = (&'static str, Failing, Status, (u64, u64, u64));
 
-/// The numbers of the calls that fail.
-fn failing(alloc: Global, number: u64) -> Result<Vec<u64>, OutOfMemory> {
-    let mut numbers = Vec::new(alloc);
-    if number > 0 {
-        numbers.push(number)?;
-    }
-    Ok(numbers)
-}
-
-/// A shelf with a model, of whose calls these fail.
-fn failing_shelf(alloc: Global, read: u64, write: u64) -> Result<MemShelf, OutOfMemory> {
-    let reads = failing(alloc, read)?;
-    let mut shelf = MemShelf::new(alloc, 8, reads, failing(alloc, write)?);
-    shelf.put("first.cgm", FIRST.as_bytes())?;
-    Ok(shelf)
-}
-
-/// Whether a run, where these calls fail, ends with this status, and these faults are counted.
+/// Whether a run, where these calls fail, ends with this status, and these faults are counted. Calls
+/// count from 1, so that none has the number 0.
 fn is_counted(
     alloc: Global,
     line: &str,
@@ -37,11 +21,15 @@ fn is_counted(
     status: Status,
     faults: (u64, u64, u64),
 ) -> Result<bool, OutOfMemory> {
-    let mut shelf = failing_shelf(alloc, read, write)?;
-    let sink = MemSink::new(alloc, 8, failing(alloc, print)?);
+    let reads = vec![in alloc; read]?;
+    let writes = vec![in alloc; write]?;
+    let prints = vec![in alloc; print]?;
+    let mut shelf = MemShelf::new(alloc, 8, reads, writes);
+    let sink = MemSink::new(alloc, 8, prints);
     is_counted_by(alloc, line, &mut shelf, sink, status, faults)
 }
 
+/// The same over a shelf, which gets a model.
 fn is_counted_by(
     alloc: Global,
     line: &str,
@@ -50,6 +38,7 @@ fn is_counted_by(
     status: Status,
     faults: (u64, u64, u64),
 ) -> Result<bool, OutOfMemory> {
+    shelf.put("first.cgm", FIRST.as_bytes())?;
     let ended = run_printing(alloc, line, shelf, sink)?;
     Ok(has_counts(&ended, shelf, status, faults))
 }

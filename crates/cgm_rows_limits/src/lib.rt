@@ -1,5 +1,5 @@
-//! Limits that only long texts meet, and counts that no text tells, by the whole program, and the
-//! shelves and sinks by themselves, as tests.
+//! Limits that only long texts meet, and counts that no text tells, by the whole program, how runs over
+//! transcripts end, and the shelves and sinks by themselves, as tests.
 #![tactic(auto)]
 
 #[cfg(test)]
@@ -12,3 +12,5 @@ mod runs;
 mod shelf_rows;
 #[cfg(test)]
 mod texts;
+#[cfg(test)]
+mod transcript_rows;

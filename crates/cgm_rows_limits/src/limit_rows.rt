@@ -31,7 +31,9 @@ fn is_limited(
 }
 
 /// A front, a line behind it, how often it stands there at most, and the fault of one more.
-const REPEATED: &[(&str, &str, u32, &str)] = &[
+type RepeatedRow = (&'static str, &'static str, u32, &'static str);
+
+const REPEATED: &[RepeatedRow] = &[
     (
         "cgm 1\ngoal G\ntask T\nrefine R G : T\n",
         "bind R R\n",
@@ -47,30 +49,30 @@ const REPEATED: &[(&str, &str, u32, &str)] = &[
 ];
 
 /// Whether so many of a line are shown as they are, and one more is told.
-fn is_repeated(
-    alloc: Global,
-    front: &str,
-    line: &str,
-    most: u32,
-    fault: &str,
-) -> Result<bool, OutOfMemory> {
+fn is_repeated(alloc: Global, row: &RepeatedRow) -> Result<bool, OutOfMemory> {
+    let (front, line, most, fault) = *row;
     let mut text = repeated(alloc, front, line, most)?;
     is_limited(alloc, &mut text, line, fault)
 }
 
 #[test]
 fn statements_and_formula_nodes(rt: HostRuntime) -> Result<(), Fail> {
-    for (front, line, most, fault) in REPEATED {
-        assert!(rt;
-            is_repeated(rt.alloc(), front, line, *most, fault)?,
-            "at {fault}"
-        );
+    for row in REPEATED {
+        let fault = row.3;
+        assert!(rt; is_repeated(rt.alloc(), row)?, "at {fault}");
     }
     Ok(())
 }
 
 /// A front, what stands around the number of each of 20,000 lines, one line more, and its fault.
-const NUMBERED: &[(&str, (&str, &str), &str, &str)] = &[
+type NumberedRow = (
+    &'static str,
+    (&'static str, &'static str),
+    &'static str,
+    &'static str,
+);
+
+const NUMBERED: &[NumberedRow] = &[
     (
         "cgm 1\n",
         ("task TaskOfManyTasks", "\n"),
@@ -86,13 +88,8 @@ const NUMBERED: &[(&str, (&str, &str), &str, &str)] = &[
 ];
 
 /// Whether 20,000 numbered lines are shown as they are, and one more is told.
-fn is_numbered(
-    alloc: Global,
-    front: &str,
-    around: (&str, &str),
-    line: &str,
-    fault: &str,
-) -> Result<bool, OutOfMemory> {
+fn is_numbered(alloc: Global, row: &NumberedRow) -> Result<bool, OutOfMemory> {
+    let (front, around, line, fault) = *row;
     let mut text = Vec::from_slice(alloc, front.as_bytes())?;
     push_all_numbered(alloc, &mut text, around, 20_000)?;
     is_limited(alloc, &mut text, line, fault)
@@ -100,11 +97,9 @@ fn is_numbered(
 
 #[test]
 fn elements_and_refinements(rt: HostRuntime) -> Result<(), Fail> {
-    for (front, around, line, fault) in NUMBERED {
-        assert!(rt;
-            is_numbered(rt.alloc(), front, *around, line, fault)?,
-            "at {fault}"
-        );
+    for row in NUMBERED {
+        let fault = row.3;
+        assert!(rt; is_numbered(rt.alloc(), row)?, "at {fault}");
     }
     Ok(())
 }
@@ -292,15 +287,16 @@ fn is_encoded(alloc: Global) -> Result<bool, OutOfMemory> {
 
 const ROW: &[u8] = b"fault limit row 4000000000000000000 4002\n";
 
+/// Whether the words of a line tell the fault of one more.
+fn is_refused(alloc: Global, line: &str) -> Result<bool, OutOfMemory> {
+    is_big(alloc, line, 1, Status::Limit, ROW)
+}
+
 // `encode` and `solve` tell the fault of one more.
 #[test]
 fn row_limit(rt: HostRuntime) -> Result<(), Fail> {
     assert!(rt; is_encoded(rt.alloc())?);
-    for line in ["encode model.cgm", "solve model.cgm"] {
-        assert!(rt;
-            is_big(rt.alloc(), line, 1, Status::Limit, ROW)?,
-            "at {line}"
-        );
-    }
+    assert!(rt; is_refused(rt.alloc(), "encode model.cgm")?);
+    assert!(rt; is_refused(rt.alloc(), "solve model.cgm")?);
     Ok(())
 }

@@ -16,12 +16,18 @@ pub(crate) struct Ended {
 }
 
 /// The words of a line, which single spaces part.
-fn owned_words(alloc: Global, line: &str) -> Result<Vec<String>, OutOfMemory> {
+pub(crate) fn owned_words(alloc: Global, line: &str) -> Result<Vec<String>, OutOfMemory> {
     let mut owned = Vec::new(alloc);
     for word in line.split(' ') {
-        owned.push(String::from_str(alloc, word)?)?;
+        add_word(alloc, &mut owned, word)?;
     }
     Ok(owned)
+}
+
+fn add_word(alloc: Global, words: &mut Vec<String>, word: &str) -> Result<(), OutOfMemory> {
+    let owned = String::from_str(alloc, word)?;
+    words.push(owned)?;
+    Ok(())
 }
 
 /// Runs the words of a line, printing to this sink.
@@ -37,8 +43,19 @@ pub(crate) fn run_printing(
 
 fn run_to_end(alloc: Global, words: &[String], shelf: &mut MemShelf, mut sink: MemSink) -> Ended {
     let mut work = Work::new(alloc);
-    let status = run_quiet(alloc, words, shelf, &mut sink, &mut work);
+    let status = run_with(alloc, words, shelf, &mut sink, &mut work);
     Ended { status, sink, work }
+}
+
+/// Runs the words. This is the place that calls the top call.
+pub(crate) fn run_with(
+    alloc: Global,
+    words: &[String],
+    shelf: &mut MemShelf,
+    sink: &mut MemSink,
+    work: &mut Work,
+) -> Status {
+    run_quiet(alloc, words, shelf, sink, work)
 }
 
 /// Runs the words of a line, printing to a sink that never fails.

@@ -120,9 +120,18 @@ fn writes_of_texts(rt: HostRuntime) -> Result<(), Fail> {
 /// A read of a whole file of so many bytes, of whose reads one fails: does it end with all of them?
 fn ends_whole(alloc: Global, size: usize, failing: u64) -> Result<bool, OutOfMemory> {
     let bytes = vec![in alloc; b'a'; size]?;
-    let mut shelf = MemShelf::new(alloc, 1_000_000, vec![in alloc; failing]?, Vec::new(alloc));
-    shelf.put("file", bytes.as_slice())?;
-    Ok(is_read(alloc, &mut shelf, "file", None, bytes.as_slice()))
+    ends_after(alloc, bytes.as_slice(), failing)
+}
+
+fn ends_after(alloc: Global, bytes: &[u8], failing: u64) -> Result<bool, OutOfMemory> {
+    let reads = vec![in alloc; failing]?;
+    let mut shelf = MemShelf::new(alloc, 1_000_000, reads, Vec::new(alloc));
+    ends_over(alloc, bytes, &mut shelf)
+}
+
+fn ends_over(alloc: Global, bytes: &[u8], shelf: &mut MemShelf) -> Result<bool, OutOfMemory> {
+    shelf.put("file", bytes)?;
+    Ok(is_read(alloc, shelf, "file", None, bytes))
 }
 
 /// Sizes of a file, the number of the read that fails, and whether the file is read.

@@ -1,0 +1,16 @@
+//! What the runs of cases run.
+use cgm_base::Status;
+use cgm_shelf::{MemShelf, MemSink};
+use std::alloc::Global;
+
+/// A program over files and output in memory.
+pub trait Program {
+    /// Runs the program with these words, and says how it ends.
+    fn run(
+        &self,
+        alloc: Global,
+        words: &[String],
+        shelf: &mut MemShelf,
+        sink: &mut MemSink,
+    ) -> Status;
+}

@@ -19,15 +19,9 @@ pub(crate) struct Ended {
 pub(crate) fn owned_words(alloc: Global, line: &str) -> Result<Vec<String>, OutOfMemory> {
     let mut owned = Vec::new(alloc);
     for word in line.split(' ') {
-        add_word(alloc, &mut owned, word)?;
+        owned.push(String::from_str(alloc, word)?)?;
     }
     Ok(owned)
-}
-
-fn add_word(alloc: Global, words: &mut Vec<String>, word: &str) -> Result<(), OutOfMemory> {
-    let owned = String::from_str(alloc, word)?;
-    words.push(owned)?;
-    Ok(())
 }
 
 /// Runs the words of a line, printing to this sink.

@@ -53,11 +53,16 @@ fn is_answered(
 {
     match question.split_once(" = ") {
         None => Err(Fail::new("no question")),
-        Some((asked, wanted)) => match parted(asked) {
-            ("extended", words) => is_extended(alloc, model, earlier, encoded, words, wanted),
-            ("decoded", words) => is_decoded(alloc, encoded, words, wanted),
-            _ => Err(Fail::new("no question")),
-        },
+        Some((asked, wanted)) => {
+            let (word, words) = parted(asked);
+            if word == "extended" {
+                is_extended(alloc, model, earlier, encoded, words, wanted)
+            } else if word == "decoded" {
+                is_decoded(alloc, encoded, words, wanted)
+            } else {
+                Err(Fail::new("no question"))
+            }
+        }
     }
 }
 

@@ -18,11 +18,18 @@ pub(crate) fn are_answered(alloc: Global, model: &Model, questions: &str) -> Res
 fn is_answered(alloc: Global, model: &Model, question: &str) -> Result<bool, Fail> {
     match question.split_once(" = ") {
         None => Err(Fail::new("no question")),
-        Some((asked, wanted)) => match parted(asked) {
-            ("by", words) => breaks(alloc, model, words, wanted),
-            ("fits", words) => is_fitting(alloc, model, words, wanted),
-            _ => Err(Fail::new("no question")),
-        },
+        Some((asked, wanted)) => is_answered_by(alloc, model, asked, wanted),
+    }
+}
+
+fn is_answered_by(alloc: Global, model: &Model, asked: &str, wanted: &str) -> Result<bool, Fail> {
+    let (word, words) = parted(asked);
+    if word == "by" {
+        breaks(alloc, model, words, wanted)
+    } else if word == "fits" {
+        is_fitting(alloc, model, words, wanted)
+    } else {
+        Err(Fail::new("no question"))
     }
 }
 
@@ -33,7 +40,6 @@ fn is_fitting(alloc: Global, model: &Model, words: &str, wanted: &str) -> Result
 
 /// Whether the first rule that a fitting assignment breaks is the wanted one.
 fn breaks(alloc: Global, model: &Model, words: &str, wanted: &str) -> Result<bool, Fail> {
-    let wanted = rule(wanted)?;
     let a = assignment(alloc, words)?;
     breaks_first(alloc, model, &a, wanted)
 }
@@ -42,32 +48,38 @@ fn breaks_first(
     alloc: Global,
     model: &Model,
     assignment: &Assignment,
-    wanted: Option<Broken>,
+    wanted: &str,
 ) -> Result<bool, Fail> {
     if !fits(model, assignment) {
         return Err(Fail::new("no assignment to the model"));
     }
     let totals = sums(alloc, model, assignment)?;
-    Ok(is_realization(model, assignment, totals.as_slice()) == wanted)
+    let broken = is_realization(model, assignment, totals.as_slice());
+    is_rule(broken, wanted)
 }
 
-fn rule(words: &str) -> Result<Option<Broken>, Fail> {
-    match parted(words) {
-        ("none", _) => Ok(None),
-        (head, number) => Ok(Some(broken(head, number.parse()?)?)),
+/// Whether this is the rule that the words name, or none where they say `none`.
+fn is_rule(broken: Option<Broken>, wanted: &str) -> Result<bool, Fail> {
+    let (head, number) = parted(wanted);
+    match broken {
+        None => Ok(head == "none"),
+        Some(broken) => {
+            let (word, place) = named(broken);
+            Ok(head == word && number.parse::<u32>()? == place)
+        }
     }
 }
 
-fn broken(head: &str, n: u32) -> Result<Broken, Fail> {
-    match head {
-        "refinement" => Ok(Broken::Refinement(n)),
-        "element" => Ok(Broken::Element(n)),
-        "contrib" => Ok(Broken::Contrib(n)),
-        "conflict" => Ok(Broken::Conflict(n)),
-        "bind" => Ok(Broken::Bind(n)),
-        "must" => Ok(Broken::Must(n)),
-        "assert" => Ok(Broken::Assert(n)),
-        "rule" => Ok(Broken::Rule(n)),
-        _ => Err(Fail::new("no rule")),
+/// The word of a rule's kind, and its number.
+fn named(broken: Broken) -> (&'static str, u32) {
+    match broken {
+        Broken::Refinement(n) => ("refinement", n),
+        Broken::Element(n) => ("element", n),
+        Broken::Contrib(n) => ("contrib", n),
+        Broken::Conflict(n) => ("conflict", n),
+        Broken::Bind(n) => ("bind", n),
+        Broken::Must(n) => ("must", n),
+        Broken::Assert(n) => ("assert", n),
+        Broken::Rule(n) => ("rule", n),
     }
 }

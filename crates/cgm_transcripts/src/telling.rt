@@ -74,7 +74,12 @@ fn tell_changed(alloc: Global, line: u64, name: &str) -> Result<Told, OutOfMemor
 }
 
 /// Tells the first line in which two contents differ, as content lines have it.
-fn tell_bytes(alloc: Global, what: &str, wanted: &[u8], came: &[u8]) -> Result<String, OutOfMemory> {
+fn tell_bytes(
+    alloc: Global,
+    what: &str,
+    wanted: &[u8],
+    came: &[u8],
+) -> Result<String, OutOfMemory> {
     let (same, _) = wanted.split_at(common_length(wanted, came));
     let start = last_line_start(same);
     let number = feeds_in(same).saturating_add(1);

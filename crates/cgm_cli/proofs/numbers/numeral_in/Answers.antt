@@ -1,7 +1,7 @@
 use Rattle.std.proofs.Common.{◌≡◌, ℕ, ◌<◌, ◌^◌, true, false, Ok, Err, rules}
 use Rattle.cgm_cli.specs.Numbers.{is_between, is_numeral}
 use Rattle.cgm_cli.proofs.Numerals.{no_numeral, not_within, parsed, too_great, within}
-use Rattle.cgm_cli.proofs.numbers.number_in.Goals as goal
+use Rattle.cgm_cli.proofs.numbers.numeral_in.Goals as goal
 
 pub returns-then-not-is_numeral-clause-number : goal.returns-then-not-is_numeral-clause-number
 returns-then-not-is_numeral-clause-number c =

@@ -1,7 +1,7 @@
 //! What a written statement says after those before it.
 ghost use Rattle.std.specs.Prelude.{◌≡◌, [], ◌∷◌, map, All, IfOk, OnOk};
 ghost use Rattle.std.specs.Str.{IsUtf8};
-ghost use Rattle.cgm_print.specs.Statements.{assertion as written_assertion, condition as written_condition, objective as written_objective, refinement as written_refinement, requirement as written_requirement, value as written_value, weight as written_weight};
+ghost use Rattle.cgm_print.specs.Statements.{assertion as written_assertion, condition as written_condition, objective as written_objective, requirement as written_requirement, value as written_value, weight as written_weight};
 ghost use Rattle.cgm_print.specs.Written.{formulas_of};
 ghost use Rattle.cgm_text.specs.Meaning.{compared_as, condition_of, declared_words, each_formula_of, element_named, formula_of, is_max, joined_as, linear_of, named_of, number_named, pair_of, paired_as, quantity_of, refinement_named, statement_of, sum_named, term_of, truth_named, statement_of_weight};
 ghost use Rattle.cgm_text.specs.Trees.{formula_in, linear_in, term_in, word_in};
@@ -382,14 +382,15 @@ fn refined(
     line: &[u8],
     name: Word,
     target: Word,
-    first: Word,
-    others: &[Word],
+    sources: Parts<u32>,
 ) -> Result<Statement, OutOfMemory>
     requires text { IsUtf8 (word_in line.now name) }
-    ensures { IfOk result (λ s. s ≡ statement_of builder.now (written_refinement (word_in line.now name)
-        (word_in line.now target) (word_in line.now first) (map (word_in line.now) others.now))) }
+    ensures { IfOk result (λ s. s ≡ Statement.Refine (record {
+      name = word_in line.now name;
+      target = element_named builder.now (word_in line.now target);
+      sources = sources;
+    })) }
 {
-    let sources = elements(alloc, builder, line, first, others)?;
     Ok(Statement::Refine(Refinement {
         name: name_of(alloc, bytes_in(line, name))?,
         target: element(builder, line, target),
@@ -497,15 +498,10 @@ pub(crate) fn statement(
             target,
             first,
             others,
-        } => refined(
-            alloc,
-            builder,
-            line,
-            *name,
-            *target,
-            *first,
-            others.as_slice(),
-        ),
+        } => {
+            let sources = elements(alloc, builder, line, *first, others.as_slice())?;
+            refined(alloc, builder, line, *name, *target, sources)
+        }
         Written::Pair { what, one, other } => Ok(pair(builder, line, *what, *one, *other)),
         Written::Assert { name, truth } => Ok(assertion(builder, line, *name, *truth)),
         Written::Var { name, lo, hi } => variable(alloc, line, *name, *lo, *hi),

@@ -106,7 +106,8 @@ impl BoxState {
         requires known { atom.var.0 < length self.old.lower }
         requires met { IsTrue (is_true_in self.old atom) }
         ensures after { self.new ≡ relaxed self.old atom }
-        ensures within { (limits : Bounds) → IsBoxOf limits self.old → IsNumberWithin limits atom → IsBoxOf limits self.new }
+        ensures within { (limits : Bounds) → IsBoxOf limits self.old → IsNumberWithin limits atom
+            → IsBoxOf limits self.new }
     {
         if atom.at_least {
             self.lower[atom.var.0 as usize] = atom.k;

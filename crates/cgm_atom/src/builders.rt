@@ -82,7 +82,11 @@ impl ProblemBuilder {
     /// The least and the greatest value of a variable.
     pub fn bounds(&self, variable: Var) -> (i64, i64)
         requires { variable.0 < var_count self.now }
-        ensures { result ≡ (lower_of self.now.bounds variable.0, upper_of self.now.bounds variable.0) }
+        ensures { result ≡ (
+          lower_of self.now.bounds variable.0,
+          upper_of self.now.bounds
+              variable.0,
+        ) }
     {
         self.problem.bounds(variable)
     }

@@ -158,11 +158,13 @@ fn activity_of(problem: &Problem, terms: &[(i64, Var)], values: &[i64]) -> i64
 
 fn term_value(problem: &Problem, coefficient: i64, variable: Var, values: &[i64]) -> i64
     requires known { variable.0 < var_count problem.now }
-    requires limit { unsigned_abs coefficient * greatest_size problem.now.bounds variable.0 ≤ max_measure }
+    requires limit { unsigned_abs coefficient * greatest_size problem.now.bounds variable.0
+        ≤ max_measure }
     requires count { length values.now ≡ var_count problem.now }
     requires within { IsWithin problem.now.bounds values.now }
     ensures value { result ≡ coefficient *ℤ value_of values.now variable.0 }
-    ensures size { unsigned_abs result ≤ unsigned_abs coefficient * greatest_size problem.now.bounds variable.0 }
+    ensures size { unsigned_abs result ≤ unsigned_abs coefficient * greatest_size problem.now.bounds
+        variable.0 }
 {
     product(coefficient, value_at(values, variable))
 }

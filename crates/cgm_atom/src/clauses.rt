@@ -128,7 +128,8 @@ fn first_left(atoms: ClauseAtoms<'_>, bounds: &BoxState, from: usize) -> Option<
 pub fn narrow_by_atoms(bounds: &mut BoxState, atoms: ClauseAtoms<'_>) -> Narrowed
     requires readable { IsReadable atoms }
     requires known { AreKnown (length bounds.old.lower) (atoms_of atoms) }
-    ensures exact { IsNarrowing (left_by_clause bounds.old (record { atoms = atoms_of atoms.entry }))
+    ensures exact { IsNarrowing (left_by_clause bounds.old
+        (record { atoms = atoms_of atoms.entry }))
         bounds.old bounds.new result }
     ensures within { (limits : Bounds) → IsBoxOf limits bounds.old → IsBoxOf limits bounds.new }
 {

@@ -28,8 +28,10 @@ pub fn limits_are_defined()
 /// What a certificate can print is within the ranges of its text: no lemma with the bound 2^70
 /// or with a hint to clause 2^40 is.
 pub fn printable_numbers_fit()
-    ensures bounds { (by : ℕ) (clause : Clause) (hints : List Hint) → ¬ IsPrintable (entry.Lemma by clause hints (2 ^ 70)) }
-    ensures clauses { (by bound : ℕ) (clause : Clause) (hints : List Hint) → ¬ IsPrintable (entry.Lemma by clause (hint.Clause (2 ^ 40) ∷ hints) bound) }
+    ensures bounds { (by : ℕ) (clause : Clause) (hints : List Hint) → ¬ IsPrintable
+        (entry.Lemma by clause hints (2 ^ 70)) }
+    ensures clauses { (by bound : ℕ) (clause : Clause) (hints : List Hint) → ¬ IsPrintable
+        (entry.Lemma by clause (hint.Clause (2 ^ 40) ∷ hints) bound) }
 {}
 
 /// Values of a box that make an atom true are in what is left of the box where the atom is made true.

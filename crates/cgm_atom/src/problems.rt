@@ -46,7 +46,11 @@ impl Problem {
     /// The least and the greatest value of a variable.
     pub fn bounds(&self, variable: Var) -> (i64, i64)
         requires { variable.0 < var_count self.now }
-        ensures bounds { result ≡ (lower_of self.now.bounds variable.0, upper_of self.now.bounds variable.0) }
+        ensures bounds { result ≡ (
+          lower_of self.now.bounds variable.0,
+          upper_of self.now.bounds
+              variable.0,
+        ) }
         ensures valid { IsWellFormedProblem self.now }
     {
         let at = variable.0 as usize;

@@ -24,6 +24,7 @@ pub fn text_lacks_not_both()
 
 /// The law that a text has one first fault at most: its line and its kind are determined.
 pub fn text_has_one_fault()
-    ensures { (text : List ℕ) (line other : ℕ) (kind other_kind : CertKind) → HasFault text line kind
+    ensures { (text : List ℕ) (line other : ℕ) (kind other_kind : CertKind) → HasFault text line
+        kind
         → HasFault text other other_kind → (line ≡ other) × (kind ≡ other_kind) }
 {}

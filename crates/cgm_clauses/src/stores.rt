@@ -90,7 +90,8 @@ impl ClauseStore {
     pub fn propagate(&mut self, trail: &mut Trail, left: &mut u64) -> Result<Swept, OutOfMemory>
         requires problem { IsStoreOf trail.old.problem self.old }
         requires room { trail.old.moves + left.old ≤ 2 ^ 62 }
-        ensures made { IsPropagated (IsPairIn (all_clauses self.old)) trail.old trail.new left.old left.new }
+        ensures made { IsPropagated (IsPairIn (all_clauses self.old)) trail.old trail.new left.old
+            left.new }
         ensures answer { IsSwept (box_of trail.new) (all_clauses self.old) left.new result }
         ensures store { self.new ≡ self.old }
     {

@@ -23,7 +23,8 @@ pub(crate) fn propagate_by(
     requires clauses { All (HasKnownVariables (var_count trail.old.problem)) clauses.now }
     requires added { All (HasKnownVariables (var_count trail.old.problem)) added.now }
     requires room { trail.old.moves + left.old ≤ 2 ^ 62 }
-    ensures made { IsPropagated (IsPairIn (clauses.now ++ added.now)) trail.old trail.new left.old left.new }
+    ensures made { IsPropagated (IsPairIn (clauses.now ++ added.now)) trail.old trail.new left.old
+        left.new }
     ensures answer { IsSwept (box_of trail.new) (clauses.now ++ added.now) left.new result }
 {
     loop {
@@ -49,8 +50,10 @@ fn sweep_both(
     requires clauses { All (HasKnownVariables (var_count trail.old.problem)) clauses.now }
     requires added { All (HasKnownVariables (var_count trail.old.problem)) added.now }
     requires room { trail.old.moves + left.old ≤ 2 ^ 62 }
-    ensures made { IsPropagated (IsPairIn (clauses.now ++ added.now)) trail.old trail.new left.old left.new }
-    ensures answer { IsOneSweep (box_of trail.new) (clauses.now ++ added.now) left.old left.new result }
+    ensures made { IsPropagated (IsPairIn (clauses.now ++ added.now)) trail.old trail.new left.old
+        left.new }
+    ensures answer { IsOneSweep (box_of trail.new) (clauses.now ++ added.now) left.old left.new
+        result }
 {
     match sweep(clauses, trail, left)? {
         Swept::Quiet => sweep(added, trail, left),
@@ -80,7 +83,8 @@ fn sweep(clauses: &[Named], trail: &mut Trail, left: &mut u64) -> Result<Swept, 
 fn look_at(named: &Named, trail: &mut Trail, left: &mut u64) -> Result<Swept, OutOfMemory>
     requires known { HasKnownVariables (var_count trail.old.problem) named.now }
     requires room { trail.old.moves + left.old ≤ 2 ^ 62 }
-    ensures made { IsPropagated (IsOnly named.now.name (of_clause named.now.clause)) trail.old trail.new
+    ensures made { IsPropagated (IsOnly named.now.name (of_clause named.now.clause)) trail.old
+        trail.new
         left.old left.new }
     ensures answer { IsOneSweep (box_of trail.new) (named.now ∷ []) left.old left.new result }
 {

@@ -22,9 +22,11 @@ pub(crate) fn define_all(
     literals: &[Literal],
 ) -> Result<Literal, OutOfMemory>
     requires known { All (λ l. l.variable < var_count builder.old) literals.now }
-    requires room { HasRoomFor builder.old (definition_part (var_count builder.old) (all_of literals.now)) }
+    requires room { HasRoomFor builder.old (definition_part (var_count builder.old)
+        (all_of literals.now)) }
     ensures literal { IfOk result (λ l. l ≡ positive_of (var_count builder.old)) }
-    ensures added { OnOk result (builder.new ≡ with_part builder.old (definition_part (var_count builder.old) (all_of literals.now))) }
+    ensures added { OnOk result (builder.new ≡ with_part builder.old
+        (definition_part (var_count builder.old) (all_of literals.now))) }
 {
     let p = new_name(builder)?;
     let opposites = opposites(alloc, literals)?;
@@ -40,9 +42,11 @@ pub(crate) fn define_any(
     literals: &[Literal],
 ) -> Result<Literal, OutOfMemory>
     requires known { All (λ l. l.variable < var_count builder.old) literals.now }
-    requires room { HasRoomFor builder.old (definition_part (var_count builder.old) (any_of literals.now)) }
+    requires room { HasRoomFor builder.old (definition_part (var_count builder.old)
+        (any_of literals.now)) }
     ensures literal { IfOk result (λ l. l ≡ positive_of (var_count builder.old)) }
-    ensures added { OnOk result (builder.new ≡ with_part builder.old (definition_part (var_count builder.old) (any_of literals.now))) }
+    ensures added { OnOk result (builder.new ≡ with_part builder.old
+        (definition_part (var_count builder.old) (any_of literals.now))) }
 {
     let p = new_name(builder)?;
     let opposites = opposites(alloc, literals)?;
@@ -60,9 +64,11 @@ pub(crate) fn define_same(
 ) -> Result<Literal, OutOfMemory>
     requires one { one.variable < var_count builder.old }
     requires other { other.variable < var_count builder.old }
-    requires room { HasRoomFor builder.old (definition_part (var_count builder.old) (same_as one other)) }
+    requires room { HasRoomFor builder.old (definition_part (var_count builder.old)
+        (same_as one other)) }
     ensures literal { IfOk result (λ l. l ≡ positive_of (var_count builder.old)) }
-    ensures added { OnOk result (builder.new ≡ with_part builder.old (definition_part (var_count builder.old) (same_as one other))) }
+    ensures added { OnOk result (builder.new ≡ with_part builder.old
+        (definition_part (var_count builder.old) (same_as one other))) }
 {
     let p = new_name(builder)?;
     let not_one = opposite(one);
@@ -88,9 +94,11 @@ pub(crate) fn define_at_most(
     requires known { AreTermsOf (var_count builder.old) terms.now }
     requires coefficients { All (λ t. unsigned_abs t.0 < 2 ^ 63) terms.now }
     requires number { unsigned_abs k ≤ max_measure }
-    requires room { HasRoomFor builder.old (definition_part (var_count builder.old) (at_most terms.now k)) }
+    requires room { HasRoomFor builder.old (definition_part (var_count builder.old)
+        (at_most terms.now k)) }
     ensures literal { IfOk result (λ l. l ≡ positive_of (var_count builder.old)) }
-    ensures added { OnOk result (builder.new ≡ with_part builder.old (definition_part (var_count builder.old) (at_most terms.now k))) }
+    ensures added { OnOk result (builder.new ≡ with_part builder.old
+        (definition_part (var_count builder.old) (at_most terms.now k))) }
 {
     let p = new_name(builder)?;
     let negative_terms = negative(alloc, terms)?;
@@ -110,9 +118,11 @@ pub(crate) fn define_at_least(
     requires known { AreTermsOf (var_count builder.old) terms.now }
     requires coefficients { All (λ t. unsigned_abs t.0 < 2 ^ 63) terms.now }
     requires number { unsigned_abs k ≤ max_measure }
-    requires room { HasRoomFor builder.old (definition_part (var_count builder.old) (at_least terms.now k)) }
+    requires room { HasRoomFor builder.old (definition_part (var_count builder.old)
+        (at_least terms.now k)) }
     ensures literal { IfOk result (λ l. l ≡ positive_of (var_count builder.old)) }
-    ensures added { OnOk result (builder.new ≡ with_part builder.old (definition_part (var_count builder.old) (at_least terms.now k))) }
+    ensures added { OnOk result (builder.new ≡ with_part builder.old
+        (definition_part (var_count builder.old) (at_least terms.now k))) }
 {
     let p = new_name(builder)?;
     let same_terms = Vec::from_slice(alloc, terms)?;
@@ -185,7 +195,8 @@ fn add_one_of(
     literals: &[Literal],
 ) -> Result<(), OutOfMemory>
     requires { CanTake builder.old (one_of_clause first literals.now ∷ []) }
-    ensures { OnOk result (builder.new ≡ with_written builder.old (one_of_clause first literals.now ∷ [])) }
+    ensures { OnOk result (builder.new ≡ with_written builder.old
+        (one_of_clause first literals.now ∷ [])) }
 {
     let mut atoms = Vec::new(alloc);
     atoms.push(first)?;

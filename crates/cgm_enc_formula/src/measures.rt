@@ -35,7 +35,8 @@ pub(crate) fn first_past(model: &Model, builder: &ProblemBuilder, rules: &[Rule]
 fn is_within(model: &Model, builder: &ProblemBuilder, rule: &Rule) -> bool
     requires variables { model_variables (lists_of model.now) ≤ var_count builder.now }
     requires known { HasKnownNumbers (lists_of model.now) (formula_of_rule rule.now) }
-    ensures { result ≡ has_small_measures_in (lists_of model.now) builder.now.bounds (formula_of_rule rule.now) }
+    ensures { result ≡ has_small_measures_in (lists_of model.now) builder.now.bounds
+        (formula_of_rule rule.now) }
 {
     has_small_measures(model, builder, formula_of(rule))
 }
@@ -71,7 +72,8 @@ fn has_small_measures(model: &Model, builder: &ProblemBuilder, formula: &Formula
 fn have_small_measures(model: &Model, builder: &ProblemBuilder, parts: &[Formula]) -> bool
     requires variables { model_variables (lists_of model.now) ≤ var_count builder.now }
     requires known { All (HasKnownNumbers (lists_of model.now)) parts.now }
-    ensures { result ≡ list_all (has_small_measures_in (lists_of model.now) builder.now.bounds) parts.now }
+    ensures { result ≡ list_all (has_small_measures_in (lists_of model.now) builder.now.bounds)
+        parts.now }
 {
     for part in parts {
         if !has_small_measures(model, builder, part) {
@@ -91,7 +93,8 @@ fn both(one: bool, other: bool) -> bool
 fn is_small(model: &Model, builder: &ProblemBuilder, linear: &Linear, k: i64) -> bool
     requires variables { model_variables (lists_of model.now) ≤ var_count builder.now }
     requires known { All (λ t. IsKnownNumber (lists_of model.now) t.1) linear.now.terms }
-    ensures { result ≡ nat_le (comparison_measure (lists_of model.now) builder.now.bounds (linear.now, k)) max_measure }
+    ensures { result ≡ nat_le (comparison_measure (lists_of model.now) builder.now.bounds
+        (linear.now, k)) max_measure }
 {
     let size = k.unsigned_abs();
     if size > MAX_MEASURE {
@@ -104,7 +107,8 @@ fn is_small(model: &Model, builder: &ProblemBuilder, linear: &Linear, k: i64) ->
 fn are_within(model: &Model, builder: &ProblemBuilder, terms: &[(i64, Number)], most: u64) -> bool
     requires variables { model_variables (lists_of model.now) ≤ var_count builder.now }
     requires known { All (λ t. IsKnownNumber (lists_of model.now) t.1) terms.now }
-    ensures { IsTrue result ↔ (measure builder.now.bounds (variable_terms (lists_of model.now) terms.now) ≤ most) }
+    ensures { IsTrue result ↔ (measure builder.now.bounds
+        (variable_terms (lists_of model.now) terms.now) ≤ most) }
 {
     let mut room = most;
     for term in terms {
@@ -120,7 +124,8 @@ fn are_within(model: &Model, builder: &ProblemBuilder, terms: &[(i64, Number)], 
 fn term_measure(model: &Model, builder: &ProblemBuilder, term: &(i64, Number)) -> u128
     requires variables { model_variables (lists_of model.now) ≤ var_count builder.now }
     requires known { IsKnownNumber (lists_of model.now) term.now.1 }
-    ensures { result ≡ unsigned_abs term.now.0 * greatest_size builder.now.bounds (variable_in (lists_of model.now) term.now.1) }
+    ensures { result ≡ unsigned_abs term.now.0 * greatest_size builder.now.bounds
+        (variable_in (lists_of model.now) term.now.1) }
 {
     let (lo, hi) = builder.bounds(Var(number_variable(model, term.1)));
     product(

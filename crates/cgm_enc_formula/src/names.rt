@@ -30,9 +30,13 @@ pub(crate) fn name_formula(
 ) -> Result<Literal, OutOfMemory>
     requires formula { IsEncodableFormula (lists_of model.now) formula.now }
     requires variables { model_variables (lists_of model.now) ≤ var_count builder.old }
-    requires room { HasRoomFor builder.old (definitions_part (var_count builder.old) (naming (lists_of model.now) formula.now (var_count builder.old)).definitions) }
-    ensures literal { IfOk result (λ l. l ≡ (naming (lists_of model.now) formula.now (var_count builder.old)).literal) }
-    ensures added { OnOk result (builder.new ≡ with_part builder.old (definitions_part (var_count builder.old) (naming (lists_of model.now) formula.now (var_count builder.old)).definitions)) }
+    requires room { HasRoomFor builder.old (definitions_part (var_count builder.old)
+        (naming (lists_of model.now) formula.now (var_count builder.old)).definitions) }
+    ensures literal { IfOk result (λ l. l ≡ (naming (lists_of model.now) formula.now
+        (var_count builder.old)).literal) }
+    ensures added { OnOk result (builder.new ≡ with_part builder.old
+        (definitions_part (var_count builder.old) (naming (lists_of model.now) formula.now
+        (var_count builder.old)).definitions)) }
 {
     match formula {
         Formula::Name(name) => Ok(positive(truth_variable(model, *name))),
@@ -74,9 +78,15 @@ fn name_each(
 ) -> Result<Vec<Literal>, OutOfMemory>
     requires formulas { All (IsEncodableFormula (lists_of model.now)) parts.now }
     requires variables { model_variables (lists_of model.now) ≤ var_count builder.old }
-    requires room { HasRoomFor builder.old (definitions_part (var_count builder.old) (parts_named (map (naming (lists_of model.now)) parts.now) (var_count builder.old)).definitions) }
-    ensures literals { IfOk result (λ ls. ls.items ≡ (parts_named (map (naming (lists_of model.now)) parts.now) (var_count builder.old)).literals) }
-    ensures added { OnOk result (builder.new ≡ with_part builder.old (definitions_part (var_count builder.old) (parts_named (map (naming (lists_of model.now)) parts.now) (var_count builder.old)).definitions)) }
+    requires room { HasRoomFor builder.old (definitions_part (var_count builder.old)
+        (parts_named (map (naming (lists_of model.now)) parts.now)
+        (var_count builder.old)).definitions) }
+    ensures literals { IfOk result (λ ls. ls.items
+        ≡ (parts_named (map (naming (lists_of model.now)) parts.now)
+        (var_count builder.old)).literals) }
+    ensures added { OnOk result (builder.new ≡ with_part builder.old
+        (definitions_part (var_count builder.old) (parts_named
+        (map (naming (lists_of model.now)) parts.now) (var_count builder.old)).definitions)) }
 {
     let mut literals = Vec::new(alloc);
     for part in parts {
@@ -95,9 +105,12 @@ fn name_at_most(
 ) -> Result<Literal, OutOfMemory>
     requires comparison { AreRowTerms (lists_of model.now) (linear.now, k) }
     requires variables { model_variables (lists_of model.now) ≤ var_count builder.old }
-    requires room { HasRoomFor builder.old (definition_part (var_count builder.old) (at_most (row_terms_of (lists_of model.now) linear.now) k)) }
+    requires room { HasRoomFor builder.old (definition_part (var_count builder.old)
+        (at_most (row_terms_of (lists_of model.now) linear.now) k)) }
     ensures literal { IfOk result (λ l. l ≡ positive_of (var_count builder.old)) }
-    ensures added { OnOk result (builder.new ≡ with_part builder.old (definition_part (var_count builder.old) (at_most (row_terms_of (lists_of model.now) linear.now) k))) }
+    ensures added { OnOk result (builder.new ≡ with_part builder.old
+        (definition_part (var_count builder.old) (at_most
+        (row_terms_of (lists_of model.now) linear.now) k))) }
 {
     let terms = row_terms(alloc, model, linear)?;
     define_at_most(alloc, builder, terms.as_slice(), k)
@@ -113,9 +126,12 @@ fn name_at_least(
 ) -> Result<Literal, OutOfMemory>
     requires comparison { AreRowTerms (lists_of model.now) (linear.now, k) }
     requires variables { model_variables (lists_of model.now) ≤ var_count builder.old }
-    requires room { HasRoomFor builder.old (definition_part (var_count builder.old) (at_least (row_terms_of (lists_of model.now) linear.now) k)) }
+    requires room { HasRoomFor builder.old (definition_part (var_count builder.old)
+        (at_least (row_terms_of (lists_of model.now) linear.now) k)) }
     ensures literal { IfOk result (λ l. l ≡ positive_of (var_count builder.old)) }
-    ensures added { OnOk result (builder.new ≡ with_part builder.old (definition_part (var_count builder.old) (at_least (row_terms_of (lists_of model.now) linear.now) k))) }
+    ensures added { OnOk result (builder.new ≡ with_part builder.old
+        (definition_part (var_count builder.old) (at_least
+        (row_terms_of (lists_of model.now) linear.now) k))) }
 {
     let terms = row_terms(alloc, model, linear)?;
     define_at_least(alloc, builder, terms.as_slice(), k)
@@ -131,9 +147,12 @@ fn name_equal(
 ) -> Result<Literal, OutOfMemory>
     requires comparison { AreRowTerms (lists_of model.now) (linear.now, k) }
     requires variables { model_variables (lists_of model.now) ≤ var_count builder.old }
-    requires room { HasRoomFor builder.old (definitions_part (var_count builder.old) (equal_definitions (lists_of model.now) linear.now k (var_count builder.old))) }
+    requires room { HasRoomFor builder.old (definitions_part (var_count builder.old)
+        (equal_definitions (lists_of model.now) linear.now k (var_count builder.old))) }
     ensures literal { IfOk result (λ l. l ≡ positive_of (var_count builder.old + 2)) }
-    ensures added { OnOk result (builder.new ≡ with_part builder.old (definitions_part (var_count builder.old) (equal_definitions (lists_of model.now) linear.now k (var_count builder.old)))) }
+    ensures added { OnOk result (builder.new ≡ with_part builder.old
+        (definitions_part (var_count builder.old) (equal_definitions (lists_of model.now) linear.now
+        k (var_count builder.old)))) }
 {
     let most = name_at_most(alloc, model, builder, linear, k)?;
     let least = name_at_least(alloc, model, builder, linear, k)?;

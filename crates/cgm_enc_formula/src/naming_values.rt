@@ -22,8 +22,10 @@ pub fn push_rules(
     sums: &[i64],
     rules: &[Rule],
 ) -> Result<(), OutOfMemory>
-    requires { All (λ r. AreSmallIn (number_in assignment.now sums.now) (formula_of_rule r)) rules.now }
-    ensures { OnOk result (out.new.items ≡ out.old.items ++ map bit_of (rule_truths (name_in assignment.now) (number_in assignment.now sums.now) rules.now)) }
+    requires { All (λ r. AreSmallIn (number_in assignment.now sums.now) (formula_of_rule r))
+        rules.now }
+    ensures { OnOk result (out.new.items ≡ out.old.items ++ map bit_of
+        (rule_truths (name_in assignment.now) (number_in assignment.now sums.now) rules.now)) }
 {
     for rule in rules {
         push_formula(alloc, out, assignment, sums, formula_of(rule))?;
@@ -52,8 +54,10 @@ fn push_formula(
     formula: &Formula,
 ) -> Result<bool, OutOfMemory>
     requires { AreSmallIn (number_in assignment.now sums.now) formula.now }
-    ensures says { IfOk result (λ t. t ≡ (told (name_in assignment.now) (number_in assignment.now sums.now) formula.now).says) }
-    ensures added { OnOk result (out.new.items ≡ out.old.items ++ map bit_of (told (name_in assignment.now) (number_in assignment.now sums.now) formula.now).truths) }
+    ensures says { IfOk result (λ t. t ≡ (told (name_in assignment.now)
+        (number_in assignment.now sums.now) formula.now).says) }
+    ensures added { OnOk result (out.new.items ≡ out.old.items ++ map bit_of
+        (told (name_in assignment.now) (number_in assignment.now sums.now) formula.now).truths) }
 {
     match formula {
         Formula::Name(name) => Ok(is_true(assignment, *name)),
@@ -99,8 +103,11 @@ fn push_each(
     parts: &[Formula],
 ) -> Result<Vec<bool>, OutOfMemory>
     requires { All (AreSmallIn (number_in assignment.now sums.now)) parts.now }
-    ensures says { IfOk result (λ truths. truths.items ≡ map (λ part. part.says) (map (told (name_in assignment.now) (number_in assignment.now sums.now)) parts.now)) }
-    ensures added { OnOk result (out.new.items ≡ out.old.items ++ map bit_of (all_truths (map (told (name_in assignment.now) (number_in assignment.now sums.now)) parts.now))) }
+    ensures says { IfOk result (λ truths. truths.items ≡ map (λ part. part.says)
+        (map (told (name_in assignment.now) (number_in assignment.now sums.now)) parts.now)) }
+    ensures added { OnOk result (out.new.items ≡ out.old.items ++ map bit_of
+        (all_truths (map (told (name_in assignment.now) (number_in assignment.now sums.now))
+        parts.now))) }
 {
     let mut truths = Vec::new(alloc);
     for part in parts {
@@ -113,7 +120,8 @@ fn push_each(
 /// Adds and answers whether all are true.
 fn push_all(out: &mut Vec<i64>, truths: Vec<bool>) -> Result<bool, OutOfMemory>
     ensures says { IfOk result (λ t. t ≡ list_all (λ t. t) truths.items) }
-    ensures added { OnOk result (out.new.items ≡ out.old.items ++ bit_of (list_all (λ t. t) truths.items) ∷ []) }
+    ensures added { OnOk result (out.new.items ≡ out.old.items ++ bit_of
+        (list_all (λ t. t) truths.items) ∷ []) }
 {
     push_bit(out, are_all_true(truths.as_slice()))
 }
@@ -121,7 +129,8 @@ fn push_all(out: &mut Vec<i64>, truths: Vec<bool>) -> Result<bool, OutOfMemory>
 /// Adds and answers whether one is true.
 fn push_any(out: &mut Vec<i64>, truths: Vec<bool>) -> Result<bool, OutOfMemory>
     ensures says { IfOk result (λ t. t ≡ list_any (λ t. t) truths.items) }
-    ensures added { OnOk result (out.new.items ≡ out.old.items ++ bit_of (list_any (λ t. t) truths.items) ∷ []) }
+    ensures added { OnOk result (out.new.items ≡ out.old.items ++ bit_of
+        (list_any (λ t. t) truths.items) ∷ []) }
 {
     push_bit(out, is_one_true(truths.as_slice()))
 }
@@ -129,7 +138,8 @@ fn push_any(out: &mut Vec<i64>, truths: Vec<bool>) -> Result<bool, OutOfMemory>
 /// Adds and answers whether the second is true where the first is.
 fn push_implication(out: &mut Vec<i64>, first: bool, second: bool) -> Result<bool, OutOfMemory>
     ensures says { IfOk result (λ t. t ≡ (not first || second)) }
-    ensures added { OnOk result (out.new.items ≡ out.old.items ++ bit_of (not first || second) ∷ []) }
+    ensures added { OnOk result (out.new.items ≡ out.old.items ++ bit_of (not first || second)
+        ∷ []) }
 {
     push_bit(out, implies(first, second))
 }
@@ -137,7 +147,8 @@ fn push_implication(out: &mut Vec<i64>, first: bool, second: bool) -> Result<boo
 /// Adds and answers whether both are true or neither.
 fn push_equivalence(out: &mut Vec<i64>, first: bool, second: bool) -> Result<bool, OutOfMemory>
     ensures says { IfOk result (λ t. t ≡ same_truth first second) }
-    ensures added { OnOk result (out.new.items ≡ out.old.items ++ bit_of (same_truth first second) ∷ []) }
+    ensures added { OnOk result (out.new.items ≡ out.old.items ++ bit_of (same_truth first second)
+        ∷ []) }
 {
     push_bit(out, is_same(first, second))
 }
@@ -145,7 +156,8 @@ fn push_equivalence(out: &mut Vec<i64>, first: bool, second: bool) -> Result<boo
 /// Adds two truths and whether both are true, and answers that.
 fn push_equality(out: &mut Vec<i64>, most: bool, least: bool) -> Result<bool, OutOfMemory>
     ensures says { IfOk result (λ t. t ≡ (most && least)) }
-    ensures added { OnOk result (out.new.items ≡ ((out.old.items ++ bit_of most ∷ []) ++ bit_of least ∷ []) ++ bit_of (most && least) ∷ []) }
+    ensures added { OnOk result (out.new.items ≡ ((out.old.items ++ bit_of most ∷ []) ++ bit_of
+        least ∷ []) ++ bit_of (most && least) ∷ []) }
 {
     push_bit(out, most)?;
     push_bit(out, least)?;

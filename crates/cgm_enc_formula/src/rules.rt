@@ -14,8 +14,8 @@ use crate::measures::first_past;
 use crate::names::{name_formula, truth_variable};
 use crate::naming_values::formula_of;
 use crate::stop::EncodeStop;
-use cgm_atom::literals::{add_clause, literal, negated};
 use cgm_atom::ProblemBuilder;
+use cgm_atom::literals::{add_clause, literal, negated};
 use cgm_base::OutOfMemory;
 use cgm_model::{Model, Rule};
 use std::alloc::Global;
@@ -70,8 +70,10 @@ fn add_each(
 ) -> Result<(), OutOfMemory>
     requires encodable { All (IsEncodableRule (lists_of model.now)) rules.now }
     requires variables { model_variables (lists_of model.now) ≤ var_count builder.old }
-    requires room { HasRoomFor builder.old (rules_part (lists_of model.now) (var_count builder.old) rules.now) }
-    ensures { OnOk result (builder.new ≡ with_part builder.old (rules_part (lists_of model.now) (var_count builder.old) rules.now)) }
+    requires room { HasRoomFor builder.old (rules_part (lists_of model.now) (var_count builder.old)
+        rules.now) }
+    ensures { OnOk result (builder.new ≡ with_part builder.old
+        (rules_part (lists_of model.now) (var_count builder.old) rules.now)) }
 {
     for rule in rules {
         add_rule(alloc, model, builder, rule)?;
@@ -87,8 +89,10 @@ fn add_rule(
 ) -> Result<(), OutOfMemory>
     requires encodable { IsEncodableRule (lists_of model.now) rule.now }
     requires variables { model_variables (lists_of model.now) ≤ var_count builder.old }
-    requires room { HasRoomFor builder.old (rule_part (lists_of model.now) (var_count builder.old) rule.now) }
-    ensures { OnOk result (builder.new ≡ with_part builder.old (rule_part (lists_of model.now) (var_count builder.old) rule.now)) }
+    requires room { HasRoomFor builder.old (rule_part (lists_of model.now) (var_count builder.old)
+        rule.now) }
+    ensures { OnOk result (builder.new ≡ with_part builder.old
+        (rule_part (lists_of model.now) (var_count builder.old) rule.now)) }
 {
     let l = name_formula(alloc, model, builder, formula_of(rule))?;
     add_condition(alloc, model, builder, rule, l)
@@ -105,7 +109,8 @@ fn add_condition(
     requires condition { All (IsKnownTruth (lists_of model.now)) (condition_names rule.now) }
     requires room { CanTake builder.old (rule_clause (lists_of model.now) rule.now l ∷ []) }
     ensures { OnOk result
-        (builder.new ≡ with_written builder.old (rule_clause (lists_of model.now) rule.now l ∷ [])) }
+        (builder.new ≡ with_written builder.old (rule_clause (lists_of model.now) rule.now l
+        ∷ [])) }
 {
     match rule {
         Rule::Positive(name, _) => add_clause(

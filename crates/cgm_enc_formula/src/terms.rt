@@ -18,7 +18,8 @@ pub(crate) fn row_terms(
     model: &Model,
     linear: &Linear,
 ) -> Result<Vec<(i64, Var)>, OutOfMemory>
-    requires { AreTermsOf (model_variables (lists_of model.now)) (nonzero (variable_terms (lists_of model.now) linear.now.terms)) }
+    requires { AreTermsOf (model_variables (lists_of model.now))
+        (nonzero (variable_terms (lists_of model.now) linear.now.terms)) }
     ensures { IfOk result (λ terms. terms.items ≡ row_terms_of (lists_of model.now) linear.now) }
 {
     let coefficients = by_variable(alloc, model, linear.terms.as_slice())?;
@@ -45,8 +46,10 @@ fn by_variable(
     model: &Model,
     terms: &[(i64, Number)],
 ) -> Result<BTreeMap<u32, i64>, OutOfMemory>
-    requires { AreTermsOf (model_variables (lists_of model.now)) (nonzero (variable_terms (lists_of model.now) terms.now)) }
-    ensures { IfOk result (λ coefficients. as_terms coefficients.entries ≡ all_terms_placed [] (nonzero (variable_terms (lists_of model.now) terms.now))) }
+    requires { AreTermsOf (model_variables (lists_of model.now))
+        (nonzero (variable_terms (lists_of model.now) terms.now)) }
+    ensures { IfOk result (λ coefficients. as_terms coefficients.entries ≡ all_terms_placed []
+        (nonzero (variable_terms (lists_of model.now) terms.now))) }
 {
     let mut coefficients = BTreeMap::new(alloc);
     for term in terms {
@@ -60,9 +63,13 @@ fn insert_term(
     coefficients: &mut BTreeMap<u32, i64>,
     term: &(i64, Number),
 ) -> Result<(), OutOfMemory>
-    requires known { AreTermsOf (model_variables (lists_of model.now)) (nonzero (variable_terms (lists_of model.now) (term.now ∷ []))) }
-    requires new { AreApart (as_terms coefficients.old.entries) (nonzero (variable_terms (lists_of model.now) (term.now ∷ []))) }
-    ensures { OnOk result (as_terms coefficients.new.entries ≡ all_terms_placed (as_terms coefficients.old.entries) (nonzero (variable_terms (lists_of model.now) (term.now ∷ [])))) }
+    requires known { AreTermsOf (model_variables (lists_of model.now))
+        (nonzero (variable_terms (lists_of model.now) (term.now ∷ []))) }
+    requires new { AreApart (as_terms coefficients.old.entries)
+        (nonzero (variable_terms (lists_of model.now) (term.now ∷ []))) }
+    ensures { OnOk result (as_terms coefficients.new.entries ≡ all_terms_placed
+        (as_terms coefficients.old.entries) (nonzero
+        (variable_terms (lists_of model.now) (term.now ∷ [])))) }
 {
     if term.0 == 0 {
         return Ok(());

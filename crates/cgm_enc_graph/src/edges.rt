@@ -7,8 +7,8 @@ ghost use Rattle.cgm_model.specs.Statement.{IsEdgeOf};
 ghost use Rattle.cgm_model.specs.TruthVariables.{variable_of};
 ghost use Rattle.cgm_enc_graph.specs.GraphClauses.{bind_clauses, conflict_clause, contrib_clause, target_of as target_in};
 
-use cgm_atom::literals::{add_clause, add_implication, literal, negated};
 use cgm_atom::ProblemBuilder;
+use cgm_atom::literals::{add_clause, add_implication, literal, negated};
 use cgm_base::OutOfMemory;
 use cgm_model::{Edge, Model};
 use std::alloc::Global;
@@ -20,7 +20,8 @@ pub(crate) fn add_contribs(
     contribs: &[Edge],
 ) -> Result<(), OutOfMemory>
     requires { CanTake builder.old (map contrib_clause contribs.now) }
-    ensures { OnOk result (builder.new ≡ with_written builder.old (map contrib_clause contribs.now)) }
+    ensures { OnOk result (builder.new ≡ with_written builder.old
+        (map contrib_clause contribs.now)) }
 {
     for e in contribs {
         add_implication(alloc, builder, e.from, e.to)?;
@@ -35,7 +36,8 @@ pub(crate) fn add_conflicts(
     conflicts: &[Edge],
 ) -> Result<(), OutOfMemory>
     requires { CanTake builder.old (map conflict_clause conflicts.now) }
-    ensures { OnOk result (builder.new ≡ with_written builder.old (map conflict_clause conflicts.now)) }
+    ensures { OnOk result (builder.new ≡ with_written builder.old
+        (map conflict_clause conflicts.now)) }
 {
     for e in conflicts {
         add_conflict(alloc, builder, e)?;
@@ -59,7 +61,8 @@ pub(crate) fn add_binds(
 ) -> Result<(), OutOfMemory>
     requires room { CanTake builder.old (flat_map (bind_clauses (lists_of model.now)) binds.now) }
     requires known { All (IsEdgeOf (length model.now.refinements)) binds.now }
-    ensures { OnOk result (builder.new ≡ with_written builder.old (flat_map (bind_clauses (lists_of model.now)) binds.now)) }
+    ensures { OnOk result (builder.new ≡ with_written builder.old
+        (flat_map (bind_clauses (lists_of model.now)) binds.now)) }
 {
     for e in binds {
         add_bind(alloc, builder, model, e)?;
@@ -75,7 +78,8 @@ fn add_bind(
 ) -> Result<(), OutOfMemory>
     requires room { CanTake builder.old (bind_clauses (lists_of model.now) edge.now) }
     requires known { IsEdgeOf (length model.now.refinements) edge.now }
-    ensures { OnOk result (builder.new ≡ with_written builder.old (bind_clauses (lists_of model.now) edge.now)) }
+    ensures { OnOk result (builder.new ≡ with_written builder.old
+        (bind_clauses (lists_of model.now) edge.now)) }
 {
     let one = target_of(model, edge.from);
     let other = target_of(model, edge.to);

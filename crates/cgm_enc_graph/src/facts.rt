@@ -4,8 +4,8 @@ ghost use Rattle.std.specs.List.{enumerate_from};
 ghost use Rattle.cgm_atom.specs.Adding.{CanTake, with_written};
 ghost use Rattle.cgm_enc_graph.specs.GraphClauses.{assertion_clause, must_clauses};
 
-use cgm_atom::literals::{add_clause, literal, negated};
 use cgm_atom::ProblemBuilder;
+use cgm_atom::literals::{add_clause, literal, negated};
 use cgm_base::OutOfMemory;
 use cgm_model::{Assertion, Element};
 use std::alloc::Global;
@@ -18,7 +18,8 @@ pub(crate) fn add_musts(
 ) -> Result<(), OutOfMemory>
     requires room { CanTake builder.old (flat_map must_clauses (enumerate_from 0 elements.now)) }
     requires few { length elements.now ≤ 2 ^ 32 }
-    ensures { OnOk result (builder.new ≡ with_written builder.old (flat_map must_clauses (enumerate_from 0 elements.now))) }
+    ensures { OnOk result (builder.new ≡ with_written builder.old
+        (flat_map must_clauses (enumerate_from 0 elements.now))) }
 {
     for (number, e) in elements.iter().enumerate() {
         add_must(alloc, builder, number as u32, e)?;
@@ -33,7 +34,8 @@ fn add_must(
     element: &Element,
 ) -> Result<(), OutOfMemory>
     requires { CanTake builder.old (must_clauses (number, element.now)) }
-    ensures { OnOk result (builder.new ≡ with_written builder.old (must_clauses (number, element.now))) }
+    ensures { OnOk result (builder.new ≡ with_written builder.old
+        (must_clauses (number, element.now))) }
 {
     if !element.must {
         return Ok(());
@@ -48,7 +50,8 @@ pub(crate) fn add_asserts(
     asserts: &[Assertion],
 ) -> Result<(), OutOfMemory>
     requires { CanTake builder.old (map assertion_clause asserts.now) }
-    ensures { OnOk result (builder.new ≡ with_written builder.old (map assertion_clause asserts.now)) }
+    ensures { OnOk result (builder.new ≡ with_written builder.old
+        (map assertion_clause asserts.now)) }
 {
     for a in asserts {
         add_assertion(alloc, builder, a)?;
@@ -62,7 +65,8 @@ fn add_assertion(
     assertion: &Assertion,
 ) -> Result<(), OutOfMemory>
     requires { CanTake builder.old (assertion_clause assertion.now ∷ []) }
-    ensures { OnOk result (builder.new ≡ with_written builder.old (assertion_clause assertion.now ∷ [])) }
+    ensures { OnOk result (builder.new ≡ with_written builder.old
+        (assertion_clause assertion.now ∷ [])) }
 {
     if assertion.truth {
         add_clause(alloc, builder, &[literal(assertion.element)])

@@ -36,7 +36,8 @@ pub fn add_graph(
 ) -> Result<(), OutOfMemory>
     requires variables { truth_variables (lists_of model.now) ≤ var_count builder.old }
     requires room { length builder.old.clauses ≤ 2 ^ 31 }
-    ensures { OnOk result (builder.new ≡ with_clauses builder.old (graph_clauses (lists_of model.now))) }
+    ensures { OnOk result (builder.new ≡ with_clauses builder.old
+        (graph_clauses (lists_of model.now))) }
 {
     add_refinement_group(alloc, builder, model)?;
     add_edge_group(alloc, builder, model)?;
@@ -50,7 +51,8 @@ fn add_refinement_group(
     model: &Model,
 ) -> Result<(), OutOfMemory>
     requires { CanTake builder.old (refinement_group (lists_of model.now)) }
-    ensures { OnOk result (builder.new ≡ with_written builder.old (refinement_group (lists_of model.now))) }
+    ensures { OnOk result (builder.new ≡ with_written builder.old
+        (refinement_group (lists_of model.now))) }
 {
     let refinements = model.refinements.as_slice();
     let count = model.elements.as_slice().len();
@@ -67,7 +69,8 @@ fn add_edge_group(
     model: &Model,
 ) -> Result<(), OutOfMemory>
     requires { CanTake builder.old (edge_group (lists_of model.now)) }
-    ensures { OnOk result (builder.new ≡ with_written builder.old (edge_group (lists_of model.now))) }
+    ensures { OnOk result (builder.new ≡ with_written builder.old
+        (edge_group (lists_of model.now))) }
 {
     add_contribs(alloc, builder, model.contribs.as_slice())?;
     add_conflicts(alloc, builder, model.conflicts.as_slice())?;
@@ -81,7 +84,8 @@ fn add_fact_group(
     model: &Model,
 ) -> Result<(), OutOfMemory>
     requires { CanTake builder.old (fact_group (lists_of model.now)) }
-    ensures { OnOk result (builder.new ≡ with_written builder.old (fact_group (lists_of model.now))) }
+    ensures { OnOk result (builder.new ≡ with_written builder.old
+        (fact_group (lists_of model.now))) }
 {
     add_musts(alloc, builder, model.elements.as_slice())?;
     add_asserts(alloc, builder, model.asserts.as_slice())

@@ -5,10 +5,10 @@ ghost use Rattle.cgm_atom.specs.Adding.{CanTake, with_written};
 ghost use Rattle.cgm_atom.specs.Literals.{clause, implication, literal as literal_of, negated as negated_of};
 ghost use Rattle.cgm_enc_graph.specs.GraphClauses.{element_clauses, refinement_clauses};
 
+use cgm_atom::ProblemBuilder;
 use cgm_atom::literals::{
     add_clause, add_implication, literal, negated, push_literals, push_negated,
 };
-use cgm_atom::ProblemBuilder;
 use cgm_base::OutOfMemory;
 use cgm_formula::Parts;
 use cgm_model::Refinement;
@@ -21,9 +21,11 @@ pub(crate) fn add_refinements(
     first: u32,
     refinements: &[Refinement],
 ) -> Result<(), OutOfMemory>
-    requires room { CanTake builder.old (flat_map refinement_clauses (enumerate_from first refinements.now)) }
+    requires room { CanTake builder.old (flat_map refinement_clauses
+        (enumerate_from first refinements.now)) }
     requires few { first + length refinements.now ≤ 2 ^ 32 }
-    ensures { OnOk result (builder.new ≡ with_written builder.old (flat_map refinement_clauses (enumerate_from first refinements.now))) }
+    ensures { OnOk result (builder.new ≡ with_written builder.old
+        (flat_map refinement_clauses (enumerate_from first refinements.now))) }
 {
     for (number, r) in refinements.iter().enumerate() {
         add_refinement(alloc, builder, first + number as u32, r)?;
@@ -38,7 +40,8 @@ fn add_refinement(
     refinement: &Refinement,
 ) -> Result<(), OutOfMemory>
     requires { CanTake builder.old (refinement_clauses (x, refinement.now)) }
-    ensures { OnOk result (builder.new ≡ with_written builder.old (refinement_clauses (x, refinement.now))) }
+    ensures { OnOk result (builder.new ≡ with_written builder.old
+        (refinement_clauses (x, refinement.now))) }
 {
     let sources = refinement.sources.as_slice();
     add_sources(alloc, builder, x, sources)?;
@@ -54,7 +57,8 @@ fn add_sources(
     sources: &[u32],
 ) -> Result<(), OutOfMemory>
     requires { CanTake builder.old (map (implication x) sources.now) }
-    ensures { OnOk result (builder.new ≡ with_written builder.old (map (implication x) sources.now)) }
+    ensures { OnOk result (builder.new ≡ with_written builder.old
+        (map (implication x) sources.now)) }
 {
     for source in sources {
         add_implication(alloc, builder, x, *source)?;
@@ -70,7 +74,8 @@ fn add_converse(
     sources: &[u32],
 ) -> Result<(), OutOfMemory>
     requires { CanTake builder.old (clause (map negated_of sources.now ++ literal_of x ∷ []) ∷ []) }
-    ensures { OnOk result (builder.new ≡ with_written builder.old (clause (map negated_of sources.now ++ literal_of x ∷ []) ∷ [])) }
+    ensures { OnOk result (builder.new ≡ with_written builder.old
+        (clause (map negated_of sources.now ++ literal_of x ∷ []) ∷ [])) }
 {
     let mut atoms = Vec::new(alloc);
     push_negated(&mut atoms, sources)?;
@@ -85,9 +90,11 @@ pub(crate) fn add_elements(
     builder: &mut ProblemBuilder,
     refinements: &[Parts<u32>],
 ) -> Result<(), OutOfMemory>
-    requires room { CanTake builder.old (flat_map (λ e. element_clauses e.0 e.1) (enumerate_from 0 refinements.now)) }
+    requires room { CanTake builder.old (flat_map (λ e. element_clauses e.0 e.1)
+        (enumerate_from 0 refinements.now)) }
     requires few { length refinements.now ≤ 2 ^ 32 }
-    ensures { OnOk result (builder.new ≡ with_written builder.old (flat_map (λ e. element_clauses e.0 e.1) (enumerate_from 0 refinements.now))) }
+    ensures { OnOk result (builder.new ≡ with_written builder.old
+        (flat_map (λ e. element_clauses e.0 e.1) (enumerate_from 0 refinements.now))) }
 {
     for (element, own) in refinements.iter().enumerate() {
         add_element(alloc, builder, element as u32, own.as_slice())?;
@@ -103,7 +110,8 @@ fn add_element(
     refinements: &[u32],
 ) -> Result<(), OutOfMemory>
     requires { CanTake builder.old (element_clauses element refinements.now) }
-    ensures { OnOk result (builder.new ≡ with_written builder.old (element_clauses element refinements.now)) }
+    ensures { OnOk result (builder.new ≡ with_written builder.old
+        (element_clauses element refinements.now)) }
 {
     if refinements.is_empty() {
         return Ok(());

@@ -18,7 +18,8 @@ pub(crate) fn by_target(
     requires known { All (λ r. r.target < count) refinements.now }
     requires few { first + length refinements.now ≤ 2 ^ 32 }
     ensures count { IfOk result (λ lists. length lists.items ≡ count) }
-    ensures lists { IfOk result (λ lists. (e : ℕ) → e < count → slice_index_or lists.items e [] ≡ variables_for (enumerate_from first refinements.now) e) }
+    ensures lists { IfOk result (λ lists. (e : ℕ) → e < count → slice_index_or lists.items e []
+        ≡ variables_for (enumerate_from first refinements.now) e) }
 {
     let mut lists = empty_lists(alloc, count)?;
     for (number, r) in refinements.iter().enumerate() {

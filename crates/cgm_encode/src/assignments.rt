@@ -24,7 +24,8 @@ pub fn decode(alloc: Global, enc: &Encoded, values: &[i64]) -> Result<Assignment
 }
 
 fn assignment(alloc: Global, enc: &Encoded, values: &[i64]) -> Result<Assignment, OutOfMemory>
-    ensures { IfOk result (λ a. a ≡ assignment_of enc.now.elements enc.now.refinements enc.now.vars values.now) }
+    ensures { IfOk result (λ a. a ≡ assignment_of enc.now.elements enc.now.refinements enc.now.vars
+        values.now) }
 {
     let elements = enc.elements as usize;
     let refinements = enc.refinements as usize;
@@ -44,7 +45,8 @@ fn truths(
     count: usize,
 ) -> Result<Vec<bool>, OutOfMemory>
     requires { from + count < 2 ^ 64 }
-    ensures { IfOk result (λ truths. truths.items ≡ map (truth_in values.now) (range_with_len from count)) }
+    ensures { IfOk result (λ truths. truths.items ≡ map (truth_in values.now)
+        (range_with_len from count)) }
 {
     let mut truths = Vec::with_capacity(alloc, count)?;
     for x in 0..count {
@@ -61,7 +63,8 @@ fn numbers(
     count: usize,
 ) -> Result<Vec<i64>, OutOfMemory>
     requires { from + count < 2 ^ 64 }
-    ensures { IfOk result (λ numbers. numbers.items ≡ map (value_in values.now) (range_with_len from count)) }
+    ensures { IfOk result (λ numbers. numbers.items ≡ map (value_in values.now)
+        (range_with_len from count)) }
 {
     let mut numbers = Vec::with_capacity(alloc, count)?;
     for x in 0..count {

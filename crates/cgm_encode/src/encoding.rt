@@ -167,7 +167,8 @@ fn add_preference_part(
 ) -> Result<Vec<u32>, OutOfMemory>
     requires { builder.old ≡ rules_instance (lists_of model.now) }
     ensures added { OnOk result (builder.new ≡ choices_instance (lists_of model.now)) }
-    ensures variables { IfOk result (λ variables. AreVariablesOfPreferences (lists_of model.now) variables.items) }
+    ensures variables { IfOk result (λ variables. AreVariablesOfPreferences (lists_of model.now)
+        variables.items) }
 {
     let prefers = model.prefers.as_slice();
     let variables = add_bits(alloc, builder, prefers.len())?;
@@ -186,7 +187,8 @@ fn define(
     requires room { count_of builder.old + length expressions.now ≤ 2 ^ 32 - 1 }
     requires row_room { length builder.old.rows + 2 * length expressions.now ≤ 2 ^ 32 - 1 }
     ensures added { OnOk result (builder.new ≡ with_defined builder.old expressions.now) }
-    ensures variables { IfOk result (λ variables. variables.items ≡ range_with_len (count_of builder.old) (length expressions.now)) }
+    ensures variables { IfOk result (λ variables. variables.items ≡ range_with_len
+        (count_of builder.old) (length expressions.now)) }
 {
     builder.recall_well_formed();
     let ranges = ranges_of(alloc, builder, expressions)?;

@@ -24,7 +24,8 @@ pub(crate) fn combined_terms(
     shares: &[(i64, u32)],
 ) -> Result<Vec<(i64, Var)>, OutOfMemory>
     requires { share_size shares.now < 2 ^ 63 }
-    ensures { IfOk result (λ terms. (n : ℕ) → All (λ s. s.1 < n) shares.now → terms.items ≡ terms_of n shares.now) }
+    ensures { IfOk result (λ terms. (n : ℕ) → All (λ s. s.1 < n) shares.now → terms.items ≡ terms_of
+        n shares.now) }
 {
     let numbers = combine(alloc, shares)?;
     let terms = nonzero_terms(alloc, &numbers)?;
@@ -44,8 +45,10 @@ fn combine(alloc: Global, shares: &[(i64, u32)]) -> Result<BTreeMap<u32, i64>, O
 }
 
 fn add_share(numbers: &mut BTreeMap<u32, i64>, share: &(i64, u32)) -> Result<(), OutOfMemory>
-    requires { unsigned_abs (number_at numbers.old share.now.1) + unsigned_abs share.now.0 < 2 ^ 63 }
-    ensures { OnOk result ((x : ℕ) → number_at numbers.new x ≡ number_at numbers.old x +ℤ (if share.now.1 == x then share.now.0 else pos 0)) }
+    requires { unsigned_abs (number_at numbers.old share.now.1) + unsigned_abs share.now.0 < 2 ^
+        63 }
+    ensures { OnOk result ((x : ℕ) → number_at numbers.new x ≡ number_at numbers.old x
+        +ℤ (if share.now.1 == x then share.now.0 else pos 0)) }
 {
     let so_far = number_of(numbers, share.1);
     numbers.insert(share.1, plus(so_far, share.0))?;
@@ -84,7 +87,8 @@ fn nonzero_terms(
 }
 
 fn push_nonzero(terms: &mut Vec<(i64, Var)>, number: i64, x: u32) -> Result<(), OutOfMemory>
-    ensures { OnOk result (terms.new.items ≡ terms.old.items ++ nonzero ((number, record { 0 = x }) ∷ [])) }
+    ensures { OnOk result (terms.new.items ≡ terms.old.items ++ nonzero
+        ((number, record { 0 = x }) ∷ [])) }
 {
     if number == 0 {
         return Ok(());

@@ -25,7 +25,8 @@ pub(crate) fn leaf_tasks(alloc: Global, model: &Model) -> Result<Vec<u32>, OutOf
 }
 
 fn push_leaf_task(tasks: &mut Vec<u32>, model: &Model, element: u32) -> Result<(), OutOfMemory>
-    ensures { OnOk result (tasks.new.items ≡ tasks.old.items ++ filter (leaves.is_leaf_task (lists_of model.now)) (element ∷ [])) }
+    ensures { OnOk result (tasks.new.items ≡ tasks.old.items ++ filter
+        (leaves.is_leaf_task (lists_of model.now)) (element ∷ [])) }
 {
     if model.is_leaf_task(element) {
         tasks.push(element)?;
@@ -35,7 +36,8 @@ fn push_leaf_task(tasks: &mut Vec<u32>, model: &Model, element: u32) -> Result<(
 
 /// The elements on interest lines, or the leaf tasks where there is no such line.
 pub(crate) fn elements_of_interest(alloc: Global, model: &Model) -> Result<Vec<u32>, OutOfMemory>
-    ensures { IfOk result (λ elements. elements.items ≡ costs.elements_of_interest (lists_of model.now)) }
+    ensures { IfOk result (λ elements. elements.items ≡ costs.elements_of_interest
+        (lists_of model.now)) }
 {
     let interests = model.interests.as_slice();
     if interests.is_empty() {
@@ -69,7 +71,8 @@ pub(crate) fn possible_work(
     model: &Model,
     earlier: &Earlier,
 ) -> Result<Vec<u32>, OutOfMemory>
-    ensures { IfOk result (λ tasks. tasks.items ≡ quantities.possible_work (lists_of model.now) earlier.now.pairs) }
+    ensures { IfOk result (λ tasks. tasks.items ≡ quantities.possible_work (lists_of model.now)
+        earlier.now.pairs) }
 {
     let interest = elements_of_interest(alloc, model)?;
     let tasks = work_among(alloc, model, earlier, interest.as_slice())?;
@@ -83,7 +86,9 @@ fn work_among(
     earlier: &Earlier,
     elements: &[u32],
 ) -> Result<Vec<u32>, OutOfMemory>
-    ensures { IfOk result (λ tasks. tasks.items ≡ filter (λ k. leaves.is_leaf_task (lists_of model.now) k && not (quantities.was_true_before (lists_of model.now) earlier.now.pairs k)) elements.now) }
+    ensures { IfOk result (λ tasks. tasks.items ≡ filter
+        (λ k. leaves.is_leaf_task (lists_of model.now) k && not
+        (quantities.was_true_before (lists_of model.now) earlier.now.pairs k)) elements.now) }
 {
     let mut tasks = Vec::new(alloc);
     for element in elements {
@@ -98,7 +103,9 @@ fn push_possible_work(
     earlier: &Earlier,
     element: u32,
 ) -> Result<(), OutOfMemory>
-    ensures { OnOk result (tasks.new.items ≡ tasks.old.items ++ filter (λ k. leaves.is_leaf_task (lists_of model.now) k && not (quantities.was_true_before (lists_of model.now) earlier.now.pairs k)) (element ∷ [])) }
+    ensures { OnOk result (tasks.new.items ≡ tasks.old.items ++ filter
+        (λ k. leaves.is_leaf_task (lists_of model.now) k && not
+        (quantities.was_true_before (lists_of model.now) earlier.now.pairs k)) (element ∷ [])) }
 {
     if is_possible_work(model, earlier, element) {
         tasks.push(element)?;
@@ -107,14 +114,16 @@ fn push_possible_work(
 }
 
 fn is_possible_work(model: &Model, earlier: &Earlier, element: u32) -> bool
-    ensures { result ≡ (leaves.is_leaf_task (lists_of model.now) element && not (quantities.was_true_before (lists_of model.now) earlier.now.pairs element)) }
+    ensures { result ≡ (leaves.is_leaf_task (lists_of model.now) element && not
+        (quantities.was_true_before (lists_of model.now) earlier.now.pairs element)) }
 {
     model.is_leaf_task(element) && !was_true_before(model, earlier, element)
 }
 
 /// The requirements without `must`, by number.
 pub(crate) fn free_requirements(alloc: Global, model: &Model) -> Result<Vec<u32>, OutOfMemory>
-    ensures { IfOk result (λ elements. elements.items ≡ quantities.free_requirements (lists_of model.now)) }
+    ensures { IfOk result (λ elements. elements.items ≡ quantities.free_requirements
+        (lists_of model.now)) }
 {
     let mut requirements = Vec::new(alloc);
     for element in 0..element_count(model) {
@@ -128,7 +137,8 @@ fn push_free_requirement(
     model: &Model,
     element: u32,
 ) -> Result<(), OutOfMemory>
-    ensures { OnOk result (requirements.new.items ≡ requirements.old.items ++ filter (counts.is_free_requirement (lists_of model.now)) (element ∷ [])) }
+    ensures { OnOk result (requirements.new.items ≡ requirements.old.items ++ filter
+        (counts.is_free_requirement (lists_of model.now)) (element ∷ [])) }
 {
     if is_free_requirement(model, element) {
         requirements.push(element)?;

@@ -7,8 +7,8 @@ ghost use Rattle.cgm_model.specs.Statement.{IsProperPreference};
 ghost use Rattle.cgm_encode.specs.Problem.{preference_clauses};
 
 use crate::names::truth_variable;
-use cgm_atom::literals::{add_clause, literal, negated};
 use cgm_atom::ProblemBuilder;
+use cgm_atom::literals::{add_clause, literal, negated};
 use cgm_base::OutOfMemory;
 use cgm_model::{Model, Preference};
 use std::alloc::Global;
@@ -22,9 +22,11 @@ pub(crate) fn add_preferences(
     prefers: &[Preference],
 ) -> Result<(), OutOfMemory>
     requires count { length variables.now ≡ length prefers.now }
-    requires room { CanTake builder.old (flat_map (preference_clauses (lists_of model.now)) (zip variables.now prefers.now)) }
+    requires room { CanTake builder.old (flat_map (preference_clauses (lists_of model.now))
+        (zip variables.now prefers.now)) }
     requires known { All (IsProperPreference (lists_of model.now)) prefers.now }
-    ensures { OnOk result (builder.new ≡ with_written builder.old (flat_map (preference_clauses (lists_of model.now)) (zip variables.now prefers.now))) }
+    ensures { OnOk result (builder.new ≡ with_written builder.old
+        (flat_map (preference_clauses (lists_of model.now)) (zip variables.now prefers.now))) }
 {
     for (place, p) in prefers.iter().enumerate() {
         add_preference(alloc, builder, model, variable_at(variables, place), p)?;
@@ -47,9 +49,11 @@ fn add_preference(
     u: u32,
     preference: &Preference,
 ) -> Result<(), OutOfMemory>
-    requires room { CanTake builder.old (preference_clauses (lists_of model.now) (u, preference.now)) }
+    requires room { CanTake builder.old (preference_clauses (lists_of model.now)
+        (u, preference.now)) }
     requires known { IsProperPreference (lists_of model.now) preference.now }
-    ensures { OnOk result (builder.new ≡ with_written builder.old (preference_clauses (lists_of model.now) (u, preference.now))) }
+    ensures { OnOk result (builder.new ≡ with_written builder.old
+        (preference_clauses (lists_of model.now) (u, preference.now))) }
 {
     let better = truth_variable(model, preference.better);
     let worse = truth_variable(model, preference.worse);

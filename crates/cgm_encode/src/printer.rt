@@ -109,7 +109,8 @@ fn push_terms(out: &mut Vec<u8>, terms: &[(i64, Var)]) -> Result<(), OutOfMemory
 }
 
 fn push_objectives(out: &mut Vec<u8>, objectives: &[Var]) -> Result<(), OutOfMemory>
-    ensures { OnOk result (out.new.items ≡ out.old.items ++ flat_map objective_line objectives.now) }
+    ensures { OnOk result (out.new.items ≡ out.old.items ++ flat_map objective_line
+        objectives.now) }
 {
     for v in objectives {
         push_objective(out, *v)?;

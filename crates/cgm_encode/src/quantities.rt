@@ -36,7 +36,9 @@ pub(crate) fn objective_expressions(
     preferences: &[u32],
 ) -> Result<Vec<Expression>, OutOfMemory>
     requires { AreVariablesOfPreferences (lists_of model.now) preferences.now }
-    ensures { IfOk result (λ es. es.items ≡ map (λ o. expression_of (first_objective (lists_of model.now)) (objective_total (lists_of model.now) earlier.now.pairs o)) model.now.objectives) }
+    ensures { IfOk result (λ es. es.items ≡ map (λ o. expression_of
+        (first_objective (lists_of model.now)) (objective_total (lists_of model.now)
+        earlier.now.pairs o)) model.now.objectives) }
 {
     let objectives = objectives(model, earlier);
     let mut expressions = Vec::with_capacity(alloc, objectives.len())?;
@@ -64,7 +66,8 @@ fn objective_expression(
 ) -> Result<Expression, OutOfMemory>
     requires preferences { AreVariablesOfPreferences (lists_of model.now) preferences.now }
     requires fitting { IsFitting (lists_of model.now) earlier.now.pairs objective }
-    ensures { IfOk result (λ x. x ≡ expression_of (first_objective (lists_of model.now)) (objective_total (lists_of model.now) earlier.now.pairs objective)) }
+    ensures { IfOk result (λ x. x ≡ expression_of (first_objective (lists_of model.now))
+        (objective_total (lists_of model.now) earlier.now.pairs objective)) }
 {
     let summands = objective_summands(alloc, model, earlier, preferences, objective)?;
     let terms = combined_terms(alloc, summands.shares.as_slice())?;
@@ -83,7 +86,8 @@ fn objective_summands(
 ) -> Result<Summands, OutOfMemory>
     requires preferences { AreVariablesOfPreferences (lists_of model.now) preferences.now }
     requires fitting { IsFitting (lists_of model.now) earlier.now.pairs objective }
-    ensures { IfOk result (λ s. AreSummandsOf s (objective_total (lists_of model.now) earlier.now.pairs objective)) }
+    ensures { IfOk result (λ s. AreSummandsOf s (objective_total (lists_of model.now)
+        earlier.now.pairs objective)) }
 {
     let summands = summands_of(alloc, model, earlier, preferences, objective.of)?;
     if objective.max {
@@ -96,7 +100,8 @@ fn objective_summands(
 fn opposite(alloc: Global, summands: &Summands) -> Result<Summands, OutOfMemory>
     requires shares { All (λ s. unsigned_abs s.0 < 2 ^ 63) summands.now.shares }
     requires constant { unsigned_abs summands.now.constant < 2 ^ 63 }
-    ensures { IfOk result (λ s. AreSummandsOf s (opposite_total (record { shares = summands.now.shares; constant = summands.now.constant }))) }
+    ensures { IfOk result (λ s. AreSummandsOf s (opposite_total
+        (record { shares = summands.now.shares; constant = summands.now.constant }))) }
 {
     let shares = opposite_shares(alloc, summands.shares.as_slice())?;
     Ok(Summands {
@@ -132,7 +137,8 @@ fn summands_of(
 ) -> Result<Summands, OutOfMemory>
     requires preferences { AreVariablesOfPreferences (lists_of model.now) preferences.now }
     requires known { IsKnownQuantity (lists_of model.now) quantity }
-    ensures { IfOk result (λ s. AreSummandsOf s (quantity_total (lists_of model.now) earlier.now.pairs quantity)) }
+    ensures { IfOk result (λ s. AreSummandsOf s (quantity_total (lists_of model.now)
+        earlier.now.pairs quantity)) }
 {
     match quantity {
         Quantity::Var(k) => ones(alloc, &[own_variable(model, k)]),
@@ -163,7 +169,10 @@ fn ones(alloc: Global, variables: &[u32]) -> Result<Summands, OutOfMemory>
 /// -1 for each variable, and the number of variables.
 fn missed(alloc: Global, variables: &[u32]) -> Result<Summands, OutOfMemory>
     requires { length variables.now < 2 ^ 63 }
-    ensures { IfOk result (λ s. AreSummandsOf s (record { shares = map (λ e. (negsuc 0, e)) variables.now; constant = pos (length variables.now) })) }
+    ensures { IfOk result (λ s. AreSummandsOf s (record {
+      shares = map (λ e. (negsuc 0, e)) variables.now;
+      constant = pos (length variables.now);
+    })) }
 {
     let mut shares = Vec::with_capacity(alloc, variables.len())?;
     for x in variables {
@@ -177,7 +186,9 @@ fn missed(alloc: Global, variables: &[u32]) -> Result<Summands, OutOfMemory>
 
 /// The number of each penalty, and that of each reward with its sign changed, for its element.
 fn weights(alloc: Global, model: &Model) -> Result<Summands, OutOfMemory>
-    ensures { IfOk result (λ s. AreSummandsOf s (quantities.plain (map (λ w. (w.k, w.element)) model.now.penalties ++ map (λ w. (neg_ℤ w.k, w.element)) model.now.rewards))) }
+    ensures { IfOk result (λ s. AreSummandsOf s (quantities.plain
+        (map (λ w. (w.k, w.element)) model.now.penalties ++ map (λ w. (neg_ℤ w.k, w.element))
+        model.now.rewards))) }
 {
     let mut shares = Vec::new(alloc);
     push_penalties(&mut shares, model.penalties.as_slice())?;
@@ -196,7 +207,8 @@ fn rewards(model: &Model) -> &[Weighing]
 }
 
 fn push_penalties(shares: &mut Vec<(i64, u32)>, penalties: &[Weighing]) -> Result<(), OutOfMemory>
-    ensures { OnOk result (shares.new.items ≡ shares.old.items ++ map (λ w. (w.k, w.element)) penalties.now) }
+    ensures { OnOk result (shares.new.items ≡ shares.old.items ++ map (λ w. (w.k, w.element))
+        penalties.now) }
 {
     for w in penalties {
         shares.push((w.k, w.element))?;
@@ -206,7 +218,8 @@ fn push_penalties(shares: &mut Vec<(i64, u32)>, penalties: &[Weighing]) -> Resul
 
 fn push_rewards(shares: &mut Vec<(i64, u32)>, rewards: &[Weighing]) -> Result<(), OutOfMemory>
     requires { All (λ w. unsigned_abs w.k ≤ 1000000) rewards.now }
-    ensures { OnOk result (shares.new.items ≡ shares.old.items ++ map (λ w. (neg_ℤ w.k, w.element)) rewards.now) }
+    ensures { OnOk result (shares.new.items ≡ shares.old.items ++ map (λ w. (neg_ℤ w.k, w.element))
+        rewards.now) }
 {
     for w in rewards {
         shares.push(reward_share(w))?;
@@ -223,7 +236,8 @@ fn reward_share(weighing: &Weighing) -> (i64, u32)
 
 /// For each element of interest -1 where it was true, which the constant counts, else 1.
 fn familiarity(alloc: Global, model: &Model, earlier: &Earlier) -> Result<Summands, OutOfMemory>
-    ensures { IfOk result (λ s. AreSummandsOf s (quantities.familiarity_total (lists_of model.now) earlier.now.pairs)) }
+    ensures { IfOk result (λ s. AreSummandsOf s (quantities.familiarity_total (lists_of model.now)
+        earlier.now.pairs)) }
 {
     let interest = elements_of_interest(alloc, model)?;
     let shares = changes(alloc, model, earlier, interest.as_slice())?;
@@ -239,7 +253,12 @@ fn changes(
     earlier: &Earlier,
     elements: &[u32],
 ) -> Result<Vec<(i64, u32)>, OutOfMemory>
-    ensures { IfOk result (λ shares. shares.items ≡ map (λ x. (cond (quantities.was_true_before (lists_of model.now) earlier.now.pairs x) (negsuc 0) (pos 1), x)) elements.now) }
+    ensures { IfOk result (λ shares. shares.items ≡ map
+        (λ x. (
+          cond (quantities.was_true_before (lists_of model.now) earlier.now.pairs x) (negsuc 0)
+              (pos 1),
+          x,
+        )) elements.now) }
 {
     let mut shares = Vec::with_capacity(alloc, elements.len())?;
     for element in elements {
@@ -249,7 +268,11 @@ fn changes(
 }
 
 fn change(model: &Model, earlier: &Earlier, element: u32) -> (i64, u32)
-    ensures { result ≡ (cond (quantities.was_true_before (lists_of model.now) earlier.now.pairs element) (negsuc 0) (pos 1), element) }
+    ensures { result ≡ (
+      cond (quantities.was_true_before (lists_of model.now) earlier.now.pairs
+          element) (negsuc 0) (pos 1),
+      element,
+    ) }
 {
     if was_true_before(model, earlier, element) {
         (-1, element)
@@ -260,7 +283,8 @@ fn change(model: &Model, earlier: &Earlier, element: u32) -> (i64, u32)
 
 /// How many of these elements were true.
 fn true_before(model: &Model, earlier: &Earlier, elements: &[u32]) -> usize
-    ensures count { result ≡ count_by (quantities.was_true_before (lists_of model.now) earlier.now.pairs) elements.now }
+    ensures count { result ≡ count_by (quantities.was_true_before (lists_of model.now)
+        earlier.now.pairs) elements.now }
 {
     elements
         .iter()

@@ -19,7 +19,8 @@ pub(crate) fn ranges_of(
     expressions: &[Expression],
 ) -> Result<Vec<(i64, i64)>, OutOfMemory>
     requires { All (IsMeasured builder.now) expressions.now }
-    ensures ranges { IfOk result (λ ranges. ranges.items ≡ map (expression_range builder.now.bounds) expressions.now) }
+    ensures ranges { IfOk result (λ ranges. ranges.items ≡ map (expression_range builder.now.bounds)
+        expressions.now) }
 {
     let mut ranges = Vec::with_capacity(alloc, expressions.len())?;
     for e in expressions {
@@ -66,9 +67,11 @@ fn greatest_activity(builder: &ProblemBuilder, terms: &[(i64, Var)]) -> i64
 
 fn least_term(builder: &ProblemBuilder, term: &(i64, Var)) -> i64
     requires known { term.now.1.0 < var_count builder.now }
-    requires limit { unsigned_abs term.now.0 * greatest_size builder.now.bounds term.now.1.0 ≤ max_measure }
+    requires limit { unsigned_abs term.now.0 * greatest_size builder.now.bounds term.now.1.0
+        ≤ max_measure }
     ensures value { result ≡ least_term_in builder.now.bounds term.now.0 term.now.1.0 }
-    ensures size { unsigned_abs result ≤ unsigned_abs term.now.0 * greatest_size builder.now.bounds term.now.1.0 }
+    ensures size { unsigned_abs result ≤ unsigned_abs term.now.0 * greatest_size builder.now.bounds
+        term.now.1.0 }
 {
     let (lo, hi) = builder.bounds(term.1);
     if term.0 < 0 {
@@ -80,9 +83,11 @@ fn least_term(builder: &ProblemBuilder, term: &(i64, Var)) -> i64
 
 fn greatest_term(builder: &ProblemBuilder, term: &(i64, Var)) -> i64
     requires known { term.now.1.0 < var_count builder.now }
-    requires limit { unsigned_abs term.now.0 * greatest_size builder.now.bounds term.now.1.0 ≤ max_measure }
+    requires limit { unsigned_abs term.now.0 * greatest_size builder.now.bounds term.now.1.0
+        ≤ max_measure }
     ensures value { result ≡ greatest_term_in builder.now.bounds term.now.0 term.now.1.0 }
-    ensures size { unsigned_abs result ≤ unsigned_abs term.now.0 * greatest_size builder.now.bounds term.now.1.0 }
+    ensures size { unsigned_abs result ≤ unsigned_abs term.now.0 * greatest_size builder.now.bounds
+        term.now.1.0 }
 {
     let (lo, hi) = builder.bounds(term.1);
     if term.0 < 0 {

@@ -25,7 +25,8 @@ pub(crate) fn add_defining_rows(
     requires expressions { All (λ v. All (IsDefining v) expressions.now) variables.now }
     requires sizes { All (HasBoundSize builder.old.bounds) expressions.now }
     requires room { length builder.old.rows + 2 * length expressions.now ≤ 2 ^ 32 - 1 }
-    ensures { OnOk result (builder.new ≡ with_rows builder.old (flat_map defining_rows (zip variables.now expressions.now))) }
+    ensures { OnOk result (builder.new ≡ with_rows builder.old
+        (flat_map defining_rows (zip variables.now expressions.now))) }
 {
     for (place, e) in expressions.iter().enumerate() {
         add_two_rows(alloc, builder, variables[place], e)?;
@@ -44,7 +45,8 @@ fn add_two_rows(
     requires size { HasBoundSize builder.old.bounds expression.now }
     requires known { v < var_count builder.old }
     requires room { length builder.old.rows + 2 ≤ 2 ^ 32 - 1 }
-    ensures { OnOk result (builder.new ≡ with_rows builder.old (defining_rows (v, expression.now))) }
+    ensures { OnOk result (builder.new ≡ with_rows builder.old
+        (defining_rows (v, expression.now))) }
 {
     builder.recall_well_formed();
     let negative_terms = negative(alloc, expression.terms.as_slice())?;

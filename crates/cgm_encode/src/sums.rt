@@ -16,7 +16,9 @@ use std::alloc::Global;
 
 /// What each sum is over the elements and refinements.
 pub(crate) fn sum_expressions(alloc: Global, model: &Model) -> Result<Vec<Expression>, OutOfMemory>
-    ensures { IfOk result (λ es. es.items ≡ map (λ sum. expression_of (truth_variables (lists_of model.now)) (sum_total (lists_of model.now) sum)) (range_with_len 0 (length model.now.sums))) }
+    ensures { IfOk result (λ es. es.items ≡ map (λ sum. expression_of
+        (truth_variables (lists_of model.now)) (sum_total (lists_of model.now) sum))
+        (range_with_len 0 (length model.now.sums))) }
 {
     let lists = shares_by_sum(alloc, model)?;
     let expressions = expressions_of(alloc, model, lists.as_slice())?;
@@ -25,7 +27,9 @@ pub(crate) fn sum_expressions(alloc: Global, model: &Model) -> Result<Vec<Expres
 
 /// The numbers of each sum for elements and refinements, in one pass over all value lines.
 fn shares_by_sum(alloc: Global, model: &Model) -> Result<Vec<Parts<(i64, u32)>>, OutOfMemory>
-    ensures { IfOk result (λ lists. lists.items ≡ map (λ sum. (sum_total (lists_of model.now) sum).shares) (range_with_len 0 (length model.now.sums))) }
+    ensures { IfOk result (λ lists. lists.items ≡ map
+        (λ sum. (sum_total (lists_of model.now) sum).shares)
+        (range_with_len 0 (length model.now.sums))) }
 {
     let mut lists = empty_lists(alloc, model.sums.as_slice().len())?;
     for v in model.values.as_slice() {
@@ -50,9 +54,11 @@ fn expressions_of(
     model: &Model,
     lists: &[Parts<(i64, u32)>],
 ) -> Result<Vec<Expression>, OutOfMemory>
-    requires known { All (λ shares. All (λ s. s.1 < truth_variables (lists_of model.now)) shares) lists.now }
+    requires known { All (λ shares. All (λ s. s.1 < truth_variables (lists_of model.now)) shares)
+        lists.now }
     requires small { All (λ shares. share_size shares < 2 ^ 63) lists.now }
-    ensures { IfOk result (λ es. es.items ≡ map (λ shares. expression_of (truth_variables (lists_of model.now)) (plain shares)) lists.now) }
+    ensures { IfOk result (λ es. es.items ≡ map (λ shares. expression_of
+        (truth_variables (lists_of model.now)) (plain shares)) lists.now) }
 {
     let mut expressions = Vec::with_capacity(alloc, lists.len())?;
     for shares in lists {
@@ -68,7 +74,8 @@ fn expression(
 ) -> Result<Expression, OutOfMemory>
     requires known { All (λ s. s.1 < truth_variables (lists_of model.now)) shares.now }
     requires small { share_size shares.now < 2 ^ 63 }
-    ensures { IfOk result (λ e. e ≡ expression_of (truth_variables (lists_of model.now)) (plain shares.now)) }
+    ensures { IfOk result (λ e. e ≡ expression_of (truth_variables (lists_of model.now))
+        (plain shares.now)) }
 {
     let terms = combined_terms(alloc, shares)?;
     Ok(Expression {

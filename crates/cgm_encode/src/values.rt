@@ -34,7 +34,8 @@ pub fn extend(
 ) -> Result<Vec<i64>, OutOfMemory>
     requires realizes { Realizes (lists_of model.now) assignment.now }
     requires encoding { IsEncodingOf (lists_of model.now) earlier.now.pairs enc.now }
-    ensures { IfOk result (λ values. IsExtended (lists_of model.now) earlier.now.pairs enc.now assignment.now values.items) }
+    ensures { IfOk result (λ values. IsExtended (lists_of model.now) earlier.now.pairs enc.now
+        assignment.now values.items) }
 {
     let mut values = Vec::with_capacity(alloc, enc.problem.vars() as usize)?;
     push_values(alloc, &mut values, model, earlier, assignment)?;
@@ -50,7 +51,8 @@ fn push_values(
 ) -> Result<(), OutOfMemory>
     requires fits { Fits (lists_of model.now) assignment.now }
     requires empty { out.old.items ≡ [] }
-    ensures { OnOk result (out.new.items ≡ extension_of (lists_of model.now) earlier.now.pairs assignment.now) }
+    ensures { OnOk result (out.new.items ≡ extension_of (lists_of model.now) earlier.now.pairs
+        assignment.now) }
 {
     let sums = sums(alloc, model, assignment)?;
     push_choices(alloc, out, model, assignment, sums.as_slice())?;
@@ -87,7 +89,8 @@ fn push_vector(
 ) -> Result<(), OutOfMemory>
     requires fits { Fits (lists_of model.now) assignment.now }
     requires sums { sums.now ≡ sums_of (lists_of model.now) assignment.now }
-    ensures { OnOk result (out.new.items ≡ out.old.items ++ vector_of (lists_of model.now) earlier.now.pairs assignment.now) }
+    ensures { OnOk result (out.new.items ≡ out.old.items ++ vector_of (lists_of model.now)
+        earlier.now.pairs assignment.now) }
 {
     let numbers = vector(alloc, model, earlier, assignment, sums)?;
     out.extend_from_slice(numbers.as_slice())
@@ -97,7 +100,8 @@ fn rules<'m>(model: &'m Model, assignment: &Assignment, sums: &[i64]) -> &'m [Ru
     requires fits { Fits (lists_of model.now) assignment.now }
     requires sums { sums.now ≡ sums_of (lists_of model.now) assignment.now }
     ensures items { result.now ≡ model.now.rules }
-    ensures small { All (λ r. AreSmallIn (number_in assignment.now sums.now) (formula_of r)) result.now }
+    ensures small { All (λ r. AreSmallIn (number_in assignment.now sums.now) (formula_of r))
+        result.now }
 {
     model.rules.as_slice()
 }
@@ -108,7 +112,9 @@ fn push_numbers(
     assignment: &Assignment,
     sums: &[i64],
 ) -> Result<(), OutOfMemory>
-    ensures { OnOk result (out.new.items ≡ out.old.items ++ (((map bit_of assignment.now.elements ++ map bit_of assignment.now.refinements) ++ assignment.now.vars) ++ sums.now)) }
+    ensures { OnOk result (out.new.items ≡ out.old.items
+        ++ (((map bit_of assignment.now.elements ++ map bit_of assignment.now.refinements)
+        ++ assignment.now.vars) ++ sums.now)) }
 {
     push_bits(out, assignment.elements.as_slice())?;
     push_bits(out, assignment.refinements.as_slice())?;
@@ -131,7 +137,8 @@ fn push_preferences(
     assignment: &Assignment,
     prefers: &[Preference],
 ) -> Result<(), OutOfMemory>
-    ensures { OnOk result (out.new.items ≡ out.old.items ++ map (λ p. bit_of (not (is_met_by assignment.now p))) prefers.now) }
+    ensures { OnOk result (out.new.items ≡ out.old.items ++ map
+        (λ p. bit_of (not (is_met_by assignment.now p))) prefers.now) }
 {
     for p in prefers {
         push_bit(out, !is_met(assignment, p))?;

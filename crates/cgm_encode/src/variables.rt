@@ -19,7 +19,8 @@ pub(crate) fn add_bits(
 ) -> Result<Vec<u32>, OutOfMemory>
     requires { var_count builder.old + count ≤ 2 ^ 32 - 1 }
     ensures added { OnOk result (builder.new ≡ with_ranges builder.old (bits count)) }
-    ensures variables { IfOk result (λ variables. variables.items ≡ range_with_len (var_count builder.old) count) }
+    ensures variables { IfOk result (λ variables. variables.items ≡ range_with_len
+        (var_count builder.old) count) }
 {
     let mut variables = Vec::new(alloc);
     for _ in 0..count {
@@ -61,7 +62,8 @@ pub(crate) fn add_variables(
     requires bounds { All AreBounds ranges.now }
     requires room { var_count builder.old + length ranges.now ≤ 2 ^ 32 - 1 }
     ensures added { OnOk result (builder.new ≡ with_ranges builder.old ranges.now) }
-    ensures variables { IfOk result (λ variables. variables.items ≡ range_with_len (var_count builder.old) (length ranges.now)) }
+    ensures variables { IfOk result (λ variables. variables.items ≡ range_with_len
+        (var_count builder.old) (length ranges.now)) }
 {
     let mut variables = Vec::new(alloc);
     for range in ranges {

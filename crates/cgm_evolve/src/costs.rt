@@ -53,7 +53,8 @@ fn differs(earlier: Option<bool>, truth: bool) -> bool
 }
 
 fn is_changed(model: &Model, earlier: &Earlier, assignment: &Assignment, element: u32) -> bool
-    ensures { result ≡ costs.is_changed (lists_of model.now) earlier.now.pairs assignment.now element }
+    ensures { result ≡ costs.is_changed (lists_of model.now) earlier.now.pairs assignment.now
+        element }
 {
     differs(
         earlier_truth(model, earlier, element),
@@ -71,7 +72,8 @@ fn was_true(earlier: Option<bool>) -> bool
 }
 
 fn is_new_work(model: &Model, earlier: &Earlier, assignment: &Assignment, element: u32) -> bool
-    ensures { result ≡ costs.is_new_work (lists_of model.now) earlier.now.pairs assignment.now element }
+    ensures { result ≡ costs.is_new_work (lists_of model.now) earlier.now.pairs assignment.now
+        element }
 {
     model.is_leaf_task(element)
         && is_true(assignment, element)
@@ -93,7 +95,8 @@ fn changed_among(
     assignment: &Assignment,
     elements: &[u32],
 ) -> usize
-    ensures { result ≡ count_by (costs.is_changed (lists_of model.now) earlier.now.pairs assignment.now) elements.now }
+    ensures { result ≡ count_by (costs.is_changed (lists_of model.now) earlier.now.pairs
+        assignment.now) elements.now }
 {
     elements
         .iter()
@@ -103,7 +106,8 @@ fn changed_among(
 
 /// How many leaf tasks changed.
 fn changed_leaf_tasks(model: &Model, earlier: &Earlier, assignment: &Assignment) -> usize
-    ensures { result ≡ count_by (costs.is_changed (lists_of model.now) earlier.now.pairs assignment.now) (leaf_tasks (lists_of model.now)) }
+    ensures { result ≡ count_by (costs.is_changed (lists_of model.now) earlier.now.pairs
+        assignment.now) (leaf_tasks (lists_of model.now)) }
 {
     (0..element_count(model))
         .filter(|element| model.is_leaf_task(*element))
@@ -113,7 +117,8 @@ fn changed_leaf_tasks(model: &Model, earlier: &Earlier, assignment: &Assignment)
 
 /// How many elements of interest changed.
 fn changed(model: &Model, earlier: &Earlier, assignment: &Assignment) -> usize
-    ensures count { result ≡ costs.familiarity (lists_of model.now) earlier.now.pairs assignment.now }
+    ensures count { result ≡ costs.familiarity (lists_of model.now) earlier.now.pairs
+        assignment.now }
     ensures few { result ≤ limit_number limits.Statements }
 {
     let interests = interests(model);
@@ -130,7 +135,8 @@ fn new_work_among(
     assignment: &Assignment,
     elements: &[u32],
 ) -> usize
-    ensures { result ≡ count_by (costs.is_new_work (lists_of model.now) earlier.now.pairs assignment.now) elements.now }
+    ensures { result ≡ count_by (costs.is_new_work (lists_of model.now) earlier.now.pairs
+        assignment.now) elements.now }
 {
     elements
         .iter()
@@ -140,7 +146,8 @@ fn new_work_among(
 
 /// How many leaf tasks are new work.
 fn new_work_of_leaf_tasks(model: &Model, earlier: &Earlier, assignment: &Assignment) -> usize
-    ensures { result ≡ count_by (costs.is_new_work (lists_of model.now) earlier.now.pairs assignment.now) (leaf_tasks (lists_of model.now)) }
+    ensures { result ≡ count_by (costs.is_new_work (lists_of model.now) earlier.now.pairs
+        assignment.now) (leaf_tasks (lists_of model.now)) }
 {
     (0..element_count(model))
         .filter(|element| model.is_leaf_task(*element))
@@ -171,7 +178,8 @@ fn number(count: usize) -> i64
 /// the earlier one, or aren't known there and are true. It takes no memory.
 pub fn familiarity(model: &Model, earlier: &Earlier, assignment: &Assignment) -> i64
     requires { Fits (lists_of model.now) assignment.now }
-    ensures { result ≡ pos (costs.familiarity (lists_of model.now) earlier.now.pairs assignment.now) }
+    ensures { result ≡ pos (costs.familiarity (lists_of model.now) earlier.now.pairs
+        assignment.now) }
 {
     number(changed(model, earlier, assignment))
 }

@@ -76,8 +76,10 @@ impl EarlierDraft {
 
     /// Adds the pair that a line's tokens say.
     fn add_pair(&mut self, alloc: Global, line: &[u8], tokens: &[Token]) -> Result<(), LineStop>
-        ensures added { OnOk result (IsPairAdded (map (token_seen line.now) tokens.now) self.old self.new) }
-        ensures stop { IfErr result (IsPairStop (map (token_seen line.now) tokens.now) self.old.index) }
+        ensures added { OnOk result (IsPairAdded (map (token_seen line.now) tokens.now) self.old
+            self.new) }
+        ensures stop { IfErr result (IsPairStop (map (token_seen line.now) tokens.now)
+            self.old.index) }
     {
         match pair_of(line, tokens) {
             None => Err(LineStop::Faulty(LineFault::Bad(BadKind::Form))),
@@ -97,7 +99,8 @@ impl EarlierDraft {
         ensures header { OnOk result (self.new.has_header ≡ true) }
         ensures pairs { self.new.pairs.items ≡ self.old.pairs.items }
         ensures index { self.new.index ≡ self.old.index }
-        ensures stop { IfErr result (λ stop. (map (token_seen line.now) tokens.now ≢ header_tokens) × (stop ≡ Faulty (Bad Header))) }
+        ensures stop { IfErr result (λ stop. (map (token_seen line.now) tokens.now ≢ header_tokens)
+            × (stop ≡ Faulty (Bad Header))) }
     {
         if !is_header(line, tokens) {
             return Err(LineStop::Faulty(LineFault::Bad(BadKind::Header)));
@@ -108,8 +111,10 @@ impl EarlierDraft {
 
     /// Adds what a line's tokens say.
     fn add_tokens(&mut self, alloc: Global, line: &[u8], tokens: &[Token]) -> Result<(), LineStop>
-        ensures step { OnOk result (IsPairStep (λ so_far next. Follows so_far (map (token_seen line.now) tokens.now) next) self.old self.new) }
-        ensures stop { IfErr result (IsStopAfter (λ so_far. AreFaulty so_far (map (token_seen line.now) tokens.now)) self.old) }
+        ensures step { OnOk result (IsPairStep (λ so_far next. Follows so_far
+            (map (token_seen line.now) tokens.now) next) self.old self.new) }
+        ensures stop { IfErr result (IsStopAfter (λ so_far. AreFaulty so_far
+            (map (token_seen line.now) tokens.now)) self.old) }
     {
         if is_end(tokens) {
             return Ok(());

@@ -19,8 +19,10 @@ pub(crate) fn is_end(tokens: &[Token]) -> bool
 
 /// Takes a word off.
 fn take_word<'l, 't>(line: &'l [u8], tokens: &'t [Token]) -> Option<(&'l [u8], &'t [Token])>
-    ensures found { IfSome result (λ parts. map (token_seen line.now) tokens.now ≡ word parts.0.now ∷ map (token_seen line.now) parts.1.now) }
-    ensures none { IfNone result ((w : List ℕ) (after : List Lexeme) → map (token_seen line.now) tokens.now ≢ word w ∷ after) }
+    ensures found { IfSome result (λ parts. map (token_seen line.now) tokens.now ≡ word parts.0.now
+        ∷ map (token_seen line.now) parts.1.now) }
+    ensures none { IfNone result ((w : List ℕ) (after : List Lexeme) → map (token_seen line.now)
+        tokens.now ≢ word w ∷ after) }
 {
     match tokens.split_first() {
         None => None,
@@ -34,7 +36,8 @@ fn take_word<'l, 't>(line: &'l [u8], tokens: &'t [Token]) -> Option<(&'l [u8], &
 /// A word and nothing else.
 fn one_word<'l>(line: &'l [u8], tokens: &[Token]) -> Option<&'l [u8]>
     ensures found { IfSome result (λ w. map (token_seen line.now) tokens.now ≡ word w.now ∷ []) }
-    ensures none { IfNone result ((w : List ℕ) → map (token_seen line.now) tokens.now ≢ word w ∷ []) }
+    ensures none { IfNone result ((w : List ℕ) → map (token_seen line.now) tokens.now ≢ word w
+        ∷ []) }
 {
     match take_word(line, tokens) {
         None => None,
@@ -44,8 +47,10 @@ fn one_word<'l>(line: &'l [u8], tokens: &[Token]) -> Option<&'l [u8]>
 
 /// Two words and nothing else.
 fn two_words<'l>(line: &'l [u8], tokens: &[Token]) -> Option<(&'l [u8], &'l [u8])>
-    ensures found { IfSome result (λ parts. map (token_seen line.now) tokens.now ≡ word parts.0.now ∷ word parts.1.now ∷ []) }
-    ensures none { IfNone result ((one other : List ℕ) → map (token_seen line.now) tokens.now ≢ word one ∷ word other ∷ []) }
+    ensures found { IfSome result (λ parts. map (token_seen line.now) tokens.now ≡ word parts.0.now
+        ∷ word parts.1.now ∷ []) }
+    ensures none { IfNone result ((one other : List ℕ) → map (token_seen line.now) tokens.now ≢ word
+        one ∷ word other ∷ []) }
 {
     match take_word(line, tokens) {
         None => None,
@@ -58,8 +63,10 @@ fn two_words<'l>(line: &'l [u8], tokens: &[Token]) -> Option<(&'l [u8], &'l [u8]
 
 /// A number and nothing else.
 fn one_number(tokens: &[Token]) -> Option<i64>
-    ensures found { IfSome result (λ k. (line : List ℕ) → map (token_seen line) tokens.now ≡ number k ∷ []) }
-    ensures none { IfNone result ((line : List ℕ) (k : ℤ) → map (token_seen line) tokens.now ≢ number k ∷ []) }
+    ensures found { IfSome result (λ k. (line : List ℕ) → map (token_seen line) tokens.now ≡ number
+        k ∷ []) }
+    ensures none { IfNone result ((line : List ℕ) (k : ℤ) → map (token_seen line) tokens.now
+        ≢ number k ∷ []) }
 {
     match tokens.split_first() {
         None => None,
@@ -85,7 +92,8 @@ pub(crate) fn is_header(line: &[u8], tokens: &[Token]) -> bool
 
 /// The name and the truth that tokens say.
 pub(crate) fn pair_of<'l>(line: &'l [u8], tokens: &[Token]) -> Option<(&'l [u8], bool)>
-    ensures found { IfSome result (λ p. SayPair (map (token_seen line.now) tokens.now) (p.0.now, p.1)) }
+    ensures found { IfSome result (λ p. SayPair (map (token_seen line.now) tokens.now)
+        (p.0.now, p.1)) }
     ensures none { IfNone result ((p : Pair) → ¬ SayPair (map (token_seen line.now) tokens.now) p) }
 {
     match two_words(line, tokens) {

@@ -31,7 +31,8 @@ impl Index {
 
     /// Says the name's truth, whatever it was before.
     pub(crate) fn set(&mut self, alloc: Global, name: &[u8], truth: bool) -> Result<(), OutOfMemory>
-        ensures { OnOk result ((q : List ℕ) → pair_found self.new q ≡ (if bytes_eq q name.now then Some truth else pair_found self.old q)) }
+        ensures { OnOk result ((q : List ℕ) → pair_found self.new q
+            ≡ (if bytes_eq q name.now then Some truth else pair_found self.old q)) }
     {
         let key = Vec::from_slice(alloc, name)?;
         self.entries.insert(key, truth)?;

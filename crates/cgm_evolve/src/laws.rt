@@ -35,7 +35,8 @@ pub fn earlier_text_fails_at_its_first_faulty_line()
 
 /// The law that an earlier text has one list of pairs at most.
 pub fn earlier_text_has_one_list()
-    ensures { (text : List ℕ) (one other : List Pair) → IsTextOf text one → IsTextOf text other → one ≡ other }
+    ensures { (text : List ℕ) (one other : List Pair) → IsTextOf text one → IsTextOf text other
+        → one ≡ other }
 {}
 
 /// The law that an earlier text has one first fault at most: its line, and its kind or limit.

@@ -14,7 +14,8 @@ use crate::formula::{Formula, Linear, Number, Truth};
 #[cycle(holds)]
 pub fn holds(formula: &Formula, assignment: &Assignment, sums: &[i64]) -> bool
     requires { AreSmallIn (number_in assignment.now sums.now) formula.now }
-    ensures { result ≡ truth (name_in assignment.now) (number_in assignment.now sums.now) formula.now }
+    ensures { result ≡ truth (name_in assignment.now) (number_in assignment.now sums.now)
+        formula.now }
 {
     match formula {
         Formula::Name(name) => is_true(assignment, *name),
@@ -40,7 +41,8 @@ pub fn holds(formula: &Formula, assignment: &Assignment, sums: &[i64]) -> bool
 #[cycle(holds)]
 fn all_hold(parts: &[Formula], assignment: &Assignment, sums: &[i64]) -> bool
     requires { All (AreSmallIn (number_in assignment.now sums.now)) parts.now }
-    ensures { result ≡ list_all (truth (name_in assignment.now) (number_in assignment.now sums.now)) parts.now }
+    ensures { result ≡ list_all (truth (name_in assignment.now) (number_in assignment.now sums.now))
+        parts.now }
 {
     for part in parts {
         if !holds(part, assignment, sums) {
@@ -53,7 +55,8 @@ fn all_hold(parts: &[Formula], assignment: &Assignment, sums: &[i64]) -> bool
 #[cycle(holds)]
 fn some_holds(parts: &[Formula], assignment: &Assignment, sums: &[i64]) -> bool
     requires { All (AreSmallIn (number_in assignment.now sums.now)) parts.now }
-    ensures { result ≡ list_any (truth (name_in assignment.now) (number_in assignment.now sums.now)) parts.now }
+    ensures { result ≡ list_any (truth (name_in assignment.now) (number_in assignment.now sums.now))
+        parts.now }
 {
     for part in parts {
         if holds(part, assignment, sums) {
@@ -103,9 +106,11 @@ fn terms_value(terms: &[(i64, Number)], assignment: &Assignment, sums: &[i64]) -
 }
 
 fn term_value(term: &(i64, Number), assignment: &Assignment, sums: &[i64]) -> i128
-    requires { unsigned_abs term.now.0 * unsigned_abs (number_in assignment.now sums.now term.now.1) < 2 ^ 127 }
+    requires { unsigned_abs term.now.0 * unsigned_abs (number_in assignment.now sums.now term.now.1)
+        < 2 ^ 127 }
     ensures value { result ≡ term.now.0 *ℤ number_in assignment.now sums.now term.now.1 }
-    ensures size { unsigned_abs result ≡ unsigned_abs term.now.0 * unsigned_abs (number_in assignment.now sums.now term.now.1) }
+    ensures size { unsigned_abs result ≡ unsigned_abs term.now.0 * unsigned_abs
+        (number_in assignment.now sums.now term.now.1) }
 {
     product(
         i128::from(term.0),

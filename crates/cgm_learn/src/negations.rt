@@ -33,7 +33,8 @@ pub(crate) fn opposite(atom: Atom) -> Atom
 fn is_raised(problem: &Problem, rest: &BoxState, variable: Var) -> bool
     requires known { variable.0 < var_count problem.now }
     requires limits { IsBoxOf problem.now.bounds rest.now }
-    ensures { result ≡ int_lt (lower_of problem.now.bounds variable.0) (lower_of rest.now variable.0) }
+    ensures { result ≡ int_lt (lower_of problem.now.bounds variable.0)
+        (lower_of rest.now variable.0) }
 {
     let (lo, _) = problem.bounds(variable);
     lo < rest.lo(variable)
@@ -43,7 +44,8 @@ fn is_raised(problem: &Problem, rest: &BoxState, variable: Var) -> bool
 fn is_reduced(problem: &Problem, rest: &BoxState, variable: Var) -> bool
     requires known { variable.0 < var_count problem.now }
     requires limits { IsBoxOf problem.now.bounds rest.now }
-    ensures { result ≡ int_lt (upper_of rest.now variable.0) (upper_of problem.now.bounds variable.0) }
+    ensures { result ≡ int_lt (upper_of rest.now variable.0)
+        (upper_of problem.now.bounds variable.0) }
 {
     let (_, hi) = problem.bounds(variable);
     rest.hi(variable) < hi
@@ -53,7 +55,12 @@ fn is_reduced(problem: &Problem, rest: &BoxState, variable: Var) -> bool
 fn below(rest: &BoxState, variable: Var) -> Atom
     requires known { variable.0 < length rest.now.lower }
     requires size { IsBound (lower_of rest.now variable.0) }
-    ensures { result ≡ record { var = variable; at_least = false; k = lower_of rest.now variable.0 -ℤ pos 1 } }
+    ensures { result ≡ record {
+      var = variable;
+      at_least = false;
+      k = lower_of rest.now variable.0
+          -ℤ pos 1;
+    } }
 {
     Atom {
         var: variable,
@@ -66,7 +73,12 @@ fn below(rest: &BoxState, variable: Var) -> Atom
 fn above(rest: &BoxState, variable: Var) -> Atom
     requires known { variable.0 < length rest.now.lower }
     requires size { IsBound (upper_of rest.now variable.0) }
-    ensures { result ≡ record { var = variable; at_least = true; k = upper_of rest.now variable.0 +ℤ pos 1 } }
+    ensures { result ≡ record {
+      var = variable;
+      at_least = true;
+      k = upper_of rest.now variable.0
+          +ℤ pos 1;
+    } }
 {
     Atom {
         var: variable,
@@ -85,7 +97,8 @@ fn add_lower(
     requires limits { IsBoxOf problem.now.bounds rest.now }
     requires sizes { AreBounds rest.now }
     ensures { OnOk result
-        (atoms.new.items ≡ atoms.old.items ++ lower_negation problem.now.bounds rest.now variable.0) }
+        (atoms.new.items ≡ atoms.old.items ++ lower_negation problem.now.bounds rest.now
+        variable.0) }
 {
     if is_raised(problem, rest, variable) {
         atoms.push(below(rest, variable))?;
@@ -103,7 +116,8 @@ fn add_upper(
     requires limits { IsBoxOf problem.now.bounds rest.now }
     requires sizes { AreBounds rest.now }
     ensures { OnOk result
-        (atoms.new.items ≡ atoms.old.items ++ upper_negation problem.now.bounds rest.now variable.0) }
+        (atoms.new.items ≡ atoms.old.items ++ upper_negation problem.now.bounds rest.now
+        variable.0) }
 {
     if is_reduced(problem, rest, variable) {
         atoms.push(above(rest, variable))?;

@@ -75,7 +75,8 @@ pub fn tokens_of_line(alloc: Global, line: &[u8], number: u32) -> Result<Vec<Tok
         ≡ Ok (map (token_seen line.now) tokens.items)) }
     ensures numbered { IfOk result (λ tokens. All (λ token. token.line ≡ number) tokens.items) }
     ensures within { IfOk result (λ tokens. All (IsWithinText line.now) tokens.items) }
-    ensures order { IfOk result (λ tokens. TokensStandInOrder line.now 0 (length line.now) tokens.items) }
+    ensures order { IfOk result (λ tokens. TokensStandInOrder line.now 0 (length line.now)
+        tokens.items) }
     ensures spans { IfOk result (λ tokens. map span_of tokens.items ≡ line_spans 0 line.now) }
     ensures stop { IfErr result (IsLineStop number line.now) }
 {

@@ -115,7 +115,8 @@ fn feed_in(text: &[u8]) -> Option<usize>
 /// Takes the first line off a text, without its line feed; none where the text has no line feed.
 pub(crate) fn split_line(text: &[u8]) -> Option<(&[u8], &[u8])>
     ensures { MatchOption result (lines text.now ≡ text.now ∷ []) (λ parts. (lines text.now
-        ≡ parts.0.now ∷ lines parts.1.now) × (length parts.0.now + length parts.1.now < length text.now)) }
+        ≡ parts.0.now ∷ lines parts.1.now) × (length parts.0.now + length parts.1.now < length
+        text.now)) }
 {
     match feed_in(text) {
         None => None,

@@ -27,7 +27,8 @@ fn number_of(run: &[u8]) -> Option<i64>
 }
 
 fn run_kind(run: &[u8]) -> Result<Kind, Flaw>
-    ensures { MatchResult result (λ kind. run_lexeme run.now ≡ Ok (lexeme_with run.now kind)) (λ flaw.
+    ensures { MatchResult result (λ kind. run_lexeme run.now ≡ Ok (lexeme_with run.now kind))
+        (λ flaw.
         run_lexeme run.now ≡ Err flaw) }
 {
     if !begins_number(run) {

@@ -9,7 +9,9 @@ ghost use Rattle.cgm_trail.specs.Steps.{IsOnly, IsPropagated};
 ghost use Rattle.cgm_trail.specs.TrailState.{box_of};
 
 use crate::steps::make;
-use cgm_atom::{Atom, BoxState, Hint, Problem, Row, greatest_activity, is_true, kept_by_term, negated};
+use cgm_atom::{
+    Atom, BoxState, Hint, Problem, Row, greatest_activity, is_true, kept_by_term, negated,
+};
 use cgm_base::OutOfMemory;
 use cgm_trail::{Swept, Trail};
 
@@ -32,8 +34,10 @@ pub fn propagate_row(
     requires problem { trail.old.problem ≡ problem.now }
     requires known { n < length problem.now.rows }
     requires room { trail.old.moves + left.old ≤ 2 ^ 62 }
-    ensures made { IsPropagated (IsRowNumbered problem.now n) trail.old trail.new left.old left.new }
-    ensures answer { IsSomeAnd (slice_get problem.now.rows n) (λ r. IsRowSwept (Hint.Row n) r trail.old trail.new left.new result) }
+    ensures made { IsPropagated (IsRowNumbered problem.now n) trail.old trail.new left.old
+        left.new }
+    ensures answer { IsSomeAnd (slice_get problem.now.rows n)
+        (λ r. IsRowSwept (Hint.Row n) r trail.old trail.new left.new result) }
 {
     trail.recall_trail();
     sweep(problem.row(n), trail, Hint::Row(n), left)

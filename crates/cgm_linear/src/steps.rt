@@ -23,7 +23,8 @@ pub(crate) fn make(
     requires known { atom.var.0 < length (box_of trail.old).lower }
     requires not_false { is_false_in (box_of trail.old) atom ≡ false }
     requires room { trail.old.moves + left.old ≤ 2 ^ 62 }
-    ensures made { (k : Constraint) → IsGiven (box_of trail.old) k atom → IsPropagated (IsOnly by k) trail.old trail.new left.old left.new }
+    ensures made { (k : Constraint) → IsGiven (box_of trail.old) k atom → IsPropagated (IsOnly by k)
+        trail.old trail.new left.old left.new }
     ensures answer { IsMadeTrue atom trail.old trail.new left.new result }
 {
     if is_true(trail.state(), atom) {

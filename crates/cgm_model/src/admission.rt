@@ -321,7 +321,8 @@ fn source_count(statement: &Statement) -> usize
 }
 
 fn has_room_for_nodes(aids: &Aids, statement: &Statement) -> bool
-    ensures { (m : Lists) → AreFor m aids.now → result ≡ tests.is_within (node_total (added m statement.now).rules) limits.FormulaNodes }
+    ensures { (m : Lists) → AreFor m aids.now → result ≡ tests.is_within
+        (node_total (added m statement.now).rules) limits.FormulaNodes }
 {
     match statement {
         Statement::Rule(r) => {

@@ -251,7 +251,8 @@ fn push_element(lists: &mut Lists, aids: &mut Aids, element: Element) -> Result<
 /// Makes room for one more element.
 fn make_room(aids: &mut Aids) -> Result<(), OutOfMemory>
     ensures kept { (m : Lists) → AreFor m aids.old → AreFor m aids.new }
-    ensures more { OnOk result ((m : Lists) → AreFor m aids.old → HasGraphRoom (length m.elements + 1) aids.new) }
+    ensures more { OnOk result ((m : Lists) → AreFor m aids.old → HasGraphRoom
+        (length m.elements + 1) aids.new) }
 {
     graph::grow(aids.alloc, &mut aids.graph)?;
     aids.interests.push(false).map_err(|_| OutOfMemory)

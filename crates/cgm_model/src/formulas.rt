@@ -84,7 +84,8 @@ fn passes(alloc: Global, test: LinearTest, linear: &Linear) -> bool
 }
 
 fn has_small_terms(terms: &[(i64, Number)]) -> bool
-    ensures { result ≡ list_all (λ t. nat_le (unsigned_abs t.0) (limit_number limits.Coefficient)) terms.now }
+    ensures { result ≡ list_all (λ t. nat_le (unsigned_abs t.0) (limit_number limits.Coefficient))
+        terms.now }
 {
     for term in terms {
         if term.0.unsigned_abs() > limits::COEFFICIENT {
@@ -175,7 +176,8 @@ fn is_same_number(one: Number, other: Number) -> bool
 /// What is left of the room for nodes after the formula's; none where it has more nodes than room.
 #[cycle(nodes)]
 pub(crate) fn room_after(formula: &Formula, room: usize) -> Option<usize>
-    ensures { MatchOption result (room < node_count formula.now) (λ left. left + node_count formula.now ≡ room) }
+    ensures { MatchOption result (room < node_count formula.now)
+        (λ left. left + node_count formula.now ≡ room) }
 {
     let room = room.checked_sub(1)?;
     match formula {
@@ -199,7 +201,8 @@ pub(crate) fn room_after(formula: &Formula, room: usize) -> Option<usize>
 
 #[cycle(nodes)]
 fn room_after_each(parts: &[Formula], room: usize) -> Option<usize>
-    ensures { MatchOption result (room < sum (map node_count parts.now)) (λ left. left + sum (map node_count parts.now) ≡ room) }
+    ensures { MatchOption result (room < sum (map node_count parts.now))
+        (λ left. left + sum (map node_count parts.now) ≡ room) }
 {
     let mut left = room;
     for part in parts {
@@ -212,7 +215,8 @@ fn room_after_each(parts: &[Formula], room: usize) -> Option<usize>
 }
 
 fn room_after_terms(linear: &Linear, room: usize) -> Option<usize>
-    ensures { MatchOption result (room < length linear.now.terms) (λ left. left + length linear.now.terms ≡ room) }
+    ensures { MatchOption result (room < length linear.now.terms)
+        (λ left. left + length linear.now.terms ≡ room) }
 {
     room.checked_sub(linear.terms.as_slice().len())
 }

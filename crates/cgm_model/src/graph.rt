@@ -38,9 +38,12 @@ impl Graph {
 
 /// Makes room for one more element.
 pub(crate) fn grow(alloc: Global, graph: &mut Graph) -> Result<(), OutOfMemory>
-    ensures kept { (rs : List Refinement) → IsTargetIndexOf rs graph.old → IsTargetIndexOf rs graph.new }
-    ensures room { (count : ℕ) → HasTargetRoomFor count graph.old → HasTargetRoomFor count graph.new }
-    ensures more { OnOk result ((count : ℕ) → HasTargetRoomFor count graph.old → HasTargetRoomFor (count + 1) graph.new) }
+    ensures kept { (rs : List Refinement) → IsTargetIndexOf rs graph.old → IsTargetIndexOf rs
+        graph.new }
+    ensures room { (count : ℕ) → HasTargetRoomFor count graph.old → HasTargetRoomFor count
+        graph.new }
+    ensures more { OnOk result ((count : ℕ) → HasTargetRoomFor count graph.old → HasTargetRoomFor
+        (count + 1) graph.new) }
 {
     graph.by_target.push(Items::new(alloc))?;
     graph.is_source.push(false)?;
@@ -57,9 +60,12 @@ pub(crate) fn link(
 ) -> Result<(), OutOfMemory>
     requires known { HasKnownElements (length graph.old.marks.items) refinement.now }
     requires index { IsTargetIndexOf [] graph.old }
-    ensures kept { (rs : List Refinement) → IsTargetIndexOf rs graph.old → IsTargetIndexOf rs graph.new }
-    ensures room { (count : ℕ) → HasTargetRoomFor count graph.old → HasTargetRoomFor count graph.new }
-    ensures linked { OnOk result ((rs : List Refinement) → number ≡ length rs → IsTargetIndexOf rs graph.old → IsTargetIndexOf (rs ++ refinement.now ∷ []) graph.new) }
+    ensures kept { (rs : List Refinement) → IsTargetIndexOf rs graph.old → IsTargetIndexOf rs
+        graph.new }
+    ensures room { (count : ℕ) → HasTargetRoomFor count graph.old → HasTargetRoomFor count
+        graph.new }
+    ensures linked { OnOk result ((rs : List Refinement) → number ≡ length rs → IsTargetIndexOf rs
+        graph.old → IsTargetIndexOf (rs ++ refinement.now ∷ []) graph.new) }
 {
     graph.by_target[refinement.target as usize].push(number)?;
     flag_each(&mut graph.is_source, refinement.sources.as_slice());
@@ -69,7 +75,8 @@ pub(crate) fn link(
 fn flag_each(flags: &mut Vec<bool>, elements: &[u32])
     requires { All (λ element. element < length flags.old.items) elements.now }
     ensures length { length flags.new.items ≡ length flags.old.items }
-    ensures kept { (element : ℕ) → IsMarked flags.old.items element → IsMarked flags.new.items element }
+    ensures kept { (element : ℕ) → IsMarked flags.old.items element → IsMarked flags.new.items
+        element }
     ensures flagged { All (IsMarked flags.new.items) elements.now }
 {
     for element in elements {
@@ -88,8 +95,10 @@ pub(crate) fn stays_acyclic(
     requires known { All (HasKnownElements (length graph.old.marks.items)) refinements.now }
     requires new_known { HasKnownElements (length graph.old.marks.items) refinement.now }
     ensures answer { IsTrue result ↔ IsAcyclic (refinements.now ++ refinement.now ∷ []) }
-    ensures kept { (rs : List Refinement) → IsTargetIndexOf rs graph.old → IsTargetIndexOf rs graph.new }
-    ensures room { (count : ℕ) → HasTargetRoomFor count graph.old → HasTargetRoomFor count graph.new }
+    ensures kept { (rs : List Refinement) → IsTargetIndexOf rs graph.old → IsTargetIndexOf rs
+        graph.new }
+    ensures room { (count : ℕ) → HasTargetRoomFor count graph.old → HasTargetRoomFor count
+        graph.new }
 {
     if is_on_top(graph.is_source.as_slice(), refinement) {
         return true;
@@ -107,7 +116,8 @@ pub(crate) fn stays_acyclic(
 fn is_on_top(is_source: &[bool], refinement: &Refinement) -> bool
     requires { refinement.now.target < length is_source.now }
     ensures old { IsTrue result → slice_index_or is_source.now refinement.now.target false ≡ false }
-    ensures new { IsTrue result → list_any (λ y. y == refinement.now.target) refinement.now.sources ≡ false }
+    ensures new { IsTrue result → list_any (λ y. y == refinement.now.target) refinement.now.sources
+        ≡ false }
 {
     !is_source[refinement.target as usize]
         && !refinement.sources.as_slice().contains(&refinement.target)
@@ -178,7 +188,8 @@ fn visit(
 ) -> usize
     requires search { IsSearch (state marks.old queue.old count) }
     requires known { All (HasKnownElements (length marks.old)) refinements.now }
-    ensures { Visits refinements.now element numbers.now (state marks.old queue.old count) (state marks.new queue.new result) }
+    ensures { Visits refinements.now element numbers.now (state marks.old queue.old count)
+        (state marks.new queue.new result) }
 {
     let mut count = count;
     for number in numbers {
@@ -197,7 +208,8 @@ fn visit_one(
 ) -> usize
     requires search { IsSearch (state marks.old queue.old count) }
     requires known { All (HasKnownElements (length marks.old)) refinements.now }
-    ensures { Visits refinements.now element (number ∷ []) (state marks.old queue.old count) (state marks.new queue.new result) }
+    ensures { Visits refinements.now element (number ∷ []) (state marks.old queue.old count)
+        (state marks.new queue.new result) }
 {
     match at(refinements, number as usize) {
         None => count,
@@ -215,7 +227,8 @@ fn visit_one(
 fn mark_each(marks: &mut [bool], queue: &mut [u32], count: usize, elements: &[u32]) -> usize
     requires search { IsSearch (state marks.old queue.old count) }
     requires known { All (λ element. element < length marks.old) elements.now }
-    ensures { MarksEach elements.now (state marks.old queue.old count) (state marks.new queue.new result) }
+    ensures { MarksEach elements.now (state marks.old queue.old count)
+        (state marks.new queue.new result) }
 {
     let mut count = count;
     for element in elements {
@@ -227,7 +240,8 @@ fn mark_each(marks: &mut [bool], queue: &mut [u32], count: usize, elements: &[u3
 fn mark(marks: &mut [bool], queue: &mut [u32], count: usize, element: u32) -> usize
     requires search { IsSearch (state marks.old queue.old count) }
     requires known { element < length marks.old }
-    ensures { MarksEach (element ∷ []) (state marks.old queue.old count) (state marks.new queue.new result) }
+    ensures { MarksEach (element ∷ []) (state marks.old queue.old count)
+        (state marks.new queue.new result) }
 {
     if marks[element as usize] {
         return count;

@@ -42,8 +42,10 @@ impl NameTable {
         name: &[u8],
         thing: Thing,
     ) -> Result<(), OutOfMemory>
-        ensures set { OnOk result ((q : List ℕ) → thing_found self.new q ≡ (if bytes_eq q name.now then Some thing else thing_found self.old q)) }
-        ensures unchanged { OnErr result ((q : List ℕ) → thing_found self.new q ≡ thing_found self.old q) }
+        ensures set { OnOk result ((q : List ℕ) → thing_found self.new q
+            ≡ (if bytes_eq q name.now then Some thing else thing_found self.old q)) }
+        ensures unchanged { OnErr result ((q : List ℕ) → thing_found self.new q ≡ thing_found
+            self.old q) }
     {
         let key = Vec::from_slice(alloc, name)?;
         self.entries.insert(key, thing)?;
@@ -107,8 +109,10 @@ pub(crate) fn declare(
     name: &[u8],
     thing: Thing,
 ) -> Result<(), OutOfMemory>
-    ensures set { OnOk result ((q : List ℕ) → thing_found names.new q ≡ (if bytes_eq q name.now then Some thing else thing_found names.old q)) }
-    ensures others { OnErr result ((q : List ℕ) → thing_found names.new q ≡ thing_found names.old q) }
+    ensures set { OnOk result ((q : List ℕ) → thing_found names.new q
+        ≡ (if bytes_eq q name.now then Some thing else thing_found names.old q)) }
+    ensures others { OnErr result ((q : List ℕ) → thing_found names.new q ≡ thing_found names.old
+        q) }
 {
     names.set(alloc, name, thing)
 }

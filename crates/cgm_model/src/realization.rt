@@ -45,7 +45,8 @@ pub enum Broken {
 pub fn is_realization(model: &Model, assignment: &Assignment, sums: &[i64]) -> Option<Broken>
     requires fits { Fits (lists_of model.now) assignment.now }
     requires sums { sums.now ≡ sums_of (lists_of model.now) assignment.now }
-    ensures { MatchOption result (IsRealization (lists_of model.now) assignment.now sums.now) (IsFirstBroken (lists_of model.now) assignment.now sums.now) }
+    ensures { MatchOption result (IsRealization (lists_of model.now) assignment.now sums.now)
+        (IsFirstBroken (lists_of model.now) assignment.now sums.now) }
 {
     if let Some(number) = first_broken_refinement(model, assignment) {
         return Some(Broken::Refinement(number));
@@ -100,7 +101,8 @@ fn first_broken_element(model: &Model, assignment: &Assignment) -> Option<u32>
 }
 
 fn first_broken_contrib(model: &Model, assignment: &Assignment) -> Option<u32>
-    ensures { MatchOption result (Each (KeepsContrib assignment.now) model.now.contribs) (FirstFails (KeepsContrib assignment.now) model.now.contribs) }
+    ensures { MatchOption result (Each (KeepsContrib assignment.now) model.now.contribs)
+        (FirstFails (KeepsContrib assignment.now) model.now.contribs) }
 {
     recall_limits(model);
     for (number, e) in model.contribs.as_slice().iter().enumerate() {
@@ -112,7 +114,8 @@ fn first_broken_contrib(model: &Model, assignment: &Assignment) -> Option<u32>
 }
 
 fn first_broken_conflict(model: &Model, assignment: &Assignment) -> Option<u32>
-    ensures { MatchOption result (Each (KeepsConflict assignment.now) model.now.conflicts) (FirstFails (KeepsConflict assignment.now) model.now.conflicts) }
+    ensures { MatchOption result (Each (KeepsConflict assignment.now) model.now.conflicts)
+        (FirstFails (KeepsConflict assignment.now) model.now.conflicts) }
 {
     recall_limits(model);
     for (number, e) in model.conflicts.as_slice().iter().enumerate() {
@@ -124,7 +127,9 @@ fn first_broken_conflict(model: &Model, assignment: &Assignment) -> Option<u32>
 }
 
 fn first_broken_bind(model: &Model, assignment: &Assignment) -> Option<u32>
-    ensures { MatchOption result (Each (KeepsBind (lists_of model.now) assignment.now) model.now.binds) (FirstFails (KeepsBind (lists_of model.now) assignment.now) model.now.binds) }
+    ensures { MatchOption result (Each (KeepsBind (lists_of model.now) assignment.now)
+        model.now.binds) (FirstFails (KeepsBind (lists_of model.now) assignment.now)
+        model.now.binds) }
 {
     recall_limits(model);
     for (number, e) in model.binds.as_slice().iter().enumerate() {
@@ -166,7 +171,8 @@ fn first_broken_assertion(model: &Model, assignment: &Assignment) -> Option<u32>
 fn first_broken_rule(model: &Model, assignment: &Assignment, sums: &[i64]) -> Option<u32>
     requires fits { Fits (lists_of model.now) assignment.now }
     requires sums { sums.now ≡ sums_of (lists_of model.now) assignment.now }
-    ensures { MatchOption result (Each (KeepsRule assignment.now sums.now) model.now.rules) (FirstFails (KeepsRule assignment.now sums.now) model.now.rules) }
+    ensures { MatchOption result (Each (KeepsRule assignment.now sums.now) model.now.rules)
+        (FirstFails (KeepsRule assignment.now sums.now) model.now.rules) }
 {
     recall_limits(model);
     for (number, rule) in model.rules.as_slice().iter().enumerate() {

@@ -29,9 +29,11 @@ pub fn sums(alloc: Global, model: &Model, assignment: &Assignment) -> Result<Vec
 /// Adds what the value line adds to its sum.
 fn add(totals: &mut Vec<i64>, assignment: &Assignment, value: &SumValue)
     requires there { value.now.sum < length totals.old.items }
-    requires small { (k : ℕ) → unsigned_abs (slice_index_or totals.old.items k (pos 0)) + unsigned_abs value.now.k < 2 ^ 63 }
+    requires small { (k : ℕ) → unsigned_abs (slice_index_or totals.old.items k (pos 0))
+        + unsigned_abs value.now.k < 2 ^ 63 }
     ensures long { length totals.new.items ≡ length totals.old.items }
-    ensures added { (k : ℕ) → slice_index_or totals.new.items k (pos 0) ≡ slice_index_or totals.old.items k (pos 0) +ℤ value_for assignment.now k value.now }
+    ensures added { (k : ℕ) → slice_index_or totals.new.items k (pos 0) ≡ slice_index_or
+        totals.old.items k (pos 0) +ℤ value_for assignment.now k value.now }
 {
     if realization::name_is_true(assignment, value.of) {
         let place = value.sum as usize;

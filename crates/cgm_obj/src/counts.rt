@@ -88,7 +88,8 @@ pub fn is_free_requirement(model: &Model, element: u32) -> bool
 
 /// Says whether the element is a false requirement without `must`.
 fn is_unmet_requirement(model: &Model, assignment: &Assignment, element: u32) -> bool
-    ensures { result ≡ (counts.is_free_requirement (lists_of model.now) element && not (costs.is_true assignment.now element)) }
+    ensures { result ≡ (counts.is_free_requirement (lists_of model.now) element && not
+        (costs.is_true assignment.now element)) }
 {
     is_free_requirement(model, element) && !is_true(assignment, element)
 }

@@ -9,7 +9,8 @@ ghost use Rattle.cgm_obj.specs.Vector.{vector_of};
 
 /// The law that a vector has one number for each objective.
 pub fn vector_has_a_number_for_each_objective()
-    ensures { (m : Lists) (pairs : List Pair) (a : Assignment) → length (vector_of m pairs a) ≡ length m.objectives }
+    ensures { (m : Lists) (pairs : List Pair) (a : Assignment) → length (vector_of m pairs a)
+        ≡ length m.objectives }
 {}
 
 /// The law that the numbers of the vector of an assignment that fits a model are at most 10^12 in size.

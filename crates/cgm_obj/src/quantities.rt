@@ -21,7 +21,8 @@ pub(crate) fn quantity(
 ) -> i64
     requires fits { Fits (lists_of model.now) assignment.now }
     requires sums { sums.now ≡ sums_of (lists_of model.now) assignment.now }
-    ensures { result ≡ vectors.quantity (lists_of model.now) earlier.now.pairs assignment.now asked }
+    ensures { result ≡ vectors.quantity (lists_of model.now) earlier.now.pairs assignment.now
+        asked }
 {
     match asked {
         Quantity::Var(k) => number_at(assignment.vars.as_slice(), k),

@@ -28,7 +28,8 @@ fn objective_number(
 ) -> i64
     requires fits { Fits (lists_of model.now) assignment.now }
     requires sums { sums.now ≡ sums_of (lists_of model.now) assignment.now }
-    ensures { result ≡ number_of_objective (lists_of model.now) earlier.now.pairs assignment.now objective }
+    ensures { result ≡ number_of_objective (lists_of model.now) earlier.now.pairs assignment.now
+        objective }
 {
     let number = quantity(model, earlier, assignment, sums, objective.of);
     if objective.max {
@@ -49,7 +50,8 @@ pub fn vector(
 ) -> Result<Vec<i64>, OutOfMemory>
     requires fits { Fits (lists_of model.now) assignment.now }
     requires sums { sums.now ≡ sums_of (lists_of model.now) assignment.now }
-    ensures { IfOk result (λ numbers. numbers.items ≡ vector_of (lists_of model.now) earlier.now.pairs assignment.now) }
+    ensures { IfOk result (λ numbers. numbers.items ≡ vector_of (lists_of model.now)
+        earlier.now.pairs assignment.now) }
 {
     let mut numbers = Vec::new(alloc);
     for o in model.objectives.as_slice() {

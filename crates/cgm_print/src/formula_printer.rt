@@ -12,7 +12,8 @@ use cgm_base::OutOfMemory;
 use cgm_model::{Formula, Linear, Model, Number};
 
 fn term(printer: &mut Printer, model: &Model, term: (i64, Number)) -> Result<(), OutOfMemory>
-    ensures { OnOk result (Writes printer.old printer.new (spelled_term (written_term (lists_of model.now) term))) }
+    ensures { OnOk result (Writes printer.old printer.new
+        (spelled_term (written_term (lists_of model.now) term))) }
 {
     let name = number_name(model, term.1);
     if term.0 == 1 {
@@ -57,7 +58,8 @@ fn comparison(
     k: i64,
 ) -> Result<(), OutOfMemory>
     ensures { OnOk result (Writes printer.old printer.new
-        (spelled (written_comparison how (written_linear (lists_of model.now) total.now.terms) k))) }
+        (spelled (written_comparison how (written_linear (lists_of model.now) total.now.terms)
+        k))) }
 {
     let first = how.word();
     printer.open_with(first)?;
@@ -73,7 +75,8 @@ pub(crate) fn formula(
     model: &Model,
     tree: &Formula,
 ) -> Result<(), OutOfMemory>
-    ensures { OnOk result (Writes printer.old printer.new (spelled (written_formula (lists_of model.now) tree.now))) }
+    ensures { OnOk result (Writes printer.old printer.new
+        (spelled (written_formula (lists_of model.now) tree.now))) }
 {
     match tree {
         Formula::Name(x) => printer.word(truth_name(model, *x)),

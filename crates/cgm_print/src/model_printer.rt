@@ -19,7 +19,8 @@ use std::alloc::Global;
 
 /// The lines of what declares names.
 fn declarations(printer: &mut Printer, model: &Model) -> Result<(), OutOfMemory>
-    ensures { OnOk result (printer.new.text.items ≡ printer.old.text.items ++ statement_lines (lists_of model.now)
+    ensures { OnOk result (printer.new.text.items ≡ printer.old.text.items ++ statement_lines
+        (lists_of model.now)
         (declaring (lists_of model.now))) }
 {
     lines::<Element, Elements>(printer, model, model.elements.as_slice())?;
@@ -31,7 +32,8 @@ fn declarations(printer: &mut Printer, model: &Model) -> Result<(), OutOfMemory>
 
 /// The lines of what relates elements and refinements, or asserts them.
 fn relations(printer: &mut Printer, model: &Model) -> Result<(), OutOfMemory>
-    ensures { OnOk result (printer.new.text.items ≡ printer.old.text.items ++ statement_lines (lists_of model.now)
+    ensures { OnOk result (printer.new.text.items ≡ printer.old.text.items ++ statement_lines
+        (lists_of model.now)
         (relating (lists_of model.now))) }
 {
     lines::<Edge, Contributions>(printer, model, model.contribs.as_slice())?;
@@ -43,7 +45,8 @@ fn relations(printer: &mut Printer, model: &Model) -> Result<(), OutOfMemory>
 
 /// The lines of numbers and preferences.
 fn weights(printer: &mut Printer, model: &Model) -> Result<(), OutOfMemory>
-    ensures { OnOk result (printer.new.text.items ≡ printer.old.text.items ++ statement_lines (lists_of model.now)
+    ensures { OnOk result (printer.new.text.items ≡ printer.old.text.items ++ statement_lines
+        (lists_of model.now)
         (weighing (lists_of model.now))) }
 {
     lines::<SumValue, Values>(printer, model, model.values.as_slice())?;
@@ -55,7 +58,8 @@ fn weights(printer: &mut Printer, model: &Model) -> Result<(), OutOfMemory>
 
 /// The lines of rules, interests and objectives.
 fn demands(printer: &mut Printer, model: &Model) -> Result<(), OutOfMemory>
-    ensures { OnOk result (printer.new.text.items ≡ printer.old.text.items ++ statement_lines (lists_of model.now)
+    ensures { OnOk result (printer.new.text.items ≡ printer.old.text.items ++ statement_lines
+        (lists_of model.now)
         (demanding (lists_of model.now))) }
 {
     lines::<Rule, Rules>(printer, model, model.rules.as_slice())?;

@@ -21,7 +21,8 @@ use cgm_model::{
 
 /// Begins the line of a statement of this sort.
 fn begin_statement(printer: &mut Printer, sort: Sort) -> Result<(), OutOfMemory>
-    ensures { OnOk result (Begins printer.old printer.new (λ after. word (sort_word sort) ∷ after)) }
+    ensures { OnOk result (Begins printer.old printer.new
+        (λ after. word (sort_word sort) ∷ after)) }
 {
     printer.begin_line(sort.word())?;
     Ok(())

@@ -42,7 +42,8 @@ fn exhausted(
     spent: &[u64],
 ) -> Result<Vec<u8>, OutOfMemory>
     requires { IfSome best.now (IsShowable (lists_of model.now)) }
-    ensures { IfOk result (λ report. report.items ≡ exhausted (lists_of model.now) best.now spent.now) }
+    ensures { IfOk result (λ report. report.items ≡ exhausted (lists_of model.now) best.now
+        spent.now) }
 {
     let mut report = Vec::from_slice(alloc, b"exhausted\n")?;
     push_spent(alloc, &mut report, spent)?;

@@ -25,7 +25,8 @@ pub(crate) fn is_given(
     requires accepted { IsAcceptedState problem.now log.now }
     requires in_box { IsBoxOf problem.now.bounds bounds.now }
     requires undecided { IsOpenIn bounds.now atom }
-    ensures { IfOk result (λ given. IsTrue given → IsGivenBy problem.now log.now bounds.now hint.now atom) }
+    ensures { IfOk result (λ given. IsTrue given → IsGivenBy problem.now log.now bounds.now hint.now
+        atom) }
 {
     if !is_named(problem, log, hint) {
         return Ok(false);
@@ -49,7 +50,8 @@ pub(crate) fn is_conflict(
 ) -> Result<bool, Fail>
     requires accepted { IsAcceptedState problem.now log.now }
     requires in_box { IsBoxOf problem.now.bounds bounds.now }
-    ensures { IfOk result (λ found. IsTrue found → IsConflictIn problem.now log.now [] bounds.now hint.now) }
+    ensures { IfOk result (λ found. IsTrue found → IsConflictIn problem.now log.now [] bounds.now
+        hint.now) }
 {
     if !is_named(problem, log, hint) {
         return Ok(false);

@@ -35,7 +35,8 @@ pub(crate) fn is_at_rest(alloc: Global, problem: &Problem, bounds: &BoxState) ->
 
 fn do_clauses_rest(alloc: Global, problem: &Problem, bounds: &BoxState) -> Result<bool, Fail>
     requires { IsBoxOf problem.now.bounds bounds.now }
-    ensures { IfOk result (λ rests. IsTrue rests → All (λ c. left_by_clause bounds.now c ≡ Some bounds.now) problem.now.clauses) }
+    ensures { IfOk result (λ rests. IsTrue rests → All
+        (λ c. left_by_clause bounds.now c ≡ Some bounds.now) problem.now.clauses) }
 {
     for n in 0..problem.clauses() {
         if !does_clause_rest(alloc, problem, bounds, n)? {
@@ -53,7 +54,8 @@ fn does_clause_rest(
 ) -> Result<bool, Fail>
     requires known { n < length problem.now.clauses }
     requires in_box { IsBoxOf problem.now.bounds bounds.now }
-    ensures { IfOk result (λ rests. IsTrue rests → HoldsAt (λ c. left_by_clause bounds.now c ≡ Some bounds.now) problem.now.clauses n) }
+    ensures { IfOk result (λ rests. IsTrue rests → HoldsAt
+        (λ c. left_by_clause bounds.now c ≡ Some bounds.now) problem.now.clauses n) }
 {
     let mut left = bounds.copy(alloc)?;
     let atoms = ClauseAtoms::Listed(problem.clause(n).atoms.as_slice());
@@ -66,7 +68,8 @@ fn does_clause_rest(
 
 fn do_rows_rest(alloc: Global, problem: &Problem, bounds: &BoxState) -> Result<bool, Fail>
     requires { IsBoxOf problem.now.bounds bounds.now }
-    ensures { IfOk result (λ rests. IsTrue rests → All (λ r. left_by_row bounds.now r ≡ Some bounds.now) problem.now.rows) }
+    ensures { IfOk result (λ rests. IsTrue rests → All
+        (λ r. left_by_row bounds.now r ≡ Some bounds.now) problem.now.rows) }
 {
     for n in 0..problem.rows() {
         if !does_row_rest(alloc, problem, bounds, n)? {
@@ -79,7 +82,8 @@ fn do_rows_rest(alloc: Global, problem: &Problem, bounds: &BoxState) -> Result<b
 fn does_row_rest(alloc: Global, problem: &Problem, bounds: &BoxState, n: u32) -> Result<bool, Fail>
     requires known { n < length problem.now.rows }
     requires in_box { IsBoxOf problem.now.bounds bounds.now }
-    ensures { IfOk result (λ rests. IsTrue rests → HoldsAt (λ r. left_by_row bounds.now r ≡ Some bounds.now) problem.now.rows n) }
+    ensures { IfOk result (λ rests. IsTrue rests → HoldsAt
+        (λ r. left_by_row bounds.now r ≡ Some bounds.now) problem.now.rows n) }
 {
     let mut left = bounds.copy(alloc)?;
     problem.recall_well_formed();

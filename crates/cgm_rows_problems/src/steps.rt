@@ -161,7 +161,8 @@ fn may_jump(
 ) -> Result<bool, Fail>
     requires { trail.now.problem ≡ problem.now }
     ensures earlier { IfOk result (λ may. IsTrue may → level < level_of trail.now.changes) }
-    ensures undecided { IfOk result (λ may. IsTrue may → IsOpenIn (box_of (cut_trail level trail.now)) atom) }
+    ensures undecided { IfOk result (λ may. IsTrue may → IsOpenIn
+        (box_of (cut_trail level trail.now)) atom) }
     ensures room { IfOk result (λ may. IsTrue may → trail.now.moves < 1000000) }
 {
     if atom.var.0 >= problem.vars() {
@@ -180,7 +181,8 @@ fn may_jump(
 fn is_open_at(alloc: Global, trail: &Trail, level: u64, atom: Atom) -> Result<bool, Fail>
     requires known { atom.var.0 < length trail.now.problem.bounds.lower }
     requires earlier { level < level_of trail.now.changes }
-    ensures { IfOk result (λ found. IsTrue found → IsOpenIn (box_of (cut_trail level trail.now)) atom) }
+    ensures { IfOk result (λ found. IsTrue found → IsOpenIn (box_of (cut_trail level trail.now))
+        atom) }
 {
     if level >= MANY {
         return Ok(false);

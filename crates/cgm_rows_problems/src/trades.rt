@@ -124,7 +124,8 @@ fn end_by_cut(alloc: Global, log: &mut Log, best: u64, part: u32) -> Result<Trad
 
 /// Whether an entry is accepted after those of the log.
 fn is_accepted(alloc: Global, log: &Log, next: &Entry) -> Result<bool, Fail>
-    ensures { IfOk result (λ accepted. IsTrue accepted → first_fault log.now.problem (state_of log.now.entries) next.now ≡ None) }
+    ensures { IfOk result (λ accepted. IsTrue accepted → first_fault log.now.problem
+        (state_of log.now.entries) next.now ≡ None) }
 {
     let p = log.problem();
     let mut work = BoxState::of(alloc, p)?;

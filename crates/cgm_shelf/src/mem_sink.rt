@@ -74,7 +74,8 @@ impl Sink for MemSink {
         ensures planned { IsFailingSinkWrite self.old → IsErr result }
         ensures fails { OnErr result (FailsWrite self.old self.new) }
         ensures kept { OnOk result (KeepsSinkFaults self.old self.new) }
-        ensures moves { IfOk result (λ count. count ≡ min (sink_piece_of self.old) (length piece.now)) }
+        ensures moves { IfOk result (λ count. count ≡ min (sink_piece_of self.old)
+            (length piece.now)) }
         ensures counts { CountsSinkWrite self.old self.new }
     {
         self.writes.count();

@@ -51,7 +51,8 @@ fn search(
     work: &mut Work,
 ) -> Result<Answer, OutOfMemory>
     requires { IsPlan plan }
-    ensures { ForEncoded encoded.now (λ m pairs. IsSearchAnswer m pairs plan work.old work.new result) }
+    ensures { ForEncoded encoded.now (λ m pairs. IsSearchAnswer m pairs plan work.old work.new
+        result) }
 {
     let ended = run_worker(alloc, &encoded.problem, plan)?;
     tell(alloc, encoded, ended, work)

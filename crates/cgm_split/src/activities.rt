@@ -50,7 +50,8 @@ impl Activity {
         seed: u64,
         worker: u32,
     ) -> Result<Activity, OutOfMemory>
-        ensures unweighed { IfOk result (λ a. a ≡ unweighed (order_of (var_count problem.now) seed worker)) }
+        ensures unweighed { IfOk result (λ a. a ≡ unweighed
+            (order_of (var_count problem.now) seed worker)) }
         ensures each_once { IfOk result (λ a. IsEachOnce (var_count problem.now) a.variables) }
         ensures count { IfOk result (λ a. length a.weights ≡ var_count problem.now) }
     {
@@ -69,7 +70,8 @@ impl Activity {
     pub fn raise(&mut self, variable: Var)
         requires { variable.0 < length self.old.weights }
         ensures weight_raised { self.new ≡ weight_raised self.old variable.0 }
-        ensures order { (x y : ℕ) → x ≢ variable.0 → weight_of self.old.weights x ≤ weight_of self.old.weights y
+        ensures order { (x y : ℕ) → x ≢ variable.0 → weight_of self.old.weights x ≤ weight_of
+            self.old.weights y
             → weight_of self.new.weights x ≤ weight_of self.new.weights y }
         ensures count { length self.new.weights ≡ length self.old.weights }
     {
@@ -171,7 +173,8 @@ fn heavier_of(bounds: &BoxState, weights: &[u64], variable: Var, best: Option<Va
     requires count { length bounds.now.lower ≡ length weights.now }
     requires known { variable.0 < length weights.now }
     requires best_known { IfSome best (λ u. u.0 < length weights.now) }
-    ensures { result ≡ (if comes_before bounds.now weights.now variable best then Some variable else best) }
+    ensures { result ≡ (if comes_before bounds.now weights.now variable best then Some variable else
+        best) }
 {
     if is_before(bounds, weights, variable, best) {
         Some(variable)

@@ -41,7 +41,8 @@ impl Order {
         worker: u32,
     ) -> Result<Order, OutOfMemory>
         ensures objectives { IfOk result (λ o. o.objectives ≡ problem.now.objectives) }
-        ensures variables { IfOk result (λ o. o.variables ≡ order_of (var_count problem.now) seed worker) }
+        ensures variables { IfOk result (λ o. o.variables ≡ order_of (var_count problem.now) seed
+            worker) }
         ensures each_once { IfOk result (λ o. IsEachOnce (var_count problem.now) o.variables) }
         ensures count { IfOk result (λ o. length o.variables ≡ var_count problem.now) }
         ensures by_number { worker ≡ 0 → IfOk result (λ o. IsByNumber o) }

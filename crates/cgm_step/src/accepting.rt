@@ -93,7 +93,8 @@ fn test_open(log: &IndexedLog<'_>) -> Result<(), BadStep>
 
 /// The values are a solution.
 fn test_values(problem: &Problem, values: &[i64]) -> Result<(), BadStep>
-    ensures exact { IsVerdict (option_map (fault_of (length values.now)) (first_violation problem.now
+    ensures exact { IsVerdict (option_map (fault_of (length values.now))
+        (first_violation problem.now
         values.now)) result }
     ensures fit { OnOk result (AreValuesOf problem.now values.now) }
 {
@@ -120,7 +121,8 @@ fn test_less(problem: &Problem, log: &IndexedLog<'_>, values: &[i64]) -> Result<
     requires accepted { IsAcceptedState problem.now log.now }
     requires values { AreValuesOf problem.now values.now }
     ensures { IsVerdict
-        (fault_unless (is_below (vector problem.now values.now) (option_map (vector problem.now) (last_best log.now))) fault.NotLess)
+        (fault_unless (is_below (vector problem.now values.now)
+        (option_map (vector problem.now) (last_best log.now))) fault.NotLess)
         result }
 {
     let objectives = problem.objectives();
@@ -158,7 +160,8 @@ pub fn is_less(objectives: &[Var], values: &[i64], others: &[i64]) -> bool
 /// The variables of the atoms exist.
 fn test_atoms(problem: &Problem, atoms: &[Atom]) -> Result<(), BadStep>
     ensures exact { IsVerdict
-        (option_map (λ i. fault.Atom (i + 1)) (position_from (λ a. not (nat_lt a.var.0 (var_count problem.now))) 0 atoms.now))
+        (option_map (λ i. fault.Atom (i + 1)) (position_from
+        (λ a. not (nat_lt a.var.0 (var_count problem.now))) 0 atoms.now))
         result }
     ensures known { OnOk result (AreKnown (var_count problem.now) atoms.now) }
 {
@@ -179,7 +182,8 @@ fn test_hints<'l>(
 ) -> Result<u64, BadStep>
     requires accepted { IsAcceptedState problem.now log.now }
     ensures exact { IsVerdict
-        (option_map (λ i. fault.Hint (i + 1)) (position_from (λ h. is_none (named problem.now log.now h)) 0 hints.now))
+        (option_map (λ i. fault.Hint (i + 1)) (position_from
+        (λ h. is_none (named problem.now log.now h)) 0 hints.now))
         result }
     ensures greatest { IfOk result (λ found. found ≡ greatest_carried log.now hints.now) }
 {

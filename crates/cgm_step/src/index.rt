@@ -43,7 +43,8 @@ impl LogIndex {
         requires { self.old.entries < 2 ^ 63 }
         ensures ok { OnOk result (self.new ≡ index_with self.old entry.now) }
         ensures own { OnOk result
-            ((log : List Entry) → IsLogIndexOf self.old log → IsLogIndexOf self.new (log ++ entry.now ∷ [])) }
+            ((log : List Entry) → IsLogIndexOf self.old log → IsLogIndexOf self.new
+            (log ++ entry.now ∷ [])) }
         ensures err { OnErr result (self.new ≡ self.old) }
     {
         match entry {
@@ -64,7 +65,8 @@ impl LogIndex {
         requires { self.old.entries + length more.now ≤ 2 ^ 63 }
         ensures ok { OnOk result (self.new ≡ index_after self.old more.now) }
         ensures own { OnOk result
-            ((log : List Entry) → IsLogIndexOf self.old log → IsLogIndexOf self.new (log ++ more.now)) }
+            ((log : List Entry) → IsLogIndexOf self.old log → IsLogIndexOf self.new
+            (log ++ more.now)) }
         ensures err { OnErr result (self.new ≡ self.old) }
     {
         let entries = self.entries;

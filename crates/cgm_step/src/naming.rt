@@ -73,7 +73,8 @@ fn with_carried(named: Option<Named<'_>>, carried: u64) -> Option<Found<'_>>
 }
 
 fn find_clause(problem: &Problem, n: u32) -> Option<Named<'_>>
-    ensures { IsNamedConstraint problem.now (option_map of_clause (slice_get problem.now.clauses n)) result }
+    ensures { IsNamedConstraint problem.now (option_map of_clause (slice_get problem.now.clauses n))
+        result }
 {
     if n >= problem.clauses() {
         return None;
@@ -82,7 +83,8 @@ fn find_clause(problem: &Problem, n: u32) -> Option<Named<'_>>
 }
 
 fn find_row(problem: &Problem, n: u32) -> Option<Named<'_>>
-    ensures { IsNamedConstraint problem.now (option_map of_row (slice_get problem.now.rows n)) result }
+    ensures { IsNamedConstraint problem.now (option_map of_row (slice_get problem.now.rows n))
+        result }
 {
     if n >= problem.rows() {
         return None;
@@ -92,7 +94,8 @@ fn find_row(problem: &Problem, n: u32) -> Option<Named<'_>>
 
 fn find_part<'a>(problem: &'a Problem, values: &'a [i64], part: u32) -> Option<Named<'a>>
     requires { AreValuesOf problem.now values.now }
-    ensures { IsNamedConstraint problem.now (option_map of_clause (slice_get (cut problem.now.objectives (vector problem.now
+    ensures { IsNamedConstraint problem.now (option_map of_clause
+        (slice_get (cut problem.now.objectives (vector problem.now
         values.now)) part)) result }
 {
     let objectives = problem.objectives();

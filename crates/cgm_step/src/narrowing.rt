@@ -25,7 +25,8 @@ pub fn narrow(
 ) -> Narrowed
     requires accepted { IsAcceptedState problem.now log.now }
     requires in_box { IsBoxOf problem.now.bounds bounds.old }
-    ensures exact { IsNarrowing (narrowed problem.now log.now bounds.old hint.now) bounds.old bounds.new result }
+    ensures exact { IsNarrowing (narrowed problem.now log.now bounds.old hint.now) bounds.old
+        bounds.new result }
     ensures within { IsBoxOf problem.now.bounds bounds.new }
     ensures kept { KeepsValues (named problem.now log.now hint.now) bounds.old bounds.new }
     ensures conflict { result ≡ Narrowed.Conflict → HasNoValues (named problem.now log.now
@@ -41,7 +42,8 @@ pub fn narrow(
 fn narrow_by(problem: &Problem, bounds: &mut BoxState, by: Named<'_>) -> Narrowed
     requires known { IsNamedIn problem.now by }
     requires in_box { IsBoxOf problem.now.bounds bounds.old }
-    ensures exact { IsNarrowing (left_by bounds.old (constraint_of by.entry)) bounds.old bounds.new result }
+    ensures exact { IsNarrowing (left_by bounds.old (constraint_of by.entry)) bounds.old bounds.new
+        result }
     ensures within { IsBoxOf problem.now.bounds bounds.new }
 {
     problem.recall_well_formed();
@@ -61,9 +63,11 @@ pub(crate) fn conflict_at(
 ) -> Option<usize>
     requires accepted { IsAcceptedState problem.now log.now }
     requires in_box { IsBoxOf problem.now.bounds bounds.old }
-    ensures exact { is_some result ≡ is_none (all_narrowed problem.now log.now bounds.old hints.now) }
+    ensures exact { is_some result ≡ is_none (all_narrowed problem.now log.now bounds.old
+        hints.now) }
     ensures place { IfSome result (λ place. place ≤ length hints.now) }
-    ensures touched { ChangesOnly (vars_of_hints problem.now log.now (hints_before result hints.now))
+    ensures touched { ChangesOnly (vars_of_hints problem.now log.now
+        (hints_before result hints.now))
         bounds.old bounds.new }
     ensures within { IsBoxOf problem.now.bounds bounds.new }
 {

@@ -25,7 +25,8 @@ pub(crate) fn refutes(
     requires accepted { IsAcceptedState problem.now log.now }
     requires own_box { work.old ≡ problem.now.bounds }
     requires known { AreKnown (var_count problem.now) atoms.now }
-    ensures exact { result ≡ is_refuted problem.now log.now (record { atoms = atoms.now }) hints.now }
+    ensures exact { result ≡ is_refuted problem.now log.now (record { atoms = atoms.now })
+        hints.now }
     ensures own_box { work.new ≡ problem.now.bounds }
 {
     problem.recall_well_formed();
@@ -54,7 +55,8 @@ fn used_hints(hints: &[Hint], conflict: Option<usize>) -> &[Hint]
 fn assume_negations(bounds: &mut BoxState, atoms: &[Atom]) -> bool
     requires { AreKnown (length bounds.old.lower) atoms.now }
     ensures exact { MatchBool result
-        (all_assumed bounds.old (map negation atoms.now) ≡ Some bounds.new) (all_assumed bounds.old (map negation atoms.now) ≡ None) }
+        (all_assumed bounds.old (map negation atoms.now) ≡ Some bounds.new)
+        (all_assumed bounds.old (map negation atoms.now) ≡ None) }
     ensures touched { ChangesOnly (vars_of_atoms atoms.now) bounds.old bounds.new }
     ensures within { (limits : Bounds) → IsBoxOf limits bounds.old → IsBoxOf limits bounds.new }
 {

@@ -16,7 +16,8 @@ use cgm_atom::{Atom, BoxState, ClauseAtoms, Hint, Problem, Var};
 fn restore(problem: &Problem, bounds: &mut BoxState, variable: Var)
     requires known { variable.0 < var_count problem.now }
     requires in_box { IsBoxOf problem.now.bounds bounds.old }
-    ensures after { (vars : List ℕ) → ChangesOnly (variable.0 ∷ vars) problem.now.bounds bounds.old → ChangesOnly vars problem.now.bounds bounds.new }
+    ensures after { (vars : List ℕ) → ChangesOnly (variable.0 ∷ vars) problem.now.bounds bounds.old
+        → ChangesOnly vars problem.now.bounds bounds.new }
     ensures within { IsBoxOf problem.now.bounds bounds.new }
 {
     let (lo, hi) = problem.bounds(variable);
@@ -96,7 +97,8 @@ fn restore_hint(problem: &Problem, log: &IndexedLog<'_>, bounds: &mut BoxState, 
     requires accepted { IsAcceptedState problem.now log.now }
     requires in_box { IsBoxOf problem.now.bounds bounds.old }
     ensures after { (vars : List ℕ)
-        → ChangesOnly (vars_of_hint problem.now log.now hint.now ++ vars) problem.now.bounds bounds.old
+        → ChangesOnly (vars_of_hint problem.now log.now hint.now ++ vars) problem.now.bounds
+        bounds.old
         → ChangesOnly vars problem.now.bounds bounds.new }
     ensures within { IsBoxOf problem.now.bounds bounds.new }
 {
@@ -116,7 +118,8 @@ pub(crate) fn restore_hints(
     requires accepted { IsAcceptedState problem.now log.now }
     requires in_box { IsBoxOf problem.now.bounds bounds.old }
     ensures after { (vars : List ℕ)
-        → ChangesOnly (vars_of_hints problem.now log.now hints.now ++ vars) problem.now.bounds bounds.old
+        → ChangesOnly (vars_of_hints problem.now log.now hints.now ++ vars) problem.now.bounds
+        bounds.old
         → ChangesOnly vars problem.now.bounds bounds.new }
     ensures within { IsBoxOf problem.now.bounds bounds.new }
 {

@@ -102,8 +102,10 @@ impl ModelDraft {
     ) -> Result<(), LineStop>
         requires plain { All IsPlain (seen_all line.now tokens.now) }
         requires shallow { nests_too_deep (seen_all line.now tokens.now) ≡ false }
-        ensures added { OnOk result (IsStatementAdded number (seen_all line.now tokens.now) self.old self.new) }
-        ensures stop { IfErr result (IsFaultOrMemory (AreJudged self.old.builder (seen_all line.now tokens.now))) }
+        ensures added { OnOk result (IsStatementAdded number (seen_all line.now tokens.now) self.old
+            self.new) }
+        ensures stop { IfErr result (IsFaultOrMemory
+            (AreJudged self.old.builder (seen_all line.now tokens.now))) }
     {
         let statement = statement_of_tokens(alloc, &self.builder, line, tokens)?;
         self.add(statement, number)
@@ -133,8 +135,10 @@ impl ModelDraft {
         number: u32,
     ) -> Result<(), LineStop>
         requires plain { All IsPlain (seen_all line.now tokens.now) }
-        ensures step { OnOk result (IsStatementStep (tokens_come_to (seen_all line.now tokens.now)) number self.old self.new) }
-        ensures stop { IfErr result (IsStopAfter (tokens_come_to (seen_all line.now tokens.now)) self.old) }
+        ensures step { OnOk result (IsStatementStep (tokens_come_to (seen_all line.now tokens.now))
+            number self.old self.new) }
+        ensures stop { IfErr result (IsStopAfter (tokens_come_to (seen_all line.now tokens.now))
+            self.old) }
     {
         if is_end(tokens) {
             return Ok(());

@@ -105,8 +105,10 @@ fn value(line: &[u8], tokens: &[Token]) -> Result<Written, FormStop>
 }
 
 fn weight(line: &[u8], what: WeightWord, tokens: &[Token]) -> Result<Written, FormStop>
-    ensures found { IfOk result (IsBody line.now (seen_all line.now tokens.now) (Sort.Weight what)) }
-    ensures form { IfErr result (IsFor (IsNoBody (seen_all line.now tokens.now) (Sort.Weight what))) }
+    ensures found { IfOk result (IsBody line.now (seen_all line.now tokens.now)
+        (Sort.Weight what)) }
+    ensures form { IfErr result (IsFor (IsNoBody (seen_all line.now tokens.now)
+        (Sort.Weight what))) }
 {
     match word_and_number(tokens) {
         None => Err(FormStop::Form),
@@ -116,8 +118,10 @@ fn weight(line: &[u8], what: WeightWord, tokens: &[Token]) -> Result<Written, Fo
 
 /// A formula and nothing else.
 fn whole_formula(alloc: Global, line: &[u8], tokens: &[Token]) -> Result<Tree, FormStop>
-    ensures found { IfOk result (λ tree. seen_all line.now tokens.now ≡ spelled (formula_in line.now tree) []) }
-    ensures form { IfErr result (IsFor ((f : WrittenFormula) → seen_all line.now tokens.now ≢ spelled f [])) }
+    ensures found { IfOk result (λ tree. seen_all line.now tokens.now ≡ spelled
+        (formula_in line.now tree) []) }
+    ensures form { IfErr result (IsFor ((f : WrittenFormula) → seen_all line.now tokens.now
+        ≢ spelled f [])) }
 {
     match formula(alloc, line, tokens) {
         Err(stop) => Err(stop),
@@ -138,8 +142,10 @@ fn condition(
     what: ConditionWord,
     tokens: &[Token],
 ) -> Result<Written, FormStop>
-    ensures found { IfOk result (IsBody line.now (seen_all line.now tokens.now) (Sort.Condition what)) }
-    ensures form { IfErr result (IsFor (IsNoBody (seen_all line.now tokens.now) (Sort.Condition what))) }
+    ensures found { IfOk result (IsBody line.now (seen_all line.now tokens.now)
+        (Sort.Condition what)) }
+    ensures form { IfErr result (IsFor (IsNoBody (seen_all line.now tokens.now)
+        (Sort.Condition what))) }
 {
     match take_word(tokens) {
         None => Err(FormStop::Form),

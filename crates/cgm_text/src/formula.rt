@@ -17,9 +17,11 @@ use std::alloc::Global;
 
 /// Takes the word of a connective off.
 fn take_connective<'t>(line: &[u8], tokens: &'t [Token]) -> Option<(Connective, &'t [Token])>
-    ensures found { IfSome result (λ parts. seen_all line.now tokens.now ≡ word (connective_word parts.0) ∷ seen_all line.now parts.1.now) }
+    ensures found { IfSome result (λ parts. seen_all line.now tokens.now ≡ word
+        (connective_word parts.0) ∷ seen_all line.now parts.1.now) }
     ensures shorter { IfSome result (λ parts. length parts.1.now < length tokens.now) }
-    ensures none { IfNone result ((c : Connective) (after : List Lexeme) → seen_all line.now tokens.now ≢ word (connective_word c) ∷ after) }
+    ensures none { IfNone result ((c : Connective) (after : List Lexeme) → seen_all line.now
+        tokens.now ≢ word (connective_word c) ∷ after) }
 {
     match take_word(tokens) {
         None => None,
@@ -57,14 +59,16 @@ fn push(parts: &mut Items<Tree>, part: Tree) -> Result<(), FormStop>
 }
 
 fn negated(alloc: Global, part: Tree) -> Result<Tree, FormStop>
-    ensures tree { IfOk result (λ tree. (line : List ℕ) → formula_in line tree ≡ negation (formula_in line part)) }
+    ensures tree { IfOk result (λ tree. (line : List ℕ) → formula_in line tree ≡ negation
+        (formula_in line part)) }
     ensures memory { IfErr result (λ stop. stop ≡ FormStop.Memory) }
 {
     Ok(Tree::Not(boxed(alloc, part)?))
 }
 
 fn join(alloc: Global, joint: Joint, first: Tree, others: Items<Tree>) -> Result<Tree, FormStop>
-    ensures tree { IfOk result (λ tree. (line : List ℕ) → formula_in line tree ≡ joined joint (formula_in line first) (formulas_of (map (formula_in line) others))) }
+    ensures tree { IfOk result (λ tree. (line : List ℕ) → formula_in line tree ≡ joined joint
+        (formula_in line first) (formulas_of (map (formula_in line) others))) }
     ensures memory { IfErr result (λ stop. stop ≡ FormStop.Memory) }
 {
     match boxed(alloc, first) {
@@ -77,7 +81,8 @@ fn join(alloc: Global, joint: Joint, first: Tree, others: Items<Tree>) -> Result
 }
 
 fn pair(alloc: Global, pairing: Pairing, one: Tree, other: Tree) -> Result<Tree, FormStop>
-    ensures tree { IfOk result (λ tree. (line : List ℕ) → formula_in line tree ≡ paired pairing (formula_in line one) (formula_in line other)) }
+    ensures tree { IfOk result (λ tree. (line : List ℕ) → formula_in line tree ≡ paired pairing
+        (formula_in line one) (formula_in line other)) }
     ensures memory { IfErr result (λ stop. stop ≡ FormStop.Memory) }
 {
     match boxed(alloc, one) {
@@ -91,9 +96,11 @@ fn pair(alloc: Global, pairing: Pairing, one: Tree, other: Tree) -> Result<Tree,
 
 /// Takes a number and the closing bracket after it off.
 fn take_bound(tokens: &[Token]) -> Option<(i64, &[Token])>
-    ensures found { IfSome result (λ parts. (line : List ℕ) → seen_all line tokens.now ≡ number parts.0 ∷ closing ∷ seen_all line parts.1.now) }
+    ensures found { IfSome result (λ parts. (line : List ℕ) → seen_all line tokens.now ≡ number
+        parts.0 ∷ closing ∷ seen_all line parts.1.now) }
     ensures shorter { IfSome result (λ parts. length parts.1.now < length tokens.now) }
-    ensures none { IfNone result ((line : List ℕ) (k : ℤ) (after : List Lexeme) → seen_all line tokens.now ≢ number k ∷ closing ∷ after) }
+    ensures none { IfNone result ((line : List ℕ) (k : ℤ) (after : List Lexeme) → seen_all line
+        tokens.now ≢ number k ∷ closing ∷ after) }
 {
     match take_number(tokens) {
         None => None,
@@ -114,9 +121,12 @@ fn compared<'t>(
     comparison: Comparison,
     tokens: &'t [Token],
 ) -> Result<(Tree, &'t [Token]), FormStop>
-    ensures found { IfOk result (λ parts. opening ∷ word (comparison_word comparison) ∷ seen_all line.now tokens.now ≡ spelled (formula_in line.now parts.0) (seen_all line.now parts.1.now)) }
+    ensures found { IfOk result (λ parts. opening ∷ word (comparison_word comparison) ∷ seen_all
+        line.now tokens.now ≡ spelled (formula_in line.now parts.0)
+        (seen_all line.now parts.1.now)) }
     ensures shorter { IfOk result (λ parts. length parts.1.now < length tokens.now) }
-    ensures form { IfErr result (IsFor (BeginsNoFormula (opening ∷ word (comparison_word comparison) ∷ seen_all line.now tokens.now))) }
+    ensures form { IfErr result (IsFor (BeginsNoFormula
+        (opening ∷ word (comparison_word comparison) ∷ seen_all line.now tokens.now))) }
 {
     match linear(alloc, line, tokens) {
         Err(stop) => Err(stop),
@@ -137,9 +147,11 @@ fn negation<'t>(
     line: &[u8],
     tokens: &'t [Token],
 ) -> Result<(Tree, &'t [Token]), FormStop>
-    ensures found { IfOk result (λ parts. opening ∷ word (codes "not") ∷ seen_all line.now tokens.now ≡ spelled (formula_in line.now parts.0) (seen_all line.now parts.1.now)) }
+    ensures found { IfOk result (λ parts. opening ∷ word (codes "not") ∷ seen_all line.now
+        tokens.now ≡ spelled (formula_in line.now parts.0) (seen_all line.now parts.1.now)) }
     ensures shorter { IfOk result (λ parts. length parts.1.now < length tokens.now) }
-    ensures form { IfErr result (IsFor (BeginsNoFormula (opening ∷ word (codes "not") ∷ seen_all line.now tokens.now))) }
+    ensures form { IfErr result (IsFor (BeginsNoFormula
+        (opening ∷ word (codes "not") ∷ seen_all line.now tokens.now))) }
 {
     match formula(alloc, line, tokens) {
         Err(stop) => Err(stop),
@@ -161,9 +173,11 @@ fn joined<'t>(
     joint: Joint,
     tokens: &'t [Token],
 ) -> Result<(Tree, &'t [Token]), FormStop>
-    ensures found { IfOk result (λ parts. opening ∷ word (joint_word joint) ∷ seen_all line.now tokens.now ≡ spelled (formula_in line.now parts.0) (seen_all line.now parts.1.now)) }
+    ensures found { IfOk result (λ parts. opening ∷ word (joint_word joint) ∷ seen_all line.now
+        tokens.now ≡ spelled (formula_in line.now parts.0) (seen_all line.now parts.1.now)) }
     ensures shorter { IfOk result (λ parts. length parts.1.now < length tokens.now) }
-    ensures form { IfErr result (IsFor (BeginsNoFormula (opening ∷ word (joint_word joint) ∷ seen_all line.now tokens.now))) }
+    ensures form { IfErr result (IsFor (BeginsNoFormula
+        (opening ∷ word (joint_word joint) ∷ seen_all line.now tokens.now))) }
 {
     match formula(alloc, line, tokens) {
         Err(stop) => Err(stop),
@@ -191,7 +205,8 @@ fn push_parts<'t>(
 ) -> Result<&'t [Token], FormStop>
     requires empty { parts.old ≡ [] }
     ensures found { IfOk result (λ rest. seen_all line.now tokens.now
-        ≡ spelled_each (formulas_of (map (formula_in line.now) parts.new)) (closing ∷ seen_all line.now rest.now)) }
+        ≡ spelled_each (formulas_of (map (formula_in line.now) parts.new))
+        (closing ∷ seen_all line.now rest.now)) }
     ensures shorter { IfOk result (λ rest. length rest.now < length tokens.now) }
     ensures form { IfErr result (IsFor (BeginsNoParts (seen_all line.now tokens.now))) }
 {
@@ -219,9 +234,11 @@ fn paired<'t>(
     pairing: Pairing,
     tokens: &'t [Token],
 ) -> Result<(Tree, &'t [Token]), FormStop>
-    ensures found { IfOk result (λ parts. opening ∷ word (pairing_word pairing) ∷ seen_all line.now tokens.now ≡ spelled (formula_in line.now parts.0) (seen_all line.now parts.1.now)) }
+    ensures found { IfOk result (λ parts. opening ∷ word (pairing_word pairing) ∷ seen_all line.now
+        tokens.now ≡ spelled (formula_in line.now parts.0) (seen_all line.now parts.1.now)) }
     ensures shorter { IfOk result (λ parts. length parts.1.now < length tokens.now) }
-    ensures form { IfErr result (IsFor (BeginsNoFormula (opening ∷ word (pairing_word pairing) ∷ seen_all line.now tokens.now))) }
+    ensures form { IfErr result (IsFor (BeginsNoFormula
+        (opening ∷ word (pairing_word pairing) ∷ seen_all line.now tokens.now))) }
 {
     match formula(alloc, line, tokens) {
         Err(stop) => Err(stop),
@@ -249,7 +266,8 @@ fn bracketed<'t>(
     line: &[u8],
     tokens: &'t [Token],
 ) -> Result<(Tree, &'t [Token]), FormStop>
-    ensures found { IfOk result (λ parts. opening ∷ seen_all line.now tokens.now ≡ spelled (formula_in line.now parts.0) (seen_all line.now parts.1.now)) }
+    ensures found { IfOk result (λ parts. opening ∷ seen_all line.now tokens.now ≡ spelled
+        (formula_in line.now parts.0) (seen_all line.now parts.1.now)) }
     ensures shorter { IfOk result (λ parts. length parts.1.now < length tokens.now) }
     ensures form { IfErr result (IsFor (BeginsNoFormula (opening ∷ seen_all line.now tokens.now))) }
 {
@@ -271,7 +289,8 @@ pub(crate) fn formula<'t>(
     line: &[u8],
     tokens: &'t [Token],
 ) -> Result<(Tree, &'t [Token]), FormStop>
-    ensures found { IfOk result (λ parts. seen_all line.now tokens.now ≡ spelled (formula_in line.now parts.0) (seen_all line.now parts.1.now)) }
+    ensures found { IfOk result (λ parts. seen_all line.now tokens.now ≡ spelled
+        (formula_in line.now parts.0) (seen_all line.now parts.1.now)) }
     ensures shorter { IfOk result (λ parts. length parts.1.now < length tokens.now) }
     ensures form { IfErr result (IsFor (BeginsNoFormula (seen_all line.now tokens.now))) }
 {

@@ -37,8 +37,10 @@ fn form_of_sort(
     sort: Sort,
     tokens: &[Token],
 ) -> Result<Written, LineStop>
-    ensures found { IfOk result (λ s. HasForm (word (sort_word sort) ∷ seen_all line.now tokens.now) (written (statement_in line.now s))) }
-    ensures stop { IfErr result (λ stop. (m : Lists) → IsFaultOrMemory (AreJudged m (word (sort_word sort) ∷ seen_all line.now tokens.now)) stop) }
+    ensures found { IfOk result (λ s. HasForm (word (sort_word sort) ∷ seen_all line.now tokens.now)
+        (written (statement_in line.now s))) }
+    ensures stop { IfErr result (λ stop. (m : Lists) → IsFaultOrMemory
+        (AreJudged m (word (sort_word sort) ∷ seen_all line.now tokens.now)) stop) }
 {
     match statement_of_sort(alloc, line, sort, tokens) {
         Ok(written) => Ok(written),
@@ -49,8 +51,10 @@ fn form_of_sort(
 
 /// The written statement with these tokens.
 fn form_of(alloc: Global, line: &[u8], tokens: &[Token]) -> Result<Written, LineStop>
-    ensures found { IfOk result (λ s. HasForm (seen_all line.now tokens.now) (written (statement_in line.now s))) }
-    ensures stop { IfErr result (λ stop. (m : Lists) → IsFaultOrMemory (AreJudged m (seen_all line.now tokens.now)) stop) }
+    ensures found { IfOk result (λ s. HasForm (seen_all line.now tokens.now)
+        (written (statement_in line.now s))) }
+    ensures stop { IfErr result (λ stop. (m : Lists) → IsFaultOrMemory
+        (AreJudged m (seen_all line.now tokens.now)) stop) }
 {
     match take_word(tokens) {
         None => Err(bad(BadKind::Statement)),
@@ -73,7 +77,8 @@ fn judged(
 ) -> Result<Statement, LineStop>
     requires texts { All IsUtf8 (declared_words (statement_in line.now parsed.now)) }
     ensures made { IfOk result (λ s. (tokens : List Lexeme)
-        → HasForm tokens (written (statement_in line.now parsed.now)) → MakesStatement builder.now tokens s) }
+        → HasForm tokens (written (statement_in line.now parsed.now)) → MakesStatement builder.now
+        tokens s) }
     ensures stop { IfErr result (λ stop. (tokens : List Lexeme)
         → HasForm tokens (written (statement_in line.now parsed.now))
         → IsFaultOrMemory (AreJudged builder.now tokens) stop) }
@@ -96,7 +101,8 @@ pub(crate) fn statement_of_tokens(
 ) -> Result<Statement, LineStop>
     requires plain { All IsPlain (seen_all line.now tokens.now) }
     ensures made { IfOk result (MakesStatement builder.now (seen_all line.now tokens.now)) }
-    ensures stop { IfErr result (IsFaultOrMemory (AreJudged builder.now (seen_all line.now tokens.now))) }
+    ensures stop { IfErr result (IsFaultOrMemory (AreJudged builder.now
+        (seen_all line.now tokens.now))) }
 {
     let parsed = form_of(alloc, line, tokens)?;
     let answer = judged(alloc, builder, line, &parsed);

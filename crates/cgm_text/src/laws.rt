@@ -36,5 +36,6 @@ pub fn text_has_one_fault()
 
 /// The law that tokens are those of one written statement at most.
 pub fn tokens_have_one_statement()
-    ensures { (one other : WrittenStatement) → statement_tokens one ≡ statement_tokens other → one ≡ other }
+    ensures { (one other : WrittenStatement) → statement_tokens one ≡ statement_tokens other → one
+        ≡ other }
 {}

@@ -13,7 +13,8 @@ use std::alloc::Global;
 
 /// The rest of a term that begins with a bracket.
 fn scaled<'t>(line: &[u8], tokens: &'t [Token]) -> Option<(Term, &'t [Token])>
-    ensures found { IfSome result (λ parts. opening ∷ seen_all line.now tokens.now ≡ spelled_term (term_in line.now parts.0) (seen_all line.now parts.1.now)) }
+    ensures found { IfSome result (λ parts. opening ∷ seen_all line.now tokens.now ≡ spelled_term
+        (term_in line.now parts.0) (seen_all line.now parts.1.now)) }
     ensures shorter { IfSome result (λ parts. length parts.1.now < length tokens.now) }
     ensures none { IfNone result (BeginsNoTerm (opening ∷ seen_all line.now tokens.now)) }
 {
@@ -34,7 +35,8 @@ fn scaled<'t>(line: &[u8], tokens: &'t [Token]) -> Option<(Term, &'t [Token])>
 
 /// The term that these tokens begin with.
 fn term<'t>(line: &[u8], tokens: &'t [Token]) -> Option<(Term, &'t [Token])>
-    ensures found { IfSome result (λ parts. seen_all line.now tokens.now ≡ spelled_term (term_in line.now parts.0) (seen_all line.now parts.1.now)) }
+    ensures found { IfSome result (λ parts. seen_all line.now tokens.now ≡ spelled_term
+        (term_in line.now parts.0) (seen_all line.now parts.1.now)) }
     ensures shorter { IfSome result (λ parts. length parts.1.now < length tokens.now) }
     ensures none { IfNone result (BeginsNoTerm (seen_all line.now tokens.now)) }
 {
@@ -49,9 +51,11 @@ fn term<'t>(line: &[u8], tokens: &'t [Token]) -> Option<(Term, &'t [Token])>
 
 /// Takes the bracket and the word of a total off.
 fn take_plus<'t>(line: &[u8], tokens: &'t [Token]) -> Option<&'t [Token]>
-    ensures found { IfSome result (λ rest. seen_all line.now tokens.now ≡ opening ∷ word (codes "+") ∷ seen_all line.now rest.now) }
+    ensures found { IfSome result (λ rest. seen_all line.now tokens.now ≡ opening ∷ word (codes "+")
+        ∷ seen_all line.now rest.now) }
     ensures shorter { IfSome result (λ rest. length rest.now < length tokens.now) }
-    ensures none { IfNone result ((after : List Lexeme) → seen_all line.now tokens.now ≢ opening ∷ word (codes "+") ∷ after) }
+    ensures none { IfNone result ((after : List Lexeme) → seen_all line.now tokens.now ≢ opening
+        ∷ word (codes "+") ∷ after) }
 {
     match take_open(tokens) {
         None => None,
@@ -75,9 +79,11 @@ fn total<'t>(
     line: &[u8],
     tokens: &'t [Token],
 ) -> Result<(Linear, &'t [Token]), FormStop>
-    ensures found { IfOk result (λ parts. opening ∷ word (codes "+") ∷ seen_all line.now tokens.now ≡ spelled_linear (linear_in line.now parts.0) (seen_all line.now parts.1.now)) }
+    ensures found { IfOk result (λ parts. opening ∷ word (codes "+") ∷ seen_all line.now tokens.now
+        ≡ spelled_linear (linear_in line.now parts.0) (seen_all line.now parts.1.now)) }
     ensures shorter { IfOk result (λ parts. length parts.1.now < length tokens.now) }
-    ensures form { IfErr result (IsFor (BeginsNoLinear (opening ∷ word (codes "+") ∷ seen_all line.now tokens.now))) }
+    ensures form { IfErr result (IsFor (BeginsNoLinear
+        (opening ∷ word (codes "+") ∷ seen_all line.now tokens.now))) }
 {
     match term(line, tokens) {
         None => Err(FormStop::Form),
@@ -107,7 +113,8 @@ pub(crate) fn linear<'t>(
     line: &[u8],
     tokens: &'t [Token],
 ) -> Result<(Linear, &'t [Token]), FormStop>
-    ensures found { IfOk result (λ parts. seen_all line.now tokens.now ≡ spelled_linear (linear_in line.now parts.0) (seen_all line.now parts.1.now)) }
+    ensures found { IfOk result (λ parts. seen_all line.now tokens.now ≡ spelled_linear
+        (linear_in line.now parts.0) (seen_all line.now parts.1.now)) }
     ensures shorter { IfOk result (λ parts. length parts.1.now < length tokens.now) }
     ensures form { IfErr result (IsFor (BeginsNoLinear (seen_all line.now tokens.now))) }
 {

@@ -89,7 +89,8 @@ fn elements(
     first: Word,
     others: &[Word],
 ) -> Result<Parts<u32>, OutOfMemory>
-    ensures { IfOk result (λ numbers. numbers ≡ map (element_named builder.now) (word_in line.now first ∷ map (word_in line.now) others.now)) }
+    ensures { IfOk result (λ numbers. numbers ≡ map (element_named builder.now)
+        (word_in line.now first ∷ map (word_in line.now) others.now)) }
 {
     let mut numbers = Vec::new(alloc);
     numbers.push(element(builder, line, first))?;
@@ -106,7 +107,8 @@ fn terms(
     first: &Term,
     others: &[Term],
 ) -> Result<Linear, OutOfMemory>
-    ensures { IfOk result (λ l. l.terms ≡ term_of builder.now (term_in line.now first.now) ∷ map (term_of builder.now) (map (term_in line.now) others.now)) }
+    ensures { IfOk result (λ l. l.terms ≡ term_of builder.now (term_in line.now first.now) ∷ map
+        (term_of builder.now) (map (term_in line.now) others.now)) }
 {
     let mut terms = Vec::new(alloc);
     terms.push(term(builder, line, first))?;
@@ -242,7 +244,8 @@ fn formulas(
     trees: &[Tree],
     first: Formula,
 ) -> Result<Parts<Formula>, OutOfMemory>
-    ensures { IfOk result (λ fs. fs ≡ first ∷ each_formula_of builder.now (formulas_of (map (formula_in line.now) trees.now))) }
+    ensures { IfOk result (λ fs. fs ≡ first ∷ each_formula_of builder.now
+        (formulas_of (map (formula_in line.now) trees.now))) }
 {
     let mut formulas = Vec::new(alloc);
     match push_formulas(alloc, builder, line, trees, first, &mut formulas) {
@@ -265,7 +268,8 @@ fn push_formulas(
     formulas: &mut Vec<Formula>,
 ) -> Result<(), OutOfMemory>
     requires { formulas.old.items ≡ [] }
-    ensures { OnOk result (formulas.new.items ≡ first ∷ each_formula_of builder.now (formulas_of (map (formula_in line.now) trees.now))) }
+    ensures { OnOk result (formulas.new.items ≡ first ∷ each_formula_of builder.now
+        (formulas_of (map (formula_in line.now) trees.now))) }
 {
     formulas.push(first)?;
     for tree in trees {
@@ -282,7 +286,8 @@ fn declared(
     must: bool,
 ) -> Result<Statement, OutOfMemory>
     requires text { IsUtf8 name.now }
-    ensures { IfOk result (λ s. s ≡ Statement.Element (record { name = name.now; kind = kind; must = must })) }
+    ensures { IfOk result (λ s. s ≡ Statement.Element
+        (record { name = name.now; kind = kind; must = must })) }
 {
     Ok(Statement::Element(Element {
         name: name_of(alloc, name)?,
@@ -329,7 +334,11 @@ fn pair(builder: &ModelBuilder, line: &[u8], what: PairWord, one: Word, other: W
 }
 
 fn element_edge(builder: &ModelBuilder, line: &[u8], one: Word, other: Word) -> Edge
-    ensures { result ≡ record { from = element_named builder.now (word_in line.now one); to = element_named builder.now (word_in line.now other) } }
+    ensures { result ≡ record {
+      from = element_named builder.now (word_in line.now one);
+      to =
+          element_named builder.now (word_in line.now other);
+    } }
 {
     Edge {
         from: element(builder, line, one),
@@ -406,7 +415,8 @@ fn variable(
     hi: i64,
 ) -> Result<Statement, OutOfMemory>
     requires text { IsUtf8 (word_in line.now name) }
-    ensures { IfOk result (λ s. s ≡ Statement.Variable (record { name = word_in line.now name; lo = lo; hi = hi })) }
+    ensures { IfOk result (λ s. s ≡ Statement.Variable
+        (record { name = word_in line.now name; lo = lo; hi = hi })) }
 {
     Ok(Statement::Variable(Variable {
         name: name_of(alloc, bytes_in(line, name))?,
@@ -425,7 +435,8 @@ fn assertion(builder: &ModelBuilder, line: &[u8], name: Word, truth: bool) -> St
 }
 
 fn value(builder: &ModelBuilder, line: &[u8], name: Word, of: Word, k: i64) -> Statement
-    ensures { result ≡ statement_of builder.now (written_value (word_in line.now name) (word_in line.now of) k) }
+    ensures { result ≡ statement_of builder.now (written_value (word_in line.now name)
+        (word_in line.now of) k) }
 {
     Statement::Value(SumValue {
         sum: sum(builder, line, name),
@@ -463,14 +474,16 @@ fn requirement(
     line: &[u8],
     tree: &Tree,
 ) -> Result<Statement, OutOfMemory>
-    ensures { IfOk result (λ s. s ≡ statement_of builder.now (written_requirement (formula_in line.now tree.now))) }
+    ensures { IfOk result (λ s. s ≡ statement_of builder.now
+        (written_requirement (formula_in line.now tree.now))) }
 {
     let formula = formula(alloc, builder, line, tree)?;
     Ok(Statement::Rule(Rule::Require(formula)))
 }
 
 fn objective(builder: &ModelBuilder, line: &[u8], direction: Direction, name: Word) -> Statement
-    ensures { result ≡ statement_of builder.now (written_objective direction (word_in line.now name)) }
+    ensures { result ≡ statement_of builder.now (written_objective direction
+        (word_in line.now name)) }
 {
     Statement::Objective(Objective {
         max: is_max(direction),

@@ -91,7 +91,8 @@ fn two_words_fault(
     one: Word,
     other: Word,
 ) -> Option<BadKind>
-    ensures { result ≡ first_name_fault builder.now (use_as wanted (word_in line.now one) ∷ use_as wanted (word_in line.now other) ∷ []) }
+    ensures { result ≡ first_name_fault builder.now
+        (use_as wanted (word_in line.now one) ∷ use_as wanted (word_in line.now other) ∷ []) }
 {
     match word_fault(builder, line, wanted, one) {
         Some(kind) => Some(kind),
@@ -101,7 +102,8 @@ fn two_words_fault(
 
 /// What is wrong with the first name that is none of an element.
 fn elements_fault(builder: &ModelBuilder, line: &[u8], words: &[Word]) -> Option<BadKind>
-    ensures { result ≡ first_name_fault builder.now (map (use_as wants.Element) (map (word_in line.now) words.now)) }
+    ensures { result ≡ first_name_fault builder.now
+        (map (use_as wants.Element) (map (word_in line.now) words.now)) }
 {
     for w in words {
         match word_fault(builder, line, Wanted::Element, *w) {
@@ -113,7 +115,9 @@ fn elements_fault(builder: &ModelBuilder, line: &[u8], words: &[Word]) -> Option
 }
 
 fn term_fault(builder: &ModelBuilder, line: &[u8], term: &Term) -> Option<BadKind>
-    ensures { (after : List NameUse) → first_name_fault builder.now (terms_uses (term_in line.now term.now ∷ []) after) ≡ option_or result (first_name_fault builder.now after) }
+    ensures { (after : List NameUse) → first_name_fault builder.now
+        (terms_uses (term_in line.now term.now ∷ []) after) ≡ option_or result
+        (first_name_fault builder.now after) }
 {
     match term {
         Term::Plain(w) => word_fault(builder, line, Wanted::Number, *w),
@@ -122,7 +126,9 @@ fn term_fault(builder: &ModelBuilder, line: &[u8], term: &Term) -> Option<BadKin
 }
 
 fn terms_fault(builder: &ModelBuilder, line: &[u8], terms: &[Term]) -> Option<BadKind>
-    ensures { (after : List NameUse) → first_name_fault builder.now (terms_uses (map (term_in line.now) terms.now) after) ≡ option_or result (first_name_fault builder.now after) }
+    ensures { (after : List NameUse) → first_name_fault builder.now
+        (terms_uses (map (term_in line.now) terms.now) after) ≡ option_or result
+        (first_name_fault builder.now after) }
 {
     for term in terms {
         match term_fault(builder, line, term) {
@@ -134,7 +140,9 @@ fn terms_fault(builder: &ModelBuilder, line: &[u8], terms: &[Term]) -> Option<Ba
 }
 
 fn linear_fault(builder: &ModelBuilder, line: &[u8], linear: &Linear) -> Option<BadKind>
-    ensures { (after : List NameUse) → first_name_fault builder.now (linear_uses (linear_in line.now linear.now) after) ≡ option_or result (first_name_fault builder.now after) }
+    ensures { (after : List NameUse) → first_name_fault builder.now
+        (linear_uses (linear_in line.now linear.now) after) ≡ option_or result
+        (first_name_fault builder.now after) }
 {
     match linear {
         Linear::Single(term) => term_fault(builder, line, term),
@@ -148,7 +156,9 @@ fn linear_fault(builder: &ModelBuilder, line: &[u8], linear: &Linear) -> Option<
 /// What is wrong with the first bad name of a formula.
 #[cycle(fault)]
 fn formula_fault(builder: &ModelBuilder, line: &[u8], tree: &Tree) -> Option<BadKind>
-    ensures { (after : List NameUse) → first_name_fault builder.now (formula_uses (formula_in line.now tree.now) after) ≡ option_or result (first_name_fault builder.now after) }
+    ensures { (after : List NameUse) → first_name_fault builder.now
+        (formula_uses (formula_in line.now tree.now) after) ≡ option_or result
+        (first_name_fault builder.now after) }
 {
     match tree {
         Tree::Name(w) => word_fault(builder, line, Wanted::Truth, *w),
@@ -167,7 +177,9 @@ fn formula_fault(builder: &ModelBuilder, line: &[u8], tree: &Tree) -> Option<Bad
 
 #[cycle(fault)]
 fn formulas_fault(builder: &ModelBuilder, line: &[u8], trees: &[Tree]) -> Option<BadKind>
-    ensures { (after : List NameUse) → first_name_fault builder.now (formulas_uses (formulas_of (map (formula_in line.now) trees.now)) after) ≡ option_or result (first_name_fault builder.now after) }
+    ensures { (after : List NameUse) → first_name_fault builder.now
+        (formulas_uses (formulas_of (map (formula_in line.now) trees.now)) after) ≡ option_or result
+        (first_name_fault builder.now after) }
 {
     for tree in trees {
         match formula_fault(builder, line, tree) {
@@ -199,7 +211,8 @@ fn named_fault(builder: &ModelBuilder, line: &[u8], what: NameWord, name: Word) 
 }
 
 fn value_fault(builder: &ModelBuilder, line: &[u8], sum: Word, of: Word) -> Option<BadKind>
-    ensures { result ≡ first_name_fault builder.now (use_as wants.Sum (word_in line.now sum) ∷ use_as wants.Truth (word_in line.now of) ∷ []) }
+    ensures { result ≡ first_name_fault builder.now
+        (use_as wants.Sum (word_in line.now sum) ∷ use_as wants.Truth (word_in line.now of) ∷ []) }
 {
     match word_fault(builder, line, Wanted::Sum, sum) {
         Some(kind) => Some(kind),
@@ -209,7 +222,8 @@ fn value_fault(builder: &ModelBuilder, line: &[u8], sum: Word, of: Word) -> Opti
 
 /// What is wrong with the word of a quantity.
 fn quantity_fault(builder: &ModelBuilder, line: &[u8], quantity: Word) -> Option<BadKind>
-    ensures { result ≡ first_name_fault builder.now (quantity_uses (built_in (word_in line.now quantity)) (word_in line.now quantity)) }
+    ensures { result ≡ first_name_fault builder.now
+        (quantity_uses (built_in (word_in line.now quantity)) (word_in line.now quantity)) }
 {
     match built_in(bytes_in(line, quantity)) {
         Some(_) => None,
@@ -223,7 +237,8 @@ pub(crate) fn statement_fault(
     line: &[u8],
     written: &Written,
 ) -> Option<BadKind>
-    ensures { result ≡ first_name_fault builder.now (statement_uses (statement_in line.now written.now)) }
+    ensures { result ≡ first_name_fault builder.now
+        (statement_uses (statement_in line.now written.now)) }
 {
     match written {
         Written::Refine {

@@ -12,15 +12,18 @@ ghost use Rattle.cgm_print.specs.Canonical.{canonical_text, written, written_for
 
 /// The law that the canonical form of a formula is read back as this formula, after lists that know its names.
 pub fn canonical_formula_is_read_back()
-    ensures { (p m : Lists) (f : Formula) → Knows p m → Given p f → Back p m f (written_formula m f) }
+    ensures { (p m : Lists) (f : Formula) → Knows p m → Given p f → Back p m f
+        (written_formula m f) }
 {}
 
 /// The law that the canonical form of a statement is read back as this statement, after lists that know its names.
 pub fn canonical_statement_is_read_back()
-    ensures { (p m : Lists) (s : Statement) → Knows p m → IsProperStatement p s → Fitting p s → StatementBack p s (written m s) }
+    ensures { (p m : Lists) (s : Statement) → Knows p m → IsProperStatement p s → Fitting p s
+        → StatementBack p s (written m s) }
 {}
 
 /// The law that the canonical text of a well-formed model, whose numbers have 64 bits, is the text of this model.
 pub fn canonical_text_is_read_back()
-    ensures { (m : Lists) → IsWellFormedModel m → AllByRecursion HasWidth (statements_of m) → IsTextOf (canonical_text m) m }
+    ensures { (m : Lists) → IsWellFormedModel m → AllByRecursion HasWidth (statements_of m)
+        → IsTextOf (canonical_text m) m }
 {}

@@ -21,7 +21,8 @@ pub struct Reading {
 /// its line and its kind, or the limit that is passed there. Only want of memory comes beside these.
 pub fn read(alloc: Global, bytes: &[u8]) -> Result<Reading, TextStop>
     requires { length bytes.now ≤ most_bytes }
-    ensures read { IfOk result (λ reading. IsReading bytes.now (lists_of reading.model) reading.rule_lines.items) }
+    ensures read { IfOk result (λ reading. IsReading bytes.now (lists_of reading.model)
+        reading.rule_lines.items) }
     ensures stop { IfErr result (IsNotRead bytes.now) }
 {
     let mut draft = ModelDraft::new(alloc);

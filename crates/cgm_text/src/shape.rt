@@ -27,7 +27,8 @@ pub(crate) fn is_end(tokens: &[Token]) -> bool
 
 /// A word and nothing else.
 pub(crate) fn one_word(tokens: &[Token]) -> Option<Word>
-    ensures found { IfSome result (λ w. (line : List ℕ) → seen_all line tokens.now ≡ word (word_in line w) ∷ []) }
+    ensures found { IfSome result (λ w. (line : List ℕ) → seen_all line tokens.now ≡ word
+        (word_in line w) ∷ []) }
     ensures none { IfNone result ((line w : List ℕ) → seen_all line tokens.now ≢ word w ∷ []) }
 {
     match take_word(tokens) {
@@ -38,8 +39,10 @@ pub(crate) fn one_word(tokens: &[Token]) -> Option<Word>
 
 /// A number and nothing else.
 fn one_number(tokens: &[Token]) -> Option<i64>
-    ensures found { IfSome result (λ k. (line : List ℕ) → seen_all line tokens.now ≡ number k ∷ []) }
-    ensures none { IfNone result ((line : List ℕ) (k : ℤ) → seen_all line tokens.now ≢ number k ∷ []) }
+    ensures found { IfSome result (λ k. (line : List ℕ) → seen_all line tokens.now ≡ number k
+        ∷ []) }
+    ensures none { IfNone result ((line : List ℕ) (k : ℤ) → seen_all line tokens.now ≢ number k
+        ∷ []) }
 {
     match take_number(tokens) {
         None => None,
@@ -49,8 +52,10 @@ fn one_number(tokens: &[Token]) -> Option<i64>
 
 /// Two words and nothing else.
 pub(crate) fn two_words(tokens: &[Token]) -> Option<(Word, Word)>
-    ensures found { IfSome result (λ parts. (line : List ℕ) → seen_all line tokens.now ≡ word (word_in line parts.0) ∷ word (word_in line parts.1) ∷ []) }
-    ensures none { IfNone result ((line one other : List ℕ) → seen_all line tokens.now ≢ word one ∷ word other ∷ []) }
+    ensures found { IfSome result (λ parts. (line : List ℕ) → seen_all line tokens.now ≡ word
+        (word_in line parts.0) ∷ word (word_in line parts.1) ∷ []) }
+    ensures none { IfNone result ((line one other : List ℕ) → seen_all line tokens.now ≢ word one
+        ∷ word other ∷ []) }
 {
     match take_word(tokens) {
         None => None,
@@ -63,8 +68,10 @@ pub(crate) fn two_words(tokens: &[Token]) -> Option<(Word, Word)>
 
 /// A word, a number and nothing else.
 pub(crate) fn word_and_number(tokens: &[Token]) -> Option<(Word, i64)>
-    ensures found { IfSome result (λ parts. (line : List ℕ) → seen_all line tokens.now ≡ word (word_in line parts.0) ∷ number parts.1 ∷ []) }
-    ensures none { IfNone result ((line w : List ℕ) (k : ℤ) → seen_all line tokens.now ≢ word w ∷ number k ∷ []) }
+    ensures found { IfSome result (λ parts. (line : List ℕ) → seen_all line tokens.now ≡ word
+        (word_in line parts.0) ∷ number parts.1 ∷ []) }
+    ensures none { IfNone result ((line w : List ℕ) (k : ℤ) → seen_all line tokens.now ≢ word w
+        ∷ number k ∷ []) }
 {
     match take_word(tokens) {
         None => None,
@@ -77,8 +84,10 @@ pub(crate) fn word_and_number(tokens: &[Token]) -> Option<(Word, i64)>
 
 /// Two words, a number and nothing else.
 pub(crate) fn two_words_and_number(tokens: &[Token]) -> Option<(Word, Word, i64)>
-    ensures found { IfSome result (λ parts. (line : List ℕ) → seen_all line tokens.now ≡ word (word_in line parts.0) ∷ word (word_in line parts.1) ∷ number parts.2 ∷ []) }
-    ensures none { IfNone result ((line one other : List ℕ) (k : ℤ) → seen_all line tokens.now ≢ word one ∷ word other ∷ number k ∷ []) }
+    ensures found { IfSome result (λ parts. (line : List ℕ) → seen_all line tokens.now ≡ word
+        (word_in line parts.0) ∷ word (word_in line parts.1) ∷ number parts.2 ∷ []) }
+    ensures none { IfNone result ((line one other : List ℕ) (k : ℤ) → seen_all line tokens.now
+        ≢ word one ∷ word other ∷ number k ∷ []) }
 {
     match take_word(tokens) {
         None => None,
@@ -91,8 +100,10 @@ pub(crate) fn two_words_and_number(tokens: &[Token]) -> Option<(Word, Word, i64)
 
 /// A word, two numbers and nothing else.
 pub(crate) fn word_and_two_numbers(tokens: &[Token]) -> Option<(Word, i64, i64)>
-    ensures found { IfSome result (λ parts. (line : List ℕ) → seen_all line tokens.now ≡ word (word_in line parts.0) ∷ number parts.1 ∷ number parts.2 ∷ []) }
-    ensures none { IfNone result ((line w : List ℕ) (j k : ℤ) → seen_all line tokens.now ≢ word w ∷ number j ∷ number k ∷ []) }
+    ensures found { IfSome result (λ parts. (line : List ℕ) → seen_all line tokens.now ≡ word
+        (word_in line parts.0) ∷ number parts.1 ∷ number parts.2 ∷ []) }
+    ensures none { IfNone result ((line w : List ℕ) (j k : ℤ) → seen_all line tokens.now ≢ word w
+        ∷ number j ∷ number k ∷ []) }
 {
     match take_word(tokens) {
         None => None,
@@ -122,8 +133,10 @@ fn must_of(line: &[u8], tokens: &[Token]) -> Option<bool>
 
 /// A word, and `must` or nothing.
 pub(crate) fn word_and_must(line: &[u8], tokens: &[Token]) -> Option<(Word, bool)>
-    ensures found { IfSome result (λ parts. seen_all line.now tokens.now ≡ word (word_in line.now parts.0) ∷ must_tokens parts.1) }
-    ensures none { IfNone result ((w : List ℕ) (must : Bool) → seen_all line.now tokens.now ≢ word w ∷ must_tokens must) }
+    ensures found { IfSome result (λ parts. seen_all line.now tokens.now ≡ word
+        (word_in line.now parts.0) ∷ must_tokens parts.1) }
+    ensures none { IfNone result ((w : List ℕ) (must : Bool) → seen_all line.now tokens.now ≢ word w
+        ∷ must_tokens must) }
 {
     match take_word(tokens) {
         None => None,
@@ -136,8 +149,10 @@ pub(crate) fn word_and_must(line: &[u8], tokens: &[Token]) -> Option<(Word, bool
 
 /// A word, a truth value and nothing else.
 pub(crate) fn word_and_truth(line: &[u8], tokens: &[Token]) -> Option<(Word, bool)>
-    ensures found { IfSome result (λ parts. seen_all line.now tokens.now ≡ word (word_in line.now parts.0) ∷ word (truth_word parts.1) ∷ []) }
-    ensures none { IfNone result ((w : List ℕ) (truth : Bool) → seen_all line.now tokens.now ≢ word w ∷ word (truth_word truth) ∷ []) }
+    ensures found { IfSome result (λ parts. seen_all line.now tokens.now ≡ word
+        (word_in line.now parts.0) ∷ word (truth_word parts.1) ∷ []) }
+    ensures none { IfNone result ((w : List ℕ) (truth : Bool) → seen_all line.now tokens.now ≢ word
+        w ∷ word (truth_word truth) ∷ []) }
 {
     match two_words(tokens) {
         None => None,
@@ -150,8 +165,10 @@ pub(crate) fn word_and_truth(line: &[u8], tokens: &[Token]) -> Option<(Word, boo
 
 /// A direction, a word and nothing else.
 pub(crate) fn direction_and_word(line: &[u8], tokens: &[Token]) -> Option<(Direction, Word)>
-    ensures found { IfSome result (λ parts. seen_all line.now tokens.now ≡ word (direction_word parts.0) ∷ word (word_in line.now parts.1) ∷ []) }
-    ensures none { IfNone result ((direction : Direction) (w : List ℕ) → seen_all line.now tokens.now ≢ word (direction_word direction) ∷ word w ∷ []) }
+    ensures found { IfSome result (λ parts. seen_all line.now tokens.now ≡ word
+        (direction_word parts.0) ∷ word (word_in line.now parts.1) ∷ []) }
+    ensures none { IfNone result ((direction : Direction) (w : List ℕ) → seen_all line.now
+        tokens.now ≢ word (direction_word direction) ∷ word w ∷ []) }
 {
     match two_words(tokens) {
         None => None,
@@ -174,8 +191,10 @@ fn push(words: &mut Items<Word>, word: Word) -> Result<(), FormStop>
 
 /// Words and nothing else.
 pub(crate) fn all_words(alloc: Global, tokens: &[Token]) -> Result<Items<Word>, FormStop>
-    ensures found { IfOk result (λ words. (line : List ℕ) → seen_all line tokens.now ≡ map word (map (word_in line) words)) }
-    ensures form { IfErr result (IsFor ((line : List ℕ) (ws : List (List ℕ)) → seen_all line tokens.now ≢ map word ws)) }
+    ensures found { IfOk result (λ words. (line : List ℕ) → seen_all line tokens.now ≡ map word
+        (map (word_in line) words)) }
+    ensures form { IfErr result (IsFor ((line : List ℕ) (ws : List (List ℕ)) → seen_all line
+        tokens.now ≢ map word ws)) }
 {
     let mut words = Items::new(alloc);
     let mut rest = tokens;

@@ -9,9 +9,11 @@ use cgm_lex::{Kind, Token};
 
 /// Takes a word off.
 pub(crate) fn take_word(tokens: &[Token]) -> Option<(Word, &[Token])>
-    ensures found { IfSome result (λ parts. (line : List ℕ) → seen_all line tokens.now ≡ word (word_in line parts.0) ∷ seen_all line parts.1.now) }
+    ensures found { IfSome result (λ parts. (line : List ℕ) → seen_all line tokens.now ≡ word
+        (word_in line parts.0) ∷ seen_all line parts.1.now) }
     ensures shorter { IfSome result (λ parts. length parts.1.now < length tokens.now) }
-    ensures none { IfNone result ((line w : List ℕ) (after : List Lexeme) → seen_all line tokens.now ≢ word w ∷ after) }
+    ensures none { IfNone result ((line w : List ℕ) (after : List Lexeme) → seen_all line tokens.now
+        ≢ word w ∷ after) }
 {
     match tokens.split_first() {
         None => None,
@@ -30,9 +32,11 @@ pub(crate) fn take_word(tokens: &[Token]) -> Option<(Word, &[Token])>
 
 /// Takes a number off.
 pub(crate) fn take_number(tokens: &[Token]) -> Option<(i64, &[Token])>
-    ensures found { IfSome result (λ parts. (line : List ℕ) → seen_all line tokens.now ≡ number parts.0 ∷ seen_all line parts.1.now) }
+    ensures found { IfSome result (λ parts. (line : List ℕ) → seen_all line tokens.now ≡ number
+        parts.0 ∷ seen_all line parts.1.now) }
     ensures shorter { IfSome result (λ parts. length parts.1.now < length tokens.now) }
-    ensures none { IfNone result ((line : List ℕ) (k : ℤ) (after : List Lexeme) → seen_all line tokens.now ≢ number k ∷ after) }
+    ensures none { IfNone result ((line : List ℕ) (k : ℤ) (after : List Lexeme) → seen_all line
+        tokens.now ≢ number k ∷ after) }
 {
     match tokens.split_first() {
         None => None,
@@ -45,9 +49,11 @@ pub(crate) fn take_number(tokens: &[Token]) -> Option<(i64, &[Token])>
 
 /// Takes an opening bracket off.
 pub(crate) fn take_open(tokens: &[Token]) -> Option<&[Token]>
-    ensures found { IfSome result (λ rest. (line : List ℕ) → seen_all line tokens.now ≡ opening ∷ seen_all line rest.now) }
+    ensures found { IfSome result (λ rest. (line : List ℕ) → seen_all line tokens.now ≡ opening
+        ∷ seen_all line rest.now) }
     ensures shorter { IfSome result (λ rest. length rest.now < length tokens.now) }
-    ensures none { IfNone result ((line : List ℕ) (after : List Lexeme) → seen_all line tokens.now ≢ opening ∷ after) }
+    ensures none { IfNone result ((line : List ℕ) (after : List Lexeme) → seen_all line tokens.now
+        ≢ opening ∷ after) }
 {
     match tokens.split_first() {
         None => None,
@@ -60,9 +66,11 @@ pub(crate) fn take_open(tokens: &[Token]) -> Option<&[Token]>
 
 /// Takes a closing bracket off.
 pub(crate) fn take_close(tokens: &[Token]) -> Option<&[Token]>
-    ensures found { IfSome result (λ rest. (line : List ℕ) → seen_all line tokens.now ≡ closing ∷ seen_all line rest.now) }
+    ensures found { IfSome result (λ rest. (line : List ℕ) → seen_all line tokens.now ≡ closing
+        ∷ seen_all line rest.now) }
     ensures shorter { IfSome result (λ rest. length rest.now < length tokens.now) }
-    ensures none { IfNone result ((line : List ℕ) (after : List Lexeme) → seen_all line tokens.now ≢ closing ∷ after) }
+    ensures none { IfNone result ((line : List ℕ) (after : List Lexeme) → seen_all line tokens.now
+        ≢ closing ∷ after) }
 {
     match tokens.split_first() {
         None => None,
@@ -75,9 +83,11 @@ pub(crate) fn take_close(tokens: &[Token]) -> Option<&[Token]>
 
 /// Takes a colon off.
 pub(crate) fn take_colon(tokens: &[Token]) -> Option<&[Token]>
-    ensures found { IfSome result (λ rest. (line : List ℕ) → seen_all line tokens.now ≡ colon ∷ seen_all line rest.now) }
+    ensures found { IfSome result (λ rest. (line : List ℕ) → seen_all line tokens.now ≡ colon
+        ∷ seen_all line rest.now) }
     ensures shorter { IfSome result (λ rest. length rest.now < length tokens.now) }
-    ensures none { IfNone result ((line : List ℕ) (after : List Lexeme) → seen_all line tokens.now ≢ colon ∷ after) }
+    ensures none { IfNone result ((line : List ℕ) (after : List Lexeme) → seen_all line tokens.now
+        ≢ colon ∷ after) }
 {
     match tokens.split_first() {
         None => None,
@@ -99,9 +109,11 @@ pub(crate) fn bytes_in<'l>(line: &'l [u8], word: Word) -> &'l [u8]
 
 /// Takes this word off.
 pub(crate) fn take_exact<'t>(line: &[u8], tokens: &'t [Token], text: &str) -> Option<&'t [Token]>
-    ensures found { IfSome result (λ rest. seen_all line.now tokens.now ≡ word text.now ∷ seen_all line.now rest.now) }
+    ensures found { IfSome result (λ rest. seen_all line.now tokens.now ≡ word text.now ∷ seen_all
+        line.now rest.now) }
     ensures shorter { IfSome result (λ rest. length rest.now < length tokens.now) }
-    ensures none { IfNone result ((after : List Lexeme) → seen_all line.now tokens.now ≢ word text.now ∷ after) }
+    ensures none { IfNone result ((after : List Lexeme) → seen_all line.now tokens.now ≢ word
+        text.now ∷ after) }
 {
     match take_word(tokens) {
         None => None,

@@ -52,7 +52,8 @@ impl Path {
     pub(crate) fn recall_path(&self)
         ensures changes { AreChanges self.now.problem.bounds self.now.changes }
         ensures valid { IsWellFormedProblem self.now.problem }
-        ensures place { IsBoxOf self.now.problem.bounds (box_after self.now.problem.bounds self.now.changes) }
+        ensures place { IsBoxOf self.now.problem.bounds
+            (box_after self.now.problem.bounds self.now.changes) }
     {
         let _changes = self.changes.len();
     }
@@ -126,7 +127,8 @@ impl Path {
     /// open. The new change stands where the next level's decision stood, so this takes no memory.
     pub(crate) fn jump(&mut self, level: usize, atom: Atom, by: Hint)
         requires earlier { level < level_of self.old.changes }
-        requires undecided { IsOpenIn (box_after self.old.problem.bounds (cut_path level self.old).changes) atom }
+        requires undecided { IsOpenIn (box_after self.old.problem.bounds
+            (cut_path level self.old).changes) atom }
         ensures { self.new ≡ path_with (cut_path level self.old) atom (Reason.By by) }
     {
         let from = self.starts[level];
@@ -145,7 +147,9 @@ impl Path {
     /// Renames the reasons that name lemmas without a place to the places where these landed.
     pub(crate) fn land(&mut self, first: u64)
         requires { CanChangesLand first self.old.changes }
-        ensures { self.new ≡ record self.old { changes = map (landed_change first) self.old.changes } }
+        ensures { self.new ≡ record self.old {
+          changes = map (landed_change first) self.old.changes;
+        } }
     {
         land_all(&mut self.changes, first);
     }

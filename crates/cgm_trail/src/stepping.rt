@@ -19,7 +19,8 @@ pub fn step(trail: &mut Trail, atom: Atom, by: Hint, left: &mut u64) -> Result<(
     ensures left { OnOk result (left.new + 1 ≡ left.old) }
     ensures err_trail { OnErr result (trail.new ≡ trail.old) }
     ensures err_left { OnErr result (left.new ≡ left.old) }
-    ensures made { (k : Constraint) → IsGiven (box_of trail.old) k atom → IsPropagated (IsOnly by k) trail.old trail.new left.old left.new }
+    ensures made { (k : Constraint) → IsGiven (box_of trail.old) k atom → IsPropagated (IsOnly by k)
+        trail.old trail.new left.old left.new }
 {
     trail.tighten(atom, by)?;
     *left -= 1;

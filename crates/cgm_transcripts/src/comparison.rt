@@ -140,7 +140,8 @@ fn changed_file<'a>(
 
 /// Whether a file is as before, or is one that a word of the run names.
 fn is_kept(words: &[String], name: &str, before: &Folder, after: &MemShelf) -> bool
-    ensures { IsTrue result ↔ IsKeptFile words.now (files_of before.now) (mem_files after.now) name.now }
+    ensures { IsTrue result ↔ IsKeptFile words.now (files_of before.now) (mem_files after.now)
+        name.now }
 {
     if is_written_to(words, name) {
         return true;

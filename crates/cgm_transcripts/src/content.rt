@@ -13,7 +13,8 @@ use std::alloc::Global;
 pub(crate) fn content_of(alloc: Global, lines: &[Line<'_>]) -> Result<Vec<u8>, Flaw>
     ensures bytes { IfOk result (λ bytes. content_bytes (map (λ line. line.bytes.now) lines.now)
         ≡ Some bytes.items) }
-    ensures flaw { IfErr result (OnForm (content_bytes (map (λ line. line.bytes.now) lines.now) ≡ None)) }
+    ensures flaw { IfErr result (OnForm (content_bytes (map (λ line. line.bytes.now) lines.now)
+        ≡ None)) }
 {
     let mut bytes = Vec::new(alloc);
     for at in 0..lines.len() {
@@ -28,7 +29,8 @@ pub(crate) fn content_of(alloc: Global, lines: &[Line<'_>]) -> Result<Vec<u8>, F
 
 /// Adds the bytes of a line.
 fn add_line(alloc: Global, bytes: &mut Vec<u8>, line: Line<'_>, is_last: bool) -> Result<(), Flaw>
-    ensures bytes { OnOk result ((more : List ℕ) × ((line_bytes line.entry.bytes.now is_last ≡ Some more)
+    ensures bytes { OnOk result ((more : List ℕ)
+        × ((line_bytes line.entry.bytes.now is_last ≡ Some more)
         × (bytes.new.items ≡ bytes.old.items ++ more))) }
     ensures flaw { IfErr result (OnForm (line_bytes line.entry.bytes.now is_last ≡ None)) }
 {

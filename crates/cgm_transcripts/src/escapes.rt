@@ -29,7 +29,8 @@ pub(crate) fn unescape(alloc: Global, line: &[u8]) -> Result<Option<Vec<u8>>, Ou
 fn next_byte(line: &[u8]) -> Option<(u8, &[u8])>
     requires { 0 < length line.now }
     ensures { MatchOption result (unescaped line.now ≡ None) (λ parts. (unescaped line.now
-        ≡ after_byte (Some parts.0) (unescaped parts.1.now)) × (length parts.1.now < length line.now)) }
+        ≡ after_byte (Some parts.0) (unescaped parts.1.now))
+        × (length parts.1.now < length line.now)) }
 {
     match split_off(line) {
         None => None,
@@ -64,8 +65,10 @@ fn is_plain(byte: u8) -> bool
 
 /// The byte that is spelled after a backslash, and what follows.
 fn escaped(rest: &[u8]) -> Option<(u8, &[u8])>
-    ensures { MatchOption result (after_backslash rest.now ≡ None) (λ parts. (after_backslash rest.now
-        ≡ after_byte (Some parts.0) (unescaped parts.1.now)) × (length parts.1.now ≤ length rest.now)) }
+    ensures { MatchOption result (after_backslash rest.now ≡ None)
+        (λ parts. (after_backslash rest.now
+        ≡ after_byte (Some parts.0) (unescaped parts.1.now))
+        × (length parts.1.now ≤ length rest.now)) }
 {
     match split_off(rest) {
         None => None,
@@ -97,7 +100,8 @@ fn byte_of_letter(letter: u8) -> Option<u8>
 /// The byte of two digits, and what follows.
 fn hexadecimal(rest: &[u8]) -> Option<(u8, &[u8])>
     ensures { MatchOption result (after_x rest.now ≡ None) (λ parts. (after_x rest.now
-        ≡ after_byte (Some parts.0) (unescaped parts.1.now)) × (length parts.1.now ≤ length rest.now)) }
+        ≡ after_byte (Some parts.0) (unescaped parts.1.now))
+        × (length parts.1.now ≤ length rest.now)) }
 {
     match split_off(rest) {
         None => None,

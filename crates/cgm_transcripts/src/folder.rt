@@ -31,7 +31,8 @@ impl Folder {
 
     /// Sets the bytes of a file, whether it was there or not.
     pub(crate) fn set(&mut self, name: &str, bytes: &[u8]) -> Result<(), OutOfMemory>
-        ensures { OnOk result (OnlyChanges (files_of self.old) (files_of self.new) name.now bytes.now) }
+        ensures { OnOk result (OnlyChanges (files_of self.old) (files_of self.new) name.now
+            bytes.now) }
     {
         add_name(self.alloc, &mut self.names, name)?;
         self.held.put(name, bytes)

@@ -119,7 +119,7 @@ forgotten_contains name old new n h k =
 pub landed_known : (count first : ℕ) (added : List Named) → All (HasKnownVariables count) added → All (HasKnownVariables count) (map (landed_named first) added)
 landed_known count first added h = All-map (HasKnownVariables count) (landed_named first) added h
 
--- one name more is hint_landed, in place
+-- one name more is landed, in place
 pub landed_more : (first : ℕ) (xs ys : List Named) (i : ℕ) (d : Named) (name : Hint) → i < length xs → i < length ys → ys ≡ map (landed_named first) (take i xs) ++ drop i xs → name ≡ hint_landed first (get_or ys i d).name → set ys i (record { clause = (get_or ys i d).clause; name = name }) ≡ map (landed_named first) (take (i + 1) xs) ++ drop (i + 1) xs
 landed_more first xs ys i d name h k e f =
     rw f (map_over_more (landed_named first) xs ys i (get_or ys i d) h e (get_or_default ys i d (get_or ys i d) k))

@@ -52,7 +52,7 @@ IsForgotten name [] new = new ≡ []
 IsForgotten name (n ∷ old) new =
     ((n.name ≡ name) × (new ≡ old)) ⊎ ((n.name ≢ name) × (rest : List Named) × (new ≡ n ∷ rest) × IsForgotten name old rest)
 
--- names of lemmas that had no place yet become the places where these hint_landed
+-- names of lemmas that had no place yet become the places where these landed
 abbrev pub landed_named : ℕ → Named → Named
 landed_named first n = record n { name = hint_landed first n.name }
 

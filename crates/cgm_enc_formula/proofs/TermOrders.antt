@@ -1,4 +1,4 @@
--- Terms stay those of a row where they are term_placed in order; those of a rule's comparisons are such.
+-- Terms stay those of a row where they are placed in order; those of a rule's comparisons are such.
 use Rattle.std.proofs.Common.{◌≡◌, ◌≢◌, ℕ, ◌<◌, ◌≤◌, Bool, true, false, cond, not, List, [], ◌∷◌, refl, sym, ◌∙◌, arith}
 use Rattle.std.specs.Prelude.{ℤ, pos, nat_lt}
 use Rattle.std.specs.List.{All, list_any}

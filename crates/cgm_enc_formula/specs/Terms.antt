@@ -29,7 +29,7 @@ abbrev pub term_placed : ℤ × Var → List (ℤ × Var) → List (ℤ × Var)
 term_placed t [] = t ∷ []
 term_placed t (u ∷ terms) = if nat_lt t.1.0 u.1.0 then t ∷ u ∷ terms else u ∷ term_placed t terms
 
--- the terms term_placed among others, one after another
+-- the terms placed among others, one after another
 abbrev pub all_terms_placed : List (ℤ × Var) → List (ℤ × Var) → List (ℤ × Var)
 all_terms_placed so_far [] = so_far
 all_terms_placed so_far (t ∷ terms) = all_terms_placed (term_placed t so_far) terms

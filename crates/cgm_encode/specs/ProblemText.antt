@@ -1,4 +1,4 @@
--- The text of a problem: a header, then a problem_line for each variable, clause, row and objective, each by number.
+-- The text of a problem: a header, then a line for each variable, clause, row and objective, each by number.
 use Rattle.std.specs.Prelude.{ℕ, List, [], ◌∷◌, ◌++◌, map, flat_map, codes, decimal, ℤ, Option, None, Some}
 use Rattle.std.specs.Fmt.{signed_decimal}
 use Rattle.std.specs.List.{enumerate_from, range_with_len}
@@ -23,7 +23,7 @@ term_word t = signed_decimal t.0 ++ (codes "*" ++ decimal t.1.0)
 
 -- ---- lines
 
--- the words with one space between each two, and a problem_line feed
+-- the words with one space between each two, and a line feed
 abbrev pub problem_line : List ℕ → List (List ℕ) → List ℕ
 problem_line word words = word ++ (spaced words ++ 10 ∷ [])
 

@@ -1,4 +1,4 @@
--- What stands in a formula: its formula_names, comparisons and linear expressions, its nodes, and its brackets as they nest in text.
+-- What stands in a formula: its names, comparisons and linear expressions, its nodes, and its brackets as they nest in text.
 use Rattle.std.specs.Prelude.{ℕ, ◌+◌, max, nat_lt, ◌==◌, Bool, true, ◌&&◌, if◌then◌else◌, List, [], ◌∷◌, ◌++◌, length, sum, map, ℤ, pos, negsuc}
 use Rattle.std.specs.List.{list_all}
 use Rattle.cgm_formula.specs.declared.formula.Truth.{Truth}
@@ -17,7 +17,7 @@ abbrev pub greatest : List ℕ → ℕ
 greatest [] = 0
 greatest (n ∷ ns) = max n (greatest ns)
 
--- the formula_names of elements and refinements, from the left
+-- the names of elements and refinements, from the left
 abbrev pub names_step : Formula-F (List Truth) → List Truth
 names_step (Formula-F.Name name) = name ∷ []
 names_step (Formula-F.Not part) = part

@@ -1,4 +1,4 @@
-//! Names, thing_found by their bytes.
+//! Names, found by their bytes.
 ghost use Rattle.std.specs.Prelude.{◌≡◌, ◌↔◌, List, ℕ, IsTrue, OnOk, OnErr, if◌then◌else◌};
 ghost use Rattle.std.specs.Str.{bytes_eq};
 ghost use Rattle.cgm_model.specs.Keeping.{AreFor};

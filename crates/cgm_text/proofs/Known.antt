@@ -1,4 +1,4 @@
--- Names that are right stand for what is there, so that a statement with such formula_names is proper.
+-- Names that are right stand for what is there, so that a statement with such names is proper.
 use Rattle.std.proofs.Common.{◌≡◌, ℕ, ◌<◌, ℤ, Bool, true, false, ◌&&◌, List, [], ◌∷◌, ◌++◌, length, map, nat_lt, Option, None, Some, refl, sym, ◌∙◌, subst, arith}
 use Rattle.std.specs.List.{All, AllByRecursion, list_all}
 use Rattle.std.specs.Option.{option_or}
@@ -130,7 +130,7 @@ TermIsKnown m t = IsKnownNumber m t.1
 abbrev SideIsKnown : Lists → Linear × ℤ → Type 0
 SideIsKnown m c = All (TermIsKnown m) c.0.terms
 
--- formula_names and numbers are there, and nothing is empty
+-- names and numbers are there, and nothing is empty
 record IsGood (m : Lists) (f : Formula) : Type 0 where
   truths_known : AllByRecursion (IsKnownTruth m) (formula_names f)
   sides_known : AllByRecursion (SideIsKnown m) (comparisons f)

@@ -1,4 +1,4 @@
--- The written form of a formula, read back after lists that know its formula_names, is the formula.
+-- The written form of a formula, read back after lists that know its names, is the formula.
 use Rattle.std.proofs.Common.{◌≡◌, ◌≢◌, ℕ, ◌+◌, ◌-◌, ◌==◌, ◌≤◌, ℤ, pos, negsuc, max, Bool, true, false, ◌&&◌, nat_lt, List, [], ◌∷◌, ◌++◌, length, map, codes, FitsSigned, None, refl, sym, ap, ◌∙◌, subst, arith, true≢false, w64}
 use Rattle.std.specs.List.{AllByRecursion, list_all}
 use Rattle.std.specs.Ordering.{int_eq}
@@ -38,7 +38,7 @@ use Rattle.cgm_text.specs.Uses.{NameUse, use_as, term_name, terms_uses, linear_u
 use Rattle.cgm_print.specs.Written.{WrittenTerm, plain, scaled, WrittenLinear, WrittenFormula, name, negation, joined, paired, compared, WrittenFormulas, more_formulas, joint_word, pairing_word, comparison_word, spelled_term, spelled_terms, spelled_linear, spelled, spelled_each, formulas_of}
 use Rattle.cgm_text.proofs.Spellings.{name_plain}
 
--- ---- formula_names
+-- ---- names
 
 pub thing_plain : (p m : Lists) → Knows p m → (t : Thing) → IsThingThere p t → IsPlain (word (thing_name m t))
 thing_plain p m kn t h = name_plain (thing_name m t) (kn.spelled t h)

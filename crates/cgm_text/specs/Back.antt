@@ -1,4 +1,4 @@
--- What it says that the written form of a formula is read back after lists: the formula itself, with no fault in its formula_names, in plain words, and not too deep.
+-- What it says that the written form of a formula is read back after lists: the formula itself, with no fault in its names, in plain words, and not too deep.
 use Rattle.std.specs.Prelude.{◌≡◌, ℕ, ℤ, ◌+◌, ◌<◌, ◌≤◌, true, false, List, length, FitsSigned, None, Some}
 use Rattle.std.specs.Int.{w64}
 use Rattle.std.specs.List.{AllByRecursion}

@@ -1,4 +1,4 @@
--- The list of levels: levels_joined it is the changes, and a cut keeps its first part.
+-- The list of levels: joined it is the changes, and a cut keeps its first part.
 use Rattle.std.proofs.Common.{◌≡◌, ℕ, zero, suc, ◌+◌, Bool, true, false, cond, List, [], ◌∷◌, length, take, refl, sym, ap, ◌∙◌, arith}
 use Rattle.cgm_trail.specs.declared.changes.Change.{Change}
 use Rattle.cgm_trail.specs.Laws.{levels_joined}

@@ -134,7 +134,7 @@ reason_landed : (Names Names' : Hint → Constraint → Type 0) (first : ℕ) (b
 reason_landed Names Names' first b a Decision f h = tt
 reason_landed Names Names' first b a (By by) f h = (h.0, f by h.0 h.1, h.2)
 
--- the reasons after landing, where a hint_landed hint names what the hint named
+-- the reasons after landing, where a landed hint names what the hint named
 pub reasoned_landed : (Names Names' : Hint → Constraint → Type 0) (first : ℕ) (b : Bounds) (changes : List Change) → ((h : Hint) (k : Constraint) → Names h k → Names' (hint_landed first h) k) → AreReasoned Names b changes → AreReasoned Names' b (map (landed_change first) changes)
 reasoned_landed Names Names' first b [] f h = tt
 reasoned_landed Names Names' first b (c ∷ changes) f h =

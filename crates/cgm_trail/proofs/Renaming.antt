@@ -54,7 +54,7 @@ pub rank_landed : (first : ℕ) (b : Bounds) (changes : List Change) → rank b 
 unfolding rank
 rank_landed first b changes = rw letters_landed refl
 
--- a hint_landed hint is the hint placed after the entries before the first of the lemmas
+-- a landed hint is the hint placed after the entries before the first of the lemmas
 pub landed_is_placed : (n : ℕ) (h : Hint) → hint_landed (n + 1) h ≡ placed n h
 landed_is_placed n (hint.Clause number) = refl
 landed_is_placed n (hint.Row number) = refl

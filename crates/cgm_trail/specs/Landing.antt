@@ -1,4 +1,4 @@
--- Landing: hints to lemmas that had no place yet name the places where these hint_landed, and nothing else changes.
+-- Landing: hints to lemmas that had no place yet name the places where these landed, and nothing else changes.
 use Rattle.std.specs.Prelude.{ℕ, ◌+◌, ◌-◌, ◌^◌, ◌<◌, ◌≤◌, List, map}
 use Rattle.std.specs.List.{All}
 use Rattle.cgm_atom.specs.declared.entries.Hint.{Hint}
@@ -8,7 +8,7 @@ use Rattle.cgm_trail.specs.declared.changes.Reason.{Reason}
 use Rattle.cgm_trail.specs.declared.changes.Reason.TheVariants.{Decision, By}
 use Rattle.cgm_trail.specs.TrailState.{TrailState}
 
--- the first of the lemmas, which count from 1, hint_landed at place `first`
+-- the first of the lemmas, which count from 1, landed at place `first`
 abbrev pub hint_landed : ℕ → Hint → Hint
 hint_landed first (hint.Clause n) = hint.Clause n
 hint_landed first (hint.Row n) = hint.Row n

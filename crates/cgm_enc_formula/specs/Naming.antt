@@ -1,5 +1,5 @@
 -- A formula's literal, and the definitions of the naming variables of its nodes: parts before the whole, from the left.
-use Rattle.std.specs.Prelude.{ℕ, ◌+◌, List, [], ◌∷◌, ◌++◌, length, ℤ}
+use Rattle.std.specs.Prelude.{ℕ, ◌+◌, List, [], ◌∷◌, ◌++◌, length, map, ℤ}
 use Rattle.cgm_formula.specs.declared.formula.Formula.{Formula}
 use Rattle.cgm_formula.specs.declared.formula.Linear.{Linear}
 use Rattle.cgm_formula.specs.declared.formula.Formula.TheOpen.{Formula-F}
@@ -60,3 +60,7 @@ naming_step m (Formula-F.Equal l k) n = record { definitions = equal_definitions
 -- by recursion on the formula
 abbrev pub naming : Lists → Formula → Naming
 naming m = fold-Formula Naming (naming_step m)
+
+-- what formulas give, one after another
+abbrev pub naming_each : Lists → List Formula → ℕ → NamedParts
+naming_each m parts = parts_named (map (naming m) parts)

@@ -1,5 +1,5 @@
 //! Literals of formulas, with the naming variables of their nodes.
-ghost use Rattle.std.specs.Prelude.{◌≡◌, ◌+◌, ◌≤◌, map, All, IfOk, OnOk};
+ghost use Rattle.std.specs.Prelude.{◌≡◌, ◌+◌, ◌≤◌, All, IfOk, OnOk};
 ghost use Rattle.cgm_atom.specs.Instance.{var_count};
 ghost use Rattle.cgm_model.specs.Formulas.{IsKnownTruth};
 ghost use Rattle.cgm_model.specs.Model.{lists_of};
@@ -7,7 +7,7 @@ ghost use Rattle.cgm_model.specs.TruthVariables.{variable_of};
 ghost use Rattle.cgm_enc_formula.specs.Building.{HasRoomFor, definition_part, definitions_part, with_part};
 ghost use Rattle.cgm_enc_formula.specs.Definitions.{at_least, at_most};
 ghost use Rattle.cgm_enc_formula.specs.Literals.{positive as positive_of};
-ghost use Rattle.cgm_enc_formula.specs.Naming.{equal_definitions, naming, parts_named};
+ghost use Rattle.cgm_enc_formula.specs.Naming.{equal_definitions, naming, naming_each};
 ghost use Rattle.cgm_enc_formula.specs.Terms.{AreRowTerms, IsEncodableFormula, model_variables, row_terms as row_terms_of};
 
 use crate::definitions::{define_all, define_any, define_at_least, define_at_most, define_same};
@@ -79,14 +79,12 @@ fn name_each(
     requires formulas { All (IsEncodableFormula (lists_of model.now)) parts.now }
     requires variables { model_variables (lists_of model.now) ≤ var_count builder.old }
     requires room { HasRoomFor builder.old (definitions_part (var_count builder.old)
-        (parts_named (map (naming (lists_of model.now)) parts.now)
-        (var_count builder.old)).definitions) }
-    ensures literals { IfOk result (λ ls. ls.items
-        ≡ (parts_named (map (naming (lists_of model.now)) parts.now)
+        (naming_each (lists_of model.now) parts.now (var_count builder.old)).definitions) }
+    ensures literals { IfOk result (λ ls. ls.items ≡ (naming_each (lists_of model.now) parts.now
         (var_count builder.old)).literals) }
     ensures added { OnOk result (builder.new ≡ with_part builder.old
-        (definitions_part (var_count builder.old) (parts_named
-        (map (naming (lists_of model.now)) parts.now) (var_count builder.old)).definitions)) }
+        (definitions_part (var_count builder.old) (naming_each (lists_of model.now) parts.now
+        (var_count builder.old)).definitions)) }
 {
     let mut literals = Vec::new(alloc);
     for part in parts {

@@ -31,7 +31,7 @@ use Rattle.cgm_evolve.specs.Pairs.{Pair}
 use Rattle.cgm_obj.specs.Counts.{is_free_requirement, is_met}
 use Rattle.cgm_obj.specs.Vector.{objective_number, quantity}
 use Rattle.cgm_enc_formula.specs.Terms.{number_variable}
-use Rattle.cgm_encode.specs.Quantities.{objective_total, ones, quantity_total, sum_total, was_true_before}
+use Rattle.cgm_encode.specs.Quantities.{is_possible_work, objective_total, ones, quantity_total, sum_total, was_true_before}
 use Rattle.cgm_encode.specs.Totals.{Share, Total, opposite_total, total_value}
 use Rattle.cgm_encode.specs.Variables.{first_preference}
 use Rattle.cgm_encode.proofs.KnownParts.{HasKnownParts}
@@ -213,7 +213,7 @@ module _ (m : Lists) (values : List ℤ) (a : Assignment) (parts : HasKnownParts
 
   effort_is : (pairs : List Pair) → total_value values (quantity_total m pairs quantities.Effort) ≡ quantity m pairs a quantities.Effort
   effort_is pairs =
-      let p : ℕ → Bool = λ e. is_leaf_task m e && not (was_true_before m pairs e) in
+      let p = is_possible_work m pairs in
       let xs = elements_of_interest m in
       let g : Share → ℤ = λ s. s.0 *ℤ value_of values s.1 in
       let f : ℕ → Share = λ e. (pos 1, e) in

@@ -41,9 +41,13 @@ familiarity_total m pairs = record {
   constant = pos (count_by (was_true_before m pairs) (elements_of_interest m));
 }
 
+-- a leaf task that wasn't true
+abbrev pub is_possible_work : Lists → List Pair → ℕ → Bool
+is_possible_work m pairs element = is_leaf_task m element && not (was_true_before m pairs element)
+
 -- the leaf tasks of interest that weren't true
 abbrev pub possible_work : Lists → List Pair → List ℕ
-possible_work m pairs = filter (λ e. is_leaf_task m e && not (was_true_before m pairs e)) (elements_of_interest m)
+possible_work m pairs = filter (is_possible_work m pairs) (elements_of_interest m)
 
 abbrev pub quantity_total : Lists → List Pair → Quantity → Total
 quantity_total m pairs (quantities.Var k) = plain (ones (number_variable m (number.Var k) ∷ []))

@@ -1,5 +1,5 @@
 //! Elements that quantities count.
-ghost use Rattle.std.specs.Prelude.{◌≡◌, ◌&&◌, ◌++◌, ◌∷◌, [], not, filter, IfOk, OnOk};
+ghost use Rattle.std.specs.Prelude.{◌≡◌, ◌++◌, ◌∷◌, [], filter, IfOk, OnOk};
 ghost use Rattle.cgm_model.specs.Leaves as leaves;
 ghost use Rattle.cgm_model.specs.Model.{lists_of};
 ghost use Rattle.cgm_evolve.specs.Costs as costs;
@@ -87,8 +87,7 @@ fn work_among(
     elements: &[u32],
 ) -> Result<Vec<u32>, OutOfMemory>
     ensures { IfOk result (λ tasks. tasks.items ≡ filter
-        (λ k. leaves.is_leaf_task (lists_of model.now) k && not
-        (quantities.was_true_before (lists_of model.now) earlier.now.pairs k)) elements.now) }
+        (quantities.is_possible_work (lists_of model.now) earlier.now.pairs) elements.now) }
 {
     let mut tasks = Vec::new(alloc);
     for element in elements {
@@ -104,8 +103,7 @@ fn push_possible_work(
     element: u32,
 ) -> Result<(), OutOfMemory>
     ensures { OnOk result (tasks.new.items ≡ tasks.old.items ++ filter
-        (λ k. leaves.is_leaf_task (lists_of model.now) k && not
-        (quantities.was_true_before (lists_of model.now) earlier.now.pairs k)) (element ∷ [])) }
+        (quantities.is_possible_work (lists_of model.now) earlier.now.pairs) (element ∷ [])) }
 {
     if is_possible_work(model, earlier, element) {
         tasks.push(element)?;
@@ -114,8 +112,7 @@ fn push_possible_work(
 }
 
 fn is_possible_work(model: &Model, earlier: &Earlier, element: u32) -> bool
-    ensures { result ≡ (leaves.is_leaf_task (lists_of model.now) element && not
-        (quantities.was_true_before (lists_of model.now) earlier.now.pairs element)) }
+    ensures { result ≡ quantities.is_possible_work (lists_of model.now) earlier.now.pairs element }
 {
     model.is_leaf_task(element) && !was_true_before(model, earlier, element)
 }

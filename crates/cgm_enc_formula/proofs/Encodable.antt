@@ -7,7 +7,7 @@ use Rattle.std.proofs.lemmas.List.Elements.{All-cons, All-nil}
 use Rattle.std.proofs.lemmas.List.Sums.{AllPass-from_list_all}
 use Rattle.cgm_atom.specs.Bounds.{Bounds}
 use Rattle.cgm_atom.specs.Instance.{Instance, var_count}
-use Rattle.cgm_atom.specs.Limits.{max_measure}
+use Rattle.cgm_atom.specs.Limits.{max_measure, measure}
 use Rattle.cgm_base.specs.declared.limit.Which.TheVariants as limits
 use Rattle.cgm_base.specs.Words.{limit_number}
 use Rattle.cgm_formula.specs.declared.formula.Linear.{Linear}
@@ -20,8 +20,9 @@ use Rattle.cgm_model.specs.WellFormed.{IsRule, IsWellFormedModel}
 use Rattle.cgm_enc_formula.specs.Building.{HasRoomFor, rules_part}
 use Rattle.cgm_enc_formula.specs.Measures.{HasKnownNumbers, IsWithinMeasure, comparison_measure, has_small_measures}
 use Rattle.cgm_enc_formula.specs.Rules.{IsEncodableRule}
-use Rattle.cgm_enc_formula.specs.Terms.{IsEncodableFormula}
+use Rattle.cgm_enc_formula.specs.Terms.{IsEncodableFormula, row_terms, variable_terms}
 use Rattle.cgm_enc_formula.proofs.RuleSizes.{rules_part_small}
+use Rattle.cgm_enc_formula.proofs.TermMeasures.{row-measure}
 use Rattle.cgm_enc_formula.proofs.TermOrders.{terms_known}
 use Rattle.cgm_enc_formula.proofs.WellFormedRules.{each_rule}
 
@@ -35,25 +36,27 @@ small_terms l h k d within =
     leb-true (unsigned_abs (get_or l.terms k d).0) (limit_number limits.Coefficient) (AllPass-from_list_all (λ t. is_small t.0) l.terms h k d within)
 
 module _ (m : Lists) (b : Bounds) where
-  small_number : (c : Linear × ℤ) → nat_le (comparison_measure m b c) max_measure ≡ true → unsigned_abs c.1 ≤ max_measure
-  small_number c h =
-      let all : comparison_measure m b c ≤ max_measure = leb-true (comparison_measure m b c) max_measure h in
-      omega arith
+  within : (size x y : ℕ) → size + y ≤ max_measure → x ≤ y → size + x ≤ max_measure
+  within size x y h less = omega arith
 
-  formula_encodable : (r : Rule) → IsRule m r → has_small_measures m b (formula_of r) ≡ true → IsEncodableFormula m (formula_of r)
+  row_small : (c : Linear × ℤ) → nat_le (comparison_measure m b c) max_measure ≡ true → unsigned_abs c.1 + measure b (row_terms m c.0) ≤ max_measure
+  row_small c h =
+      within (unsigned_abs c.1) (measure b (row_terms m c.0)) (measure b (variable_terms m c.0.terms)) (leb-true (comparison_measure m b c) max_measure h) (row-measure b m c.0)
+
+  formula_encodable : (r : Rule) → IsRule m r → has_small_measures m b (formula_of r) ≡ true → IsEncodableFormula m b (formula_of r)
   formula_encodable r rule h = record {
     names = rule.proper.formula.names;
     comparisons = λ k d l. record {
       terms = terms_known m (get_or (comparisons (formula_of r)) k d).0.terms (rule.proper.formula.numbers k d l) (AllPass-from_list_all (λ c. has_distinct_terms c.0) (comparisons (formula_of r)) rule.distinct k d l);
       coefficients = small_terms (get_or (comparisons (formula_of r)) k d).0 (AllPass-from_list_all (λ c. has_small_terms c.0) (comparisons (formula_of r)) rule.small k d l);
-      number = small_number (get_or (comparisons (formula_of r)) k d) (AllPass-from_list_all (λ c. nat_le (comparison_measure m b c) max_measure) (comparisons (formula_of r)) h k d l);
+      size = row_small (get_or (comparisons (formula_of r)) k d) (AllPass-from_list_all (λ c. nat_le (comparison_measure m b c) max_measure) (comparisons (formula_of r)) h k d l);
     };
   }
 
-  rule_encodable : (r : Rule) → IsRule m r → has_small_measures m b (formula_of r) ≡ true → IsEncodableRule m r
+  rule_encodable : (r : Rule) → IsRule m r → has_small_measures m b (formula_of r) ≡ true → IsEncodableRule m b r
   rule_encodable r rule h = record { condition = rule.proper.condition; formula = formula_encodable r rule h }
 
-  pub rules_encodable : ∥ IsWellFormedModel m ∥₁ → Each (IsWithinMeasure m b) m.rules → All (IsEncodableRule m) m.rules
+  pub rules_encodable : ∥ IsWellFormedModel m ∥₁ → Each (IsWithinMeasure m b) m.rules → All (IsEncodableRule m b) m.rules
   rules_encodable well h k d l =
       rule_encodable (get_or m.rules k d) (each_rule m well k d l) (all_from_each (λ r. has_small_measures m b (formula_of r) ≡ true) 0 m.rules h k d l)
 

@@ -15,6 +15,7 @@ pub mod RuleSizes
 pub mod RuleSteps
 pub mod Splits
 pub mod Steps
+pub mod TermMeasures
 pub mod TermOrders
 pub mod TermSums
 pub mod TermTables

@@ -1,12 +1,14 @@
 -- The steps of naming a formula: parts, then the whole.
-use Rattle.std.proofs.Common.{◌≡◌, ℕ, ◌+◌, ◌^◌, ◌<◌, ◌≤◌, List, [], ◌∷◌, ◌++◌, length, get_or, map, sym, ap, ◌∙◌, subst, arith}
-use Rattle.std.specs.Prelude.{ℤ, unsigned_abs}
+use Rattle.std.proofs.Common.{◌≡◌, ℕ, ◌+◌, ◌^◌, ◌<◌, ◌≤◌, List, [], ◌∷◌, ◌++◌, length, get_or, map, replicate, sym, ap, ◌∙◌, subst, arith}
+use Rattle.std.specs.Prelude.{ℤ, pos, unsigned_abs}
 use Rattle.std.specs.List.{All, AllByRecursion}
 use Rattle.std.proofs.lemmas.List.{append_assoc}
 use Rattle.std.proofs.lemmas.List.Elements.{All-head, All-tail, All-weaker, All-from_recursion, recursion_from_All}
 use Rattle.cgm_atom.specs.declared.constraints.Var.{Var}
+use Rattle.cgm_atom.specs.Bounds.{Bounds}
 use Rattle.cgm_atom.specs.Instance.{Instance, var_count}
-use Rattle.cgm_atom.specs.Limits.{AreTermsOf}
+use Rattle.cgm_atom.specs.Limits.{AreTermsOf, max_measure, measure}
+use Rattle.cgm_atom.proofs.Growing.{measure-longer}
 use Rattle.cgm_formula.specs.declared.formula.Formula.{Formula}
 use Rattle.cgm_formula.specs.declared.formula.Formula.TheVariants.{Name, Not, And, Or, Implies, Iff, AtMost, AtLeast, Equal}
 use Rattle.cgm_formula.specs.declared.formula.Linear.{Linear}
@@ -72,14 +74,36 @@ pub whole_added : (old new last : Instance) (ds : List Definition) (d : Definiti
 whole_added old new last ds d e is =
     both_added old new last ds (d ∷ []) e (is ∙ ap (λ (x : Part). with_part new x) (sym (one_definition (var_count new) d)))
 
+-- ---- behind more variables
+
+-- a comparison can become rows behind a part too
+pub comparison_after : (m : Lists) (old new : Instance) (part : Part) (c : Linear × ℤ) → new ≡ with_part old part → length old.bounds.upper ≡ length old.bounds.lower → model_variables m ≤ var_count old → AreRowTerms m old.bounds c → AreRowTerms m new.bounds c
+comparison_after m old new part c e same few h =
+    let own = row_terms m c.0 in
+    let known = terms_wider (model_variables m) (var_count old) few own (row_terms_known m c.0 h.terms) in
+    let still : measure (with_part old part).bounds own ≡ measure old.bounds own = measure-longer old.bounds (replicate part.names (pos 0)) (replicate part.names (pos 1)) own same known in
+    record {
+      terms = h.terms;
+      coefficients = h.coefficients;
+      size =
+          subst (λ (p : Instance). unsigned_abs c.1 + measure p.bounds own ≤ max_measure) (sym e)
+          (subst (λ (n : ℕ). unsigned_abs c.1 + n ≤ max_measure) (sym still) h.size);
+    }
+
+pub encodable_after : (m : Lists) (f : Formula) (old new : Instance) (part : Part) → new ≡ with_part old part → length old.bounds.upper ≡ length old.bounds.lower → model_variables m ≤ var_count old → IsEncodableFormula m old.bounds f → IsEncodableFormula m new.bounds f
+encodable_after m f old new part e same few h = record {
+  names = h.names;
+  comparisons = λ k d l. comparison_after m old new part (get_or (comparisons f) k d) e same few (h.comparisons k d l);
+}
+
 -- ---- formulas
 
 module _ (m : Lists) where
-  pub formula_named : (f : Formula) (n : ℕ) → IsEncodableFormula m f → model_variables m ≤ n → IsKnownNamed n (naming m f n)
+  pub formula_named : {b : Bounds} (f : Formula) (n : ℕ) → IsEncodableFormula m b f → model_variables m ≤ n → IsKnownNamed n (naming m f n)
   formula_named f n h few = naming_known m f h.names (λ k d l. (h.comparisons k d l).terms) n few
 
   -- a formula's literal is known behind its definitions
-  pub literal_within : (f : Formula) (old new : Instance) → IsEncodableFormula m f → model_variables m ≤ var_count old → Adds old (naming m f (var_count old)).definitions new → (naming m f (var_count old)).literal.variable < var_count new
+  pub literal_within : {b : Bounds} (f : Formula) (old new : Instance) → IsEncodableFormula m b f → model_variables m ≤ var_count old → Adds old (naming m f (var_count old)).definitions new → (naming m f (var_count old)).literal.variable < var_count new
   literal_within f old new h few e =
       let known = (formula_named f (var_count old) h few).literal in
       let count = count_after old new (naming m f (var_count old)).definitions e in
@@ -87,39 +111,39 @@ module _ (m : Lists) where
 
   -- ---- what is known of a formula is known of its parts
 
-  pub encodable_name : (name : Truth) → IsEncodableFormula m (Name name) → IsKnownTruth m name
-  encodable_name name h = name_of_name (IsKnownTruth m) name h.names
+  pub encodable_name : (b : Bounds) (name : Truth) → IsEncodableFormula m b (Name name) → IsKnownTruth m name
+  encodable_name b name h = name_of_name (IsKnownTruth m) name h.names
 
-  pub encodable_negation : (part : Formula) → IsEncodableFormula m (Not part) → IsEncodableFormula m part
-  encodable_negation part h = record {
+  pub encodable_negation : (b : Bounds) (part : Formula) → IsEncodableFormula m b (Not part) → IsEncodableFormula m b part
+  encodable_negation b part h = record {
     names = names_of_negation (IsKnownTruth m) part h.names;
-    comparisons = of_negation (AreRowTerms m) part h.comparisons;
+    comparisons = of_negation (AreRowTerms m b) part h.comparisons;
   }
 
-  parts_encodable : (parts : List Formula) → AllByRecursion (λ f. All (IsKnownTruth m) (names_of f)) parts → All (λ f. All (AreRowTerms m) (comparisons f)) parts → All (IsEncodableFormula m) parts
-  parts_encodable parts h k i d l = record {
+  parts_encodable : (b : Bounds) (parts : List Formula) → AllByRecursion (λ f. All (IsKnownTruth m) (names_of f)) parts → All (λ f. All (AreRowTerms m b) (comparisons f)) parts → All (IsEncodableFormula m b) parts
+  parts_encodable b parts h k i d l = record {
     names = All-from_recursion (λ f. All (IsKnownTruth m) (names_of f)) parts h i d l;
     comparisons = k i d l;
   }
 
-  pub encodable_conjunction : (parts : List Formula) → IsEncodableFormula m (And parts) → All (IsEncodableFormula m) parts
-  encodable_conjunction parts h =
-      parts_encodable parts (names_of_conjunction (IsKnownTruth m) parts h.names) (of_conjunction (AreRowTerms m) parts h.comparisons)
+  pub encodable_conjunction : (b : Bounds) (parts : List Formula) → IsEncodableFormula m b (And parts) → All (IsEncodableFormula m b) parts
+  encodable_conjunction b parts h =
+      parts_encodable b parts (names_of_conjunction (IsKnownTruth m) parts h.names) (of_conjunction (AreRowTerms m b) parts h.comparisons)
 
-  pub encodable_disjunction : (parts : List Formula) → IsEncodableFormula m (Or parts) → All (IsEncodableFormula m) parts
-  encodable_disjunction parts h =
-      parts_encodable parts (names_of_disjunction (IsKnownTruth m) parts h.names) (of_disjunction (AreRowTerms m) parts h.comparisons)
+  pub encodable_disjunction : (b : Bounds) (parts : List Formula) → IsEncodableFormula m b (Or parts) → All (IsEncodableFormula m b) parts
+  encodable_disjunction b parts h =
+      parts_encodable b parts (names_of_disjunction (IsKnownTruth m) parts h.names) (of_disjunction (AreRowTerms m b) parts h.comparisons)
 
-  pub encodable_implication : (premise conclusion : Formula) → IsEncodableFormula m (Implies premise conclusion) → IsEncodableFormula m premise × IsEncodableFormula m conclusion
-  encodable_implication premise conclusion h =
+  pub encodable_implication : (b : Bounds) (premise conclusion : Formula) → IsEncodableFormula m b (Implies premise conclusion) → IsEncodableFormula m b premise × IsEncodableFormula m b conclusion
+  encodable_implication b premise conclusion h =
       let names = names_of_implication (IsKnownTruth m) premise conclusion h.names in
-      let cs = of_implication (AreRowTerms m) premise conclusion h.comparisons in
+      let cs = of_implication (AreRowTerms m b) premise conclusion h.comparisons in
       (record { names = names.0; comparisons = cs.0 }, record { names = names.1; comparisons = cs.1 })
 
-  pub encodable_equivalence : (one other : Formula) → IsEncodableFormula m (Iff one other) → IsEncodableFormula m one × IsEncodableFormula m other
-  encodable_equivalence one other h =
+  pub encodable_equivalence : (b : Bounds) (one other : Formula) → IsEncodableFormula m b (Iff one other) → IsEncodableFormula m b one × IsEncodableFormula m b other
+  encodable_equivalence b one other h =
       let names = names_of_equivalence (IsKnownTruth m) one other h.names in
-      let cs = of_equivalence (AreRowTerms m) one other h.comparisons in
+      let cs = of_equivalence (AreRowTerms m b) one other h.comparisons in
       (record { names = names.0; comparisons = cs.0 }, record { names = names.1; comparisons = cs.1 })
 
   -- ---- the naming of each kind of formula
@@ -197,7 +221,7 @@ module _ (m : Lists) where
   parts_at parts n = parts_named (map (naming m) parts) n
 
   -- the literals of a list of formulas are known behind their definitions
-  pub literals_within : (parts : List Formula) (old new : Instance) → All (IsEncodableFormula m) parts → model_variables m ≤ var_count old → Adds old (parts_at parts (var_count old)).definitions new → All (λ l. l.variable < var_count new) (parts_at parts (var_count old)).literals
+  pub literals_within : {b : Bounds} (parts : List Formula) (old new : Instance) → All (IsEncodableFormula m b) parts → model_variables m ≤ var_count old → Adds old (parts_at parts (var_count old)).definitions new → All (λ l. l.variable < var_count new) (parts_at parts (var_count old)).literals
   literals_within parts old new h few e =
       let n = var_count old in
       let known = parts_known m parts (recursion_from_All (IsNameable m) parts (λ k d l. naming_known m (get_or parts k d)))
@@ -209,13 +233,13 @@ module _ (m : Lists) where
 
   -- the parts before the rest are named, and the rest is left
   pub record AreNamed (old : Instance) (all : List Formula) (new : Instance) (ls : List Literal) (rest : List Formula) : Type 0 where
-    pub known : All (IsEncodableFormula m) rest
+    pub known : All (IsEncodableFormula m new.bounds) rest
     pub variables : model_variables m ≤ var_count new
     pub left : IsLeft old (definitions_part (var_count old) (parts_at all (var_count old)).definitions) new (definitions_part (var_count new) (parts_at rest (var_count new)).definitions)
     pub literals : ls ++ (parts_at rest (var_count new)).literals ≡ (parts_at all (var_count old)).literals
 
-  pub next_known : (old p : Instance) (all : List Formula) (ls : List Literal) (part : Formula) (rest : List Formula) → AreNamed old all p ls (part ∷ rest) → IsEncodableFormula m part
-  next_known old p all ls part rest far = All-head (IsEncodableFormula m) part rest far.known
+  pub next_known : (old p : Instance) (all : List Formula) (ls : List Literal) (part : Formula) (rest : List Formula) → AreNamed old all p ls (part ∷ rest) → IsEncodableFormula m p.bounds part
+  next_known old p all ls part rest far = All-head (IsEncodableFormula m p.bounds) part rest far.known
 
   pub next_fits : (old p : Instance) (all : List Formula) (ls : List Literal) (part : Formula) (rest : List Formula) → AreNamed old all p ls (part ∷ rest) → Fits p (naming m part (var_count p)).definitions
   next_fits old p all ls part rest far =
@@ -223,8 +247,8 @@ module _ (m : Lists) where
       let first = (naming m part n).definitions in
       front_fits p first (parts_at rest (n + length first)).definitions far.left.room
 
-  pub named_more : (old p q : Instance) (all : List Formula) (ls : List Literal) (l : Literal) (part : Formula) (rest : List Formula) → AreNamed old all p ls (part ∷ rest) → Adds p (naming m part (var_count p)).definitions q → l ≡ (naming m part (var_count p)).literal → AreNamed old all q (ls ++ l ∷ []) rest
-  named_more old p q all ls l part rest far e is =
+  pub named_more : (old p q : Instance) (all : List Formula) (ls : List Literal) (l : Literal) (part : Formula) (rest : List Formula) → AreNamed old all p ls (part ∷ rest) → length p.bounds.upper ≡ length p.bounds.lower → Adds p (naming m part (var_count p)).definitions q → l ≡ (naming m part (var_count p)).literal → AreNamed old all q (ls ++ l ∷ []) rest
+  named_more old p q all ls l part rest far same e is =
       let n = var_count p in
       let first = naming m part n in
       let next = n + length first.definitions in
@@ -234,7 +258,7 @@ module _ (m : Lists) where
       let left = left_more old p q (definitions_part (var_count old) (parts_at all (var_count old)).definitions) (definitions_part n first.definitions)
       (definitions_part next more) (definitions_part n (first.definitions ++ more)) (definitions_both n first.definitions more) far.left e in
       record {
-        known = All-tail (IsEncodableFormula m) part rest far.known;
+        known = λ k d w. encodable_after m (get_or rest k d) p q (definitions_part n first.definitions) e same few (All-tail (IsEncodableFormula m p.bounds) part rest far.known k d w);
         variables = omega arith;
         left = subst (λ (k : ℕ). IsLeft old (definitions_part (var_count old) (parts_at all (var_count old)).definitions) q (definitions_part k (parts_at rest k).definitions)) (sym count) left;
         literals =
@@ -246,12 +270,18 @@ module _ (m : Lists) where
 
 -- ---- comparisons
 
-pub row_terms_fit : (m : Lists) (p : Instance) (l : Linear) (k : ℤ) (terms : List (ℤ × Var)) → terms ≡ row_terms m l → model_variables m ≤ var_count p → AreRowTerms m (l, k) → AreTermsOf (var_count p) terms
+pub row_terms_fit : (m : Lists) (p : Instance) (l : Linear) (k : ℤ) (terms : List (ℤ × Var)) → terms ≡ row_terms m l → model_variables m ≤ var_count p → AreRowTerms m p.bounds (l, k) → AreTermsOf (var_count p) terms
 row_terms_fit m p l k terms e few h =
     subst (λ (ts : List (ℤ × Var)). AreTermsOf (var_count p) ts) (sym e)
     (terms_wider (model_variables m) (var_count p) few (row_terms m l) (row_terms_known m l h.terms))
 
-pub row_terms_small : (m : Lists) (l : Linear) (k : ℤ) (terms : List (ℤ × Var)) → terms ≡ row_terms m l → AreRowTerms m (l, k) → All (λ t. unsigned_abs t.0 < 2 ^ 63) terms
-row_terms_small m l k terms e h =
+pub row_terms_small : (m : Lists) (b : Bounds) (l : Linear) (k : ℤ) (terms : List (ℤ × Var)) → terms ≡ row_terms m l → AreRowTerms m b (l, k) → All (λ t. unsigned_abs t.0 < 2 ^ 63) terms
+row_terms_small m b l k terms e h =
     subst (λ (ts : List (ℤ × Var)). All (λ t. unsigned_abs t.0 < 2 ^ 63) ts) (sym e)
     (All-row_terms (λ c. unsigned_abs c < 2 ^ 63) m l (λ i d within. (let small = h.coefficients i d within in omega arith)))
+
+-- the size of a row of these terms, with the number as it is passed
+pub row_within : (m : Lists) (p : Instance) (l : Linear) (k passed : ℤ) (terms : List (ℤ × Var)) → passed ≡ k → terms ≡ row_terms m l → AreRowTerms m p.bounds (l, k) → unsigned_abs passed + measure p.bounds terms ≤ max_measure
+row_within m p l k passed terms same e h =
+    subst (λ (z : ℤ). unsigned_abs z + measure p.bounds terms ≤ max_measure) (sym same)
+    (subst (λ (ts : List (ℤ × Var)). unsigned_abs k + measure p.bounds ts ≤ max_measure) (sym e) h.size)

@@ -1,5 +1,5 @@
 -- The steps of adding rules: the definitions of a rule's formula, then the rule's own clause, and one rule after another.
-use Rattle.std.proofs.Common.{◌≡◌, ℕ, ◌+◌, ◌≤◌, List, [], ◌∷◌, ◌++◌, length, refl, sym, ap, ◌∙◌, subst, arith}
+use Rattle.std.proofs.Common.{◌≡◌, ℕ, ◌+◌, ◌≤◌, List, [], ◌∷◌, ◌++◌, length, get_or, refl, sym, ap, ◌∙◌, subst, arith}
 use Rattle.std.specs.List.{All}
 use Rattle.std.proofs.lemmas.List.{append-nil, append_assoc, length-append}
 use Rattle.std.proofs.lemmas.List.Elements.{All-head, All-tail}
@@ -18,7 +18,7 @@ use Rattle.cgm_enc_formula.specs.Rules.{IsEncodableRule, clauses_from, rows_from
 use Rattle.cgm_enc_formula.specs.Terms.{model_variables}
 use Rattle.cgm_enc_formula.proofs.Defining.{one_clause, written_part}
 use Rattle.cgm_enc_formula.proofs.DefinitionLists.{rows_both}
-use Rattle.cgm_enc_formula.proofs.NamingSteps.{Adds}
+use Rattle.cgm_enc_formula.proofs.NamingSteps.{Adds, encodable_after}
 use Rattle.cgm_enc_formula.proofs.Steps.{IsLeft, left_first, left_more, left_none, no_part, rest_fits, same_part, with-count, with_both}
 
 -- ---- one rule
@@ -59,14 +59,17 @@ module _ (m : Lists) where
   unfolding rules_part
   no_rules n = refl
 
+  rule_after : (r : Rule) (old new : Instance) (part : Part) → new ≡ with_part old part → length old.bounds.upper ≡ length old.bounds.lower → model_variables m ≤ var_count old → IsEncodableRule m old.bounds r → IsEncodableRule m new.bounds r
+  rule_after r old new part e same few h = record { condition = h.condition; formula = encodable_after m (formula_of r) old new part e same few h.formula }
+
   -- the rules before the rest are added, and the rest is left
   pub record AreAdded (old : Instance) (all : List Rule) (new : Instance) (rest : List Rule) : Type 0 where
-    pub known : All (IsEncodableRule m) rest
+    pub known : All (IsEncodableRule m new.bounds) rest
     pub variables : model_variables m ≤ var_count new
     pub left : IsLeft old (rules_part m (var_count old) all) new (rules_part m (var_count new) rest)
 
-  pub next_known : (old p : Instance) (all : List Rule) (r : Rule) (rest : List Rule) → AreAdded old all p (r ∷ rest) → IsEncodableRule m r
-  next_known old p all r rest far = All-head (IsEncodableRule m) r rest far.known
+  pub next_known : (old p : Instance) (all : List Rule) (r : Rule) (rest : List Rule) → AreAdded old all p (r ∷ rest) → IsEncodableRule m p.bounds r
+  next_known old p all r rest far = All-head (IsEncodableRule m p.bounds) r rest far.known
 
   pub next_fits : (old p : Instance) (all : List Rule) (r : Rule) (rest : List Rule) → AreAdded old all p (r ∷ rest) → HasRoomFor p (rule_part m (var_count p) r)
   next_fits old p all r rest far =
@@ -74,8 +77,8 @@ module _ (m : Lists) where
       left_first old p (rules_part m (var_count old) all) (rule_part m n r) (rules_part m (n + length (naming m (formula_of r) n).definitions) rest)
       (rules_part m n (r ∷ rest)) (rules_both n r rest) far.left
 
-  pub added_more : (old p q : Instance) (all : List Rule) (r : Rule) (rest : List Rule) → AreAdded old all p (r ∷ rest) → q ≡ with_part p (rule_part m (var_count p) r) → AreAdded old all q rest
-  added_more old p q all r rest far e =
+  pub added_more : (old p q : Instance) (all : List Rule) (r : Rule) (rest : List Rule) → AreAdded old all p (r ∷ rest) → length p.bounds.upper ≡ length p.bounds.lower → q ≡ with_part p (rule_part m (var_count p) r) → AreAdded old all q rest
+  added_more old p q all r rest far same_count e =
       let n = var_count p in
       let ds = (naming m (formula_of r) n).definitions in
       let next = n + length ds in
@@ -85,7 +88,7 @@ module _ (m : Lists) where
       let few = far.variables in
       let left = left_more old p q (rules_part m (var_count old) all) (rule_part m n r) (rules_part m next rest) (rules_part m n (r ∷ rest)) (rules_both n r rest) far.left e in
       record {
-        known = All-tail (IsEncodableRule m) r rest far.known;
+        known = λ k d l. rule_after (get_or rest k d) p q (rule_part m n r) e same_count few (All-tail (IsEncodableRule m p.bounds) r rest far.known k d l);
         variables = omega arith;
         left = subst (λ (k : ℕ). IsLeft old (rules_part m (var_count old) all) q (rules_part m k rest)) (sym count) left;
       }

@@ -3,6 +3,7 @@ use Rattle.std.specs.Prelude.{ℕ, ◌+◌, List, [], ◌∷◌, ◌++◌, lengt
 use Rattle.std.specs.List.{All, enumerate_from}
 use Rattle.cgm_atom.specs.declared.constraints.Clause.{Clause}
 use Rattle.cgm_atom.specs.declared.constraints.Row.{Row}
+use Rattle.cgm_atom.specs.Bounds.{Bounds}
 use Rattle.cgm_atom.specs.Literals.{clause, literal, negated}
 use Rattle.cgm_model.specs.declared.lists.Lists.{Lists}
 use Rattle.cgm_model.specs.declared.lists.Rule.{Rule}
@@ -29,9 +30,9 @@ rule_clause m (rules.Negative name f) l = clause (literal (variable_of m name) �
 rule_clause m (rules.Require f) l = clause (atom_of l ∷ [])
 
 -- the rule's name is there, and its formula can be encoded
-pub record IsEncodableRule (m : Lists) (r : Rule) : Type 0 where
+pub record IsEncodableRule (m : Lists) (b : Bounds) (r : Rule) : Type 0 where
   pub condition : All (IsKnownTruth m) (condition_names r)
-  pub formula : IsEncodableFormula m (formula_of r)
+  pub formula : IsEncodableFormula m b (formula_of r)
 
 -- the definitions of all rules, where the first naming variable is n
 abbrev pub rule_definitions : Lists → ℕ → List Rule → List Definition

@@ -3,7 +3,8 @@ use Rattle.std.specs.Prelude.{ℕ, ◌+◌, ◌≤◌, nat_lt, Bool, not, if◌t
 use Rattle.std.specs.List.{All}
 use Rattle.std.specs.Ordering.{int_eq}
 use Rattle.cgm_atom.specs.declared.constraints.Var.{Var}
-use Rattle.cgm_atom.specs.Limits.{AreTermsOf, IsAbsent, max_measure}
+use Rattle.cgm_atom.specs.Bounds.{Bounds}
+use Rattle.cgm_atom.specs.Limits.{AreTermsOf, IsAbsent, max_measure, measure}
 use Rattle.cgm_base.specs.declared.limit.Which.TheVariants as limits
 use Rattle.cgm_base.specs.Words.{limit_number}
 use Rattle.cgm_formula.specs.declared.formula.Formula.{Formula}
@@ -60,13 +61,13 @@ nonzero terms = filter (λ t. not (is_zero t)) terms
 abbrev pub row_terms : Lists → Linear → List (ℤ × Var)
 row_terms m l = ascending (nonzero (variable_terms m l.terms))
 
--- the terms can be those of a row: known, distinct variables, and small numbers
-pub record AreRowTerms (m : Lists) (c : Linear × ℤ) : Type 0 where
+-- the terms can be those of a row where the variables have these bounds: known, distinct variables, small numbers, a measure within the limit
+pub record AreRowTerms (m : Lists) (b : Bounds) (c : Linear × ℤ) : Type 0 where
   pub terms : AreTermsOf (model_variables m) (nonzero (variable_terms m c.0.terms))
   pub coefficients : All (λ t. unsigned_abs t.0 ≤ limit_number limits.Coefficient) c.0.terms
-  pub number : unsigned_abs c.1 ≤ max_measure
+  pub size : unsigned_abs c.1 + measure b (row_terms m c.0) ≤ max_measure
 
 -- the names of the formula are there, and each of its comparisons can become rows
-pub record IsEncodableFormula (m : Lists) (f : Formula) : Type 0 where
+pub record IsEncodableFormula (m : Lists) (b : Bounds) (f : Formula) : Type 0 where
   pub names : All (IsKnownTruth m) (nodes.formula_names f)
-  pub comparisons : All (AreRowTerms m) (nodes.comparisons f)
+  pub comparisons : All (AreRowTerms m b) (nodes.comparisons f)

@@ -1,9 +1,9 @@
 //! Naming variables, each with the clauses or rows that define it.
-ghost use Rattle.std.specs.Prelude.{◌≡◌, ◌+◌, ◌-◌, ◌^◌, ◌<◌, ◌≤◌, ◌∷◌, [], length, map, pos, neg_ℤ, ◌+ℤ◌, unsigned_abs, All, IfOk, OnOk};
+ghost use Rattle.std.specs.Prelude.{◌≡◌, ◌+◌, ◌-◌, ◌^◌, ◌<◌, ◌≤◌, ◌∷◌, [], length, map, pos, neg_ℤ, ◌+ℤ◌, ◌-ℤ◌, unsigned_abs, All, IfOk, OnOk};
 ghost use Rattle.cgm_atom.specs.Adding.{CanTake, with_written};
-ghost use Rattle.cgm_atom.specs.Building.{with_row, with_var};
+ghost use Rattle.cgm_atom.specs.Building.{IsRowSize, with_row, with_var};
 ghost use Rattle.cgm_atom.specs.Instance.{var_count};
-ghost use Rattle.cgm_atom.specs.Limits.{AreTermsOf, max_least, max_measure};
+ghost use Rattle.cgm_atom.specs.Limits.{AreTermsOf, max_least, max_measure, measure};
 ghost use Rattle.cgm_enc_formula.specs.Building.{HasRoomFor, definition_part, with_part};
 ghost use Rattle.cgm_enc_formula.specs.Definitions.{all_of, any_of, at_least, at_most, one_of as one_of_clause, pairs, row_where, same_as};
 ghost use Rattle.cgm_enc_formula.specs.Literals.{opposite as opposite_of, positive as positive_of};
@@ -93,13 +93,14 @@ pub(crate) fn define_at_most(
 ) -> Result<Literal, OutOfMemory>
     requires known { AreTermsOf (var_count builder.old) terms.now }
     requires coefficients { All (λ t. unsigned_abs t.0 < 2 ^ 63) terms.now }
-    requires number { unsigned_abs k ≤ max_measure }
+    requires size { unsigned_abs k + measure builder.old.bounds terms.now ≤ max_measure }
     requires room { HasRoomFor builder.old (definition_part (var_count builder.old)
         (at_most terms.now k)) }
     ensures literal { IfOk result (λ l. l ≡ positive_of (var_count builder.old)) }
     ensures added { OnOk result (builder.new ≡ with_part builder.old
         (definition_part (var_count builder.old) (at_most terms.now k))) }
 {
+    builder.recall_well_formed();
     let p = new_name(builder)?;
     let negative_terms = negative(alloc, terms)?;
     add_row(builder, literal(p), negative_terms, negated_number(k))?;
@@ -117,18 +118,19 @@ pub(crate) fn define_at_least(
 ) -> Result<Literal, OutOfMemory>
     requires known { AreTermsOf (var_count builder.old) terms.now }
     requires coefficients { All (λ t. unsigned_abs t.0 < 2 ^ 63) terms.now }
-    requires number { unsigned_abs k ≤ max_measure }
+    requires size { unsigned_abs k + measure builder.old.bounds terms.now ≤ max_measure }
     requires room { HasRoomFor builder.old (definition_part (var_count builder.old)
         (at_least terms.now k)) }
     ensures literal { IfOk result (λ l. l ≡ positive_of (var_count builder.old)) }
     ensures added { OnOk result (builder.new ≡ with_part builder.old
         (definition_part (var_count builder.old) (at_least terms.now k))) }
 {
+    builder.recall_well_formed();
     let p = new_name(builder)?;
     let same_terms = Vec::from_slice(alloc, terms)?;
     add_row(builder, literal(p), same_terms, k)?;
     let negative_terms = negative(alloc, terms)?;
-    add_row(builder, negated(p), negative_terms, 1 - k)?;
+    add_row(builder, negated(p), negative_terms, denied_number(k))?;
     Ok(positive(p))
 }
 
@@ -144,6 +146,13 @@ fn next_number(k: i64) -> i64
     ensures { result ≡ k +ℤ pos 1 }
 {
     k + 1
+}
+
+fn denied_number(k: i64) -> i64
+    requires { unsigned_abs k ≤ max_least }
+    ensures { result ≡ pos 1 -ℤ k }
+{
+    1 - k
 }
 
 /// A new variable of 0 or 1.
@@ -206,8 +215,7 @@ fn add_one_of(
     add_clause(alloc, builder, atoms.as_slice())
 }
 
-/// Adds a row with a guard. Where the row's measure passes its limit, which can't be for comparisons
-/// that were measured before, the answer is as for want of memory.
+/// Adds a row with a guard.
 fn add_row(
     builder: &mut ProblemBuilder,
     guard: Atom,
@@ -216,6 +224,7 @@ fn add_row(
 ) -> Result<(), OutOfMemory>
     requires guard { guard.var.0 < var_count builder.old }
     requires terms { AreTermsOf (var_count builder.old) terms.items }
+    requires size { IsRowSize builder.old.bounds (row_where guard terms.items least) }
     requires room { length builder.old.rows < 2 ^ 32 - 1 }
     ensures { OnOk result (builder.new ≡ with_row builder.old (row_where guard terms.items least)) }
 {
@@ -226,6 +235,9 @@ fn add_row(
     };
     match builder.row(row) {
         Ok(_) => Ok(()),
-        Err(_) => Err(OutOfMemory),
+        Err(BuildStop::Memory) => Err(OutOfMemory),
+        // The row's measure and its least value are within their limits.
+        Err(BuildStop::Row) => unreachable!(),
+        Err(BuildStop::Bound) => unreachable!(),
     }
 }

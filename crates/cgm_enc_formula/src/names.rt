@@ -28,7 +28,7 @@ pub(crate) fn name_formula(
     builder: &mut ProblemBuilder,
     formula: &Formula,
 ) -> Result<Literal, OutOfMemory>
-    requires formula { IsEncodableFormula (lists_of model.now) formula.now }
+    requires formula { IsEncodableFormula (lists_of model.now) builder.old.bounds formula.now }
     requires variables { model_variables (lists_of model.now) ≤ var_count builder.old }
     requires room { HasRoomFor builder.old (definitions_part (var_count builder.old)
         (naming (lists_of model.now) formula.now (var_count builder.old)).definitions) }
@@ -38,6 +38,7 @@ pub(crate) fn name_formula(
         (definitions_part (var_count builder.old) (naming (lists_of model.now) formula.now
         (var_count builder.old)).definitions)) }
 {
+    builder.recall_well_formed();
     match formula {
         Formula::Name(name) => Ok(positive(truth_variable(model, *name))),
         Formula::Not(part) => {
@@ -76,7 +77,7 @@ fn name_each(
     builder: &mut ProblemBuilder,
     parts: &[Formula],
 ) -> Result<Vec<Literal>, OutOfMemory>
-    requires formulas { All (IsEncodableFormula (lists_of model.now)) parts.now }
+    requires formulas { All (IsEncodableFormula (lists_of model.now) builder.old.bounds) parts.now }
     requires variables { model_variables (lists_of model.now) ≤ var_count builder.old }
     requires room { HasRoomFor builder.old (definitions_part (var_count builder.old)
         (naming_each (lists_of model.now) parts.now (var_count builder.old)).definitions) }
@@ -88,6 +89,7 @@ fn name_each(
 {
     let mut literals = Vec::new(alloc);
     for part in parts {
+        builder.recall_well_formed();
         literals.push(name_formula(alloc, model, builder, part)?)?;
     }
     Ok(literals)
@@ -101,7 +103,7 @@ fn name_at_most(
     linear: &Linear,
     k: i64,
 ) -> Result<Literal, OutOfMemory>
-    requires comparison { AreRowTerms (lists_of model.now) (linear.now, k) }
+    requires comparison { AreRowTerms (lists_of model.now) builder.old.bounds (linear.now, k) }
     requires variables { model_variables (lists_of model.now) ≤ var_count builder.old }
     requires room { HasRoomFor builder.old (definition_part (var_count builder.old)
         (at_most (row_terms_of (lists_of model.now) linear.now) k)) }
@@ -122,7 +124,7 @@ fn name_at_least(
     linear: &Linear,
     k: i64,
 ) -> Result<Literal, OutOfMemory>
-    requires comparison { AreRowTerms (lists_of model.now) (linear.now, k) }
+    requires comparison { AreRowTerms (lists_of model.now) builder.old.bounds (linear.now, k) }
     requires variables { model_variables (lists_of model.now) ≤ var_count builder.old }
     requires room { HasRoomFor builder.old (definition_part (var_count builder.old)
         (at_least (row_terms_of (lists_of model.now) linear.now) k)) }
@@ -143,7 +145,7 @@ fn name_equal(
     linear: &Linear,
     k: i64,
 ) -> Result<Literal, OutOfMemory>
-    requires comparison { AreRowTerms (lists_of model.now) (linear.now, k) }
+    requires comparison { AreRowTerms (lists_of model.now) builder.old.bounds (linear.now, k) }
     requires variables { model_variables (lists_of model.now) ≤ var_count builder.old }
     requires room { HasRoomFor builder.old (definitions_part (var_count builder.old)
         (equal_definitions (lists_of model.now) linear.now k (var_count builder.old))) }
@@ -152,6 +154,7 @@ fn name_equal(
         (definitions_part (var_count builder.old) (equal_definitions (lists_of model.now) linear.now
         k (var_count builder.old)))) }
 {
+    builder.recall_well_formed();
     let most = name_at_most(alloc, model, builder, linear, k)?;
     let least = name_at_least(alloc, model, builder, linear, k)?;
     define_all(alloc, builder, &[most, least])

@@ -68,7 +68,7 @@ fn add_each(
     builder: &mut ProblemBuilder,
     rules: &[Rule],
 ) -> Result<(), OutOfMemory>
-    requires encodable { All (IsEncodableRule (lists_of model.now)) rules.now }
+    requires encodable { All (IsEncodableRule (lists_of model.now) builder.old.bounds) rules.now }
     requires variables { model_variables (lists_of model.now) ≤ var_count builder.old }
     requires room { HasRoomFor builder.old (rules_part (lists_of model.now) (var_count builder.old)
         rules.now) }
@@ -76,6 +76,7 @@ fn add_each(
         (rules_part (lists_of model.now) (var_count builder.old) rules.now)) }
 {
     for rule in rules {
+        builder.recall_well_formed();
         add_rule(alloc, model, builder, rule)?;
     }
     Ok(())
@@ -87,7 +88,7 @@ fn add_rule(
     builder: &mut ProblemBuilder,
     rule: &Rule,
 ) -> Result<(), OutOfMemory>
-    requires encodable { IsEncodableRule (lists_of model.now) rule.now }
+    requires encodable { IsEncodableRule (lists_of model.now) builder.old.bounds rule.now }
     requires variables { model_variables (lists_of model.now) ≤ var_count builder.old }
     requires room { HasRoomFor builder.old (rule_part (lists_of model.now) (var_count builder.old)
         rule.now) }

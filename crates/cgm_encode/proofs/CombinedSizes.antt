@@ -1,5 +1,5 @@
 -- How large the measure of a total's terms can be, and with it the range of the total.
-use Rattle.std.proofs.Common.{◌≡◌, ℕ, zero, suc, ◌+◌, ◌*◌, ◌<◌, ◌≤◌, ◌==◌, Bool, true, false, cond, not, List, [], ◌∷◌, length, map, refl, sym, ap, ◌∙◌, arith}
+use Rattle.std.proofs.Common.{◌≡◌, ℕ, zero, suc, ◌+◌, ◌*◌, ◌<◌, ◌≤◌, ◌==◌, Bool, true, false, cond, List, [], ◌∷◌, length, map, refl, sym, ap, ◌∙◌, arith}
 use Rattle.std.proofs.Math.Nat.{mul-le-mul_right}
 use Rattle.std.specs.Prelude.{ℤ, pos, neg_ℤ, ◌+ℤ◌, ◌*ℤ◌, int_lt, unsigned_abs, sum_by}
 use Rattle.std.specs.List.{All, range_with_len}
@@ -11,36 +11,13 @@ use Rattle.cgm_atom.specs.Bounds.{Bounds, lower_of, upper_of}
 use Rattle.cgm_atom.specs.Limits.{greatest_size, measure}
 use Rattle.cgm_atom.specs.Narrowing.{greatest_activity, greatest_term}
 use Rattle.cgm_atom.proofs.RowSums.{high_product_size, low_product_size}
-use Rattle.cgm_enc_formula.specs.Definitions.{negative}
-use Rattle.cgm_enc_formula.specs.Terms.{is_zero, nonzero}
+use Rattle.cgm_enc_formula.proofs.TermMeasures.{nonzero-measure, opposite_size, size_sum}
 use Rattle.cgm_encode.specs.Totals.{Share, Total, combined, combined_terms, least_activity, least_term, opposite_total, total_range}
-
-pub size_sum : (x y : ℤ) → unsigned_abs (x +ℤ y) ≤ unsigned_abs x + unsigned_abs y
-size_sum x y = grind (arith, ints)
-
-pub opposite_size : (k : ℤ) → unsigned_abs (neg_ℤ k) ≡ unsigned_abs k
-opposite_size k = omega (arith, ints)
 
 module _ (b : Bounds) where
   -- number size times greatest bound size
   abbrev pub share_size : Share → ℕ
   share_size s = unsigned_abs s.0 * greatest_size b s.1
-
-  -- ---- terms
-
-  nonzero_by : (t : ℤ × Var) (terms rest : List (ℤ × Var)) (zero : Bool) → measure b rest ≤ measure b terms → measure b (cond (not zero) (t ∷ rest) rest) ≤ unsigned_abs t.0 * greatest_size b t.1.0 + measure b terms
-  nonzero_by t terms rest true h = omega arith
-  nonzero_by t terms rest false h = omega arith
-
-  nonzero-measure : (terms : List (ℤ × Var)) → measure b (nonzero terms) ≤ measure b terms
-  nonzero-measure [] = omega arith
-  nonzero-measure (t ∷ terms) = nonzero_by t terms (nonzero terms) (is_zero t) (nonzero-measure terms)
-
-  pub negative-measure : (terms : List (ℤ × Var)) → measure b (negative terms) ≡ measure b terms
-  negative-measure [] = refl
-  negative-measure (t ∷ terms) =
-      ap (λ n. n * greatest_size b t.1.0 + measure b (negative terms)) (opposite_size t.0)
-      ∙ ap (λ n. unsigned_abs t.0 * greatest_size b t.1.0 + n) (negative-measure terms)
 
   -- ---- a coefficient for each of the variables from a on
 
@@ -101,7 +78,7 @@ module _ (b : Bounds) where
   pub terms-measure : (n : ℕ) (shares : List Share) → measure b (combined_terms n shares) ≤ sum_by share_size shares
   terms-measure n shares =
       let all = spread_shares n shares in
-      let kept = nonzero-measure (map (λ x. (combined shares x, record { 0 = x })) (range_with_len 0 n)) in
+      let kept = nonzero-measure b (map (λ x. (combined shares x, record { 0 = x })) (range_with_len 0 n)) in
       omega arith
 
   pub shares-few : (most : ℕ) (shares : List Share) → All (λ s. share_size s ≤ most) shares → sum_by share_size shares ≤ length shares * most

@@ -13,11 +13,12 @@ use Rattle.cgm_atom.proofs.Growing.{measure-longer}
 use Rattle.cgm_model.specs.declared.lists.Lists.{Lists}
 use Rattle.cgm_model.specs.WellFormed.{IsWellFormedModel}
 use Rattle.cgm_enc_formula.specs.Definitions.{negative}
+use Rattle.cgm_enc_formula.proofs.TermMeasures.{negative-measure, opposite_size, size_sum}
 use Rattle.cgm_encode.specs.declared.expressions.Expression.{Expression}
 use Rattle.cgm_encode.specs.Building.{AreBounds, HasBoundSize, IsMeasured, expression_range, with_ranges}
 use Rattle.cgm_encode.specs.Problem.{own_range}
 use Rattle.cgm_encode.specs.Totals.{Range, least_activity, row_of}
-use Rattle.cgm_encode.proofs.CombinedSizes.{greatest_activity_size, least_size, negative-measure, opposite_size, size_sum}
+use Rattle.cgm_encode.proofs.CombinedSizes.{greatest_activity_size, least_size}
 use Rattle.cgm_encode.proofs.KnownSizes.{known_sizes}
 
 -- ---- ranges

@@ -18,12 +18,13 @@ use Rattle.cgm_model.specs.WellFormed.{IsWellFormedModel}
 use Rattle.cgm_evolve.specs.Pairs.{Pair}
 use Rattle.cgm_enc_formula.specs.Definitions.{negative}
 use Rattle.cgm_enc_formula.specs.Terms.{number_variable}
+use Rattle.cgm_enc_formula.proofs.TermMeasures.{negative-measure}
 use Rattle.cgm_encode.specs.Problem.{all_ranges, box_of_problem, number_ranges, objective_rows, preference_clauses, preferences_written, problem_of, sum_rows}
 use Rattle.cgm_encode.specs.Quantities.{objective_total, sum_total}
 use Rattle.cgm_encode.specs.Totals.{Range, Total, combined_terms, row_of, total_rows}
 use Rattle.cgm_encode.specs.Variables.{first_objective, first_preference}
 use Rattle.cgm_encode.proofs.Activities.{combined_are_terms, terms_fresh}
-use Rattle.cgm_encode.proofs.CombinedSizes.{IsModest, negative-measure, terms-measure}
+use Rattle.cgm_encode.proofs.CombinedSizes.{IsModest, terms-measure}
 use Rattle.cgm_encode.proofs.GroupPlaces.{all_numbered, all_of_flat, all_ranged_zero, each_of}
 use Rattle.cgm_encode.proofs.KnownParts.{known_parts}
 use Rattle.cgm_encode.proofs.KnownSizes.{known_sizes}

@@ -6,6 +6,7 @@ use Rattle.cgm_atom.specs.Instance.{Instance, var_count}
 use Rattle.cgm_atom.specs.Literals.{literal, negated}
 use Rattle.cgm_enc_formula.specs.Definitions.{negative, row_where}
 use Rattle.cgm_enc_formula.proofs.Defining.{guard_known, named-count, negative_known, row_is, rows_added, rows_after, terms_after}
+use Rattle.cgm_enc_formula.proofs.TermMeasures.{negative_within, next_within, opposite_within, row_size, terms_within}
 use Rattle.cgm_enc_formula.proofs.definitions.define_at_most.Goals as goal
 
 pub add_row-requires-clause-guard : goal.add_row-requires-clause-guard
@@ -61,3 +62,27 @@ returns-clause-added c =
     c.in_ok-p.ensures.added c.in_ok-add_row.ensures c.in_ok-add_row-2.ensures
     (row_is c.literal.result (literal n) c.in_ok-negative_terms.negative_terms.items (negative terms) _ (neg_ℤ k) (c.literal.ensures ∙ ap literal p) c.in_ok-negative_terms.ensures first)
     (row_is c.negated.result (negated n) c.in_ok-same_terms.same_terms.items terms _ (k +ℤ pos 1) (c.negated.ensures ∙ ap negated p) c.in_ok-same_terms.ensures.items second)
+
+pub add_row-requires-clause-size : goal.add_row-requires-clause-size
+add_row-requires-clause-size c =
+    let b = c.args.builder.now in
+    let terms = c.args.terms.now in
+    let k = c.args.k in
+    let bounds = ap (λ (x : Instance). x.bounds) c.in_ok-p.ensures.added in
+    let same : to_z w64 (of_z w64 k) ≡ k = search rules in
+    let least = to_z-of_z w64 c.negated_number.result (search rules) ∙ c.negated_number.ensures ∙ ap (λ (z : ℤ). neg_ℤ z) same in
+    row_size b c.new_name.new.builder (negative terms) c.in_ok-negative_terms.negative_terms.items (to_z w64 (of_z w64 c.negated_number.result)) (neg_ℤ k)
+    bounds c.in_ok-negative_terms.ensures least c.recall_well_formed.ensures.proper.same_count
+    (negative_known (var_count b) terms c.requires.known) (negative_within b.bounds terms k c.requires.size) (opposite_within b.bounds terms k c.requires.size)
+
+pub add_row-requires-2-clause-size : goal.add_row-requires-2-clause-size
+add_row-requires-2-clause-size c =
+    let b = c.args.builder.now in
+    let terms = c.args.terms.now in
+    let k = c.args.k in
+    let bounds = ap (λ (x : Instance). x.bounds) c.in_ok-add_row.ensures ∙ ap (λ (x : Instance). x.bounds) c.in_ok-p.ensures.added in
+    let same : to_z w64 (of_z w64 k) ≡ k = search rules in
+    let least = to_z-of_z w64 c.next_number.result (search rules) ∙ c.next_number.ensures ∙ ap (λ (z : ℤ). z +ℤ pos 1) same in
+    row_size b c.add_row.new.builder terms c.in_ok-same_terms.same_terms.items (to_z w64 (of_z w64 c.next_number.result)) (k +ℤ pos 1)
+    bounds c.in_ok-same_terms.ensures.items least c.recall_well_formed.ensures.proper.same_count
+    c.requires.known (terms_within b.bounds terms k c.requires.size) (next_within b.bounds terms k c.requires.size)

@@ -15,7 +15,7 @@ use Rattle.cgm_enc_formula.specs.Definitions.{Definition, all_of, any_of, at_lea
 use Rattle.cgm_enc_formula.specs.Literals.{opposite, positive}
 use Rattle.cgm_enc_formula.specs.Naming.{Named, equal_definitions, naming}
 use Rattle.cgm_enc_formula.specs.Terms.{AreRowTerms, IsEncodableFormula, model_variables, row_terms}
-use Rattle.cgm_enc_formula.proofs.NamingSteps.{Adds, AreNamed, Fits, count_after, encodable_conjunction, encodable_disjunction, encodable_equivalence, encodable_implication, encodable_name, encodable_negation, first_of_two, front_fits, iff_definition, implies_definition, literal_within, literals_within, naming-And, naming-AtLeast, naming-AtMost, naming-Equal, naming-Iff, naming-Implies, naming-Name, naming-Not, naming-Or, named_more, next_fits, next_known, parts_at, second_at, second_naming, second_of_two, two_added, two_definitions, whole_added, whole_fits}
+use Rattle.cgm_enc_formula.proofs.NamingSteps.{Adds, AreNamed, Fits, count_after, encodable_after, encodable_conjunction, encodable_disjunction, encodable_equivalence, encodable_implication, encodable_name, encodable_negation, first_of_two, front_fits, iff_definition, implies_definition, literal_within, literals_within, naming-And, naming-AtLeast, naming-AtMost, naming-Equal, naming-Iff, naming-Implies, naming-Name, naming-Not, naming-Or, named_more, next_fits, next_known, parts_at, second_at, second_naming, second_of_two, two_added, two_definitions, whole_added, whole_fits}
 use Rattle.cgm_enc_formula.proofs.Steps.{one_definition, with_none}
 use Rattle.cgm_enc_formula.proofs.names.+naming.Goals as goal
 
@@ -26,7 +26,7 @@ name_formula-truth_variable-requires t c =
     let b = c.args.builder.now in
     let n = var_count b in
     let f = c.args.formula.now in
-    encodable_name m c.in-Name.name (subst (IsEncodableFormula m) c.in-Name.is c.requires.formula)
+    encodable_name m b.bounds c.in-Name.name (subst (IsEncodableFormula m b.bounds) c.in-Name.is c.requires.formula)
 
 pub name_formula-name_formula-requires :
     goal.name_formula-name_formula-requires
@@ -38,7 +38,7 @@ name_formula-name_formula-requires t c =
     let room = subst (λ (x : Named). Fits b x.definitions) (naming-Not m f c.in-Not.part n c.in-Not.is) c.requires.room in (
       search (rules, the_lemmas),
       (
-        subst (IsEncodableFormula m) (sym c.get.ensures) (encodable_negation m c.in-Not.part (subst (IsEncodableFormula m) c.in-Not.is c.requires.formula)),
+        subst (IsEncodableFormula m b.bounds) (sym c.get.ensures) (encodable_negation m b.bounds c.in-Not.part (subst (IsEncodableFormula m b.bounds) c.in-Not.is c.requires.formula)),
         (
           c.requires.variables,
           subst (λ (x : Formula). Fits b (naming m x n).definitions) (sym c.get.ensures) room,
@@ -57,7 +57,7 @@ name_formula-name_each-requires t c =
     let room = subst (λ (x : Named). Fits b x.definitions) (naming-And m f parts n c.in-And.is) c.requires.room in (
       search (rules, the_lemmas),
       (
-        subst (All (IsEncodableFormula m)) (sym c.as_slice.ensures) (encodable_conjunction m parts (subst (IsEncodableFormula m) c.in-And.is c.requires.formula)),
+        subst (All (IsEncodableFormula m b.bounds)) (sym c.as_slice.ensures) (encodable_conjunction m b.bounds parts (subst (IsEncodableFormula m b.bounds) c.in-And.is c.requires.formula)),
         (
           c.requires.variables,
           subst (λ (xs : List Formula). Fits b (parts_at m xs n).definitions) (sym c.as_slice.ensures)
@@ -77,7 +77,7 @@ name_formula-name_each-requires-in-Or t c =
     let room = subst (λ (x : Named). Fits b x.definitions) (naming-Or m f parts n c.in-Or.is) c.requires.room in (
       search (rules, the_lemmas),
       (
-        subst (All (IsEncodableFormula m)) (sym c.as_slice-in-Or.ensures) (encodable_disjunction m parts (subst (IsEncodableFormula m) c.in-Or.is c.requires.formula)),
+        subst (All (IsEncodableFormula m b.bounds)) (sym c.as_slice-in-Or.ensures) (encodable_disjunction m b.bounds parts (subst (IsEncodableFormula m b.bounds) c.in-Or.is c.requires.formula)),
         (
           c.requires.variables,
           subst (λ (xs : List Formula). Fits b (parts_at m xs n).definitions) (sym c.as_slice-in-Or.ensures)
@@ -98,7 +98,7 @@ name_formula-name_formula-requires-in-Implies t c =
     let room = subst (λ (x : Named). Fits b x.definitions) (naming-Implies m f first second n c.in-Implies.is) c.requires.room in (
       search (rules, the_lemmas),
       (
-        subst (IsEncodableFormula m) (sym c.get-in-Implies.ensures) (encodable_implication m first second (subst (IsEncodableFormula m) c.in-Implies.is c.requires.formula)).0,
+        subst (IsEncodableFormula m b.bounds) (sym c.get-in-Implies.ensures) (encodable_implication m b.bounds first second (subst (IsEncodableFormula m b.bounds) c.in-Implies.is c.requires.formula)).0,
         (
           c.requires.variables,
           subst (λ (x : Formula). Fits b (naming m x n).definitions) (sym c.get-in-Implies.ensures) (first_of_two m first second (implies_definition m first second n) b room),
@@ -118,7 +118,7 @@ name_formula-name_formula-requires-in-Iff t c =
     let room = subst (λ (x : Named). Fits b x.definitions) (naming-Iff m f first second n c.in-Iff.is) c.requires.room in (
       search (rules, the_lemmas),
       (
-        subst (IsEncodableFormula m) (sym c.get-in-Iff.ensures) (encodable_equivalence m first second (subst (IsEncodableFormula m) c.in-Iff.is c.requires.formula)).0,
+        subst (IsEncodableFormula m b.bounds) (sym c.get-in-Iff.ensures) (encodable_equivalence m b.bounds first second (subst (IsEncodableFormula m b.bounds) c.in-Iff.is c.requires.formula)).0,
         (
           c.requires.variables,
           subst (λ (x : Formula). Fits b (naming m x n).definitions) (sym c.get-in-Iff.ensures) (first_of_two m first second (iff_definition m first second n) b room),
@@ -134,8 +134,8 @@ name_formula-name_at_most-requires-clause-comparison t c =
     let n = var_count b in
     let f = c.args.formula.now in
     let k : to_z w64 (of_z w64 c.in-AtMost.k) ≡ c.in-AtMost.k = search rules in
-    subst (λ (z : ℤ). AreRowTerms m (c.in-AtMost.linear, z)) (sym k)
-    (of_at_most (AreRowTerms m) c.in-AtMost.linear c.in-AtMost.k (subst (IsEncodableFormula m) c.in-AtMost.is c.requires.formula).comparisons)
+    subst (λ (z : ℤ). AreRowTerms m b.bounds (c.in-AtMost.linear, z)) (sym k)
+    (of_at_most (AreRowTerms m b.bounds) c.in-AtMost.linear c.in-AtMost.k (subst (IsEncodableFormula m b.bounds) c.in-AtMost.is c.requires.formula).comparisons)
 
 pub name_formula-name_at_least-requires-clause-comparison :
     goal.name_formula-name_at_least-requires-clause-comparison
@@ -145,8 +145,8 @@ name_formula-name_at_least-requires-clause-comparison t c =
     let n = var_count b in
     let f = c.args.formula.now in
     let k : to_z w64 (of_z w64 c.in-AtLeast.k) ≡ c.in-AtLeast.k = search rules in
-    subst (λ (z : ℤ). AreRowTerms m (c.in-AtLeast.linear, z)) (sym k)
-    (of_at_least (AreRowTerms m) c.in-AtLeast.linear c.in-AtLeast.k (subst (IsEncodableFormula m) c.in-AtLeast.is c.requires.formula).comparisons)
+    subst (λ (z : ℤ). AreRowTerms m b.bounds (c.in-AtLeast.linear, z)) (sym k)
+    (of_at_least (AreRowTerms m b.bounds) c.in-AtLeast.linear c.in-AtLeast.k (subst (IsEncodableFormula m b.bounds) c.in-AtLeast.is c.requires.formula).comparisons)
 
 pub name_formula-name_equal-requires-clause-comparison :
     goal.name_formula-name_equal-requires-clause-comparison
@@ -156,8 +156,8 @@ name_formula-name_equal-requires-clause-comparison t c =
     let n = var_count b in
     let f = c.args.formula.now in
     let k : to_z w64 (of_z w64 c.in-Equal.k) ≡ c.in-Equal.k = search rules in
-    subst (λ (z : ℤ). AreRowTerms m (c.in-Equal.linear, z)) (sym k)
-    (of_equality (AreRowTerms m) c.in-Equal.linear c.in-Equal.k (subst (IsEncodableFormula m) c.in-Equal.is c.requires.formula).comparisons)
+    subst (λ (z : ℤ). AreRowTerms m b.bounds (c.in-Equal.linear, z)) (sym k)
+    (of_equality (AreRowTerms m b.bounds) c.in-Equal.linear c.in-Equal.k (subst (IsEncodableFormula m b.bounds) c.in-Equal.is c.requires.formula).comparisons)
 
 pub name_formula-define_all-requires-clause-known :
     goal.name_formula-define_all-requires-clause-known
@@ -173,7 +173,7 @@ name_formula-define_all-requires-clause-known t c =
     let added : Adds b ds p = subst (λ (xs : List Formula). Adds b (parts_at m xs n).definitions p) c.as_slice.ensures c.in_ok-literals-in-And.ensures.added in
     let same : c.as_slice-in-And.result.now ≡ ls = c.as_slice-in-And.ensures.value ∙ c.in_ok-literals-in-And.ensures.literals ∙ ap (λ (xs : List Formula). (parts_at m xs n).literals) c.as_slice.ensures in
     subst (λ (xs : List Literal). All (λ l. l.variable < var_count p) xs) (sym same)
-    (literals_within m parts b p (encodable_conjunction m parts (subst (IsEncodableFormula m) c.in-And.is c.requires.formula)) c.requires.variables added)
+    (literals_within m parts b p (encodable_conjunction m b.bounds parts (subst (IsEncodableFormula m b.bounds) c.in-And.is c.requires.formula)) c.requires.variables added)
 
 pub name_formula-define_all-requires-clause-room :
     goal.name_formula-define_all-requires-clause-room
@@ -241,7 +241,7 @@ name_formula-define_any-requires-clause-known t c =
     let added : Adds b ds p = subst (λ (xs : List Formula). Adds b (parts_at m xs n).definitions p) c.as_slice-in-Or.ensures c.in_ok-literals-in-Or.ensures.added in
     let same : c.as_slice-in-Or-2.result.now ≡ ls = c.as_slice-in-Or-2.ensures.value ∙ c.in_ok-literals-in-Or.ensures.literals ∙ ap (λ (xs : List Formula). (parts_at m xs n).literals) c.as_slice-in-Or.ensures in
     subst (λ (xs : List Literal). All (λ l. l.variable < var_count p) xs) (sym same)
-    (literals_within m parts b p (encodable_disjunction m parts (subst (IsEncodableFormula m) c.in-Or.is c.requires.formula)) c.requires.variables added)
+    (literals_within m parts b p (encodable_disjunction m b.bounds parts (subst (IsEncodableFormula m b.bounds) c.in-Or.is c.requires.formula)) c.requires.variables added)
 
 pub name_formula-define_any-requires-clause-room :
     goal.name_formula-define_any-requires-clause-room
@@ -307,14 +307,14 @@ name_formula-name_formula-requires-in-Implies-2 t c =
     let p = c.name_formula-in-Implies.new.builder in
     let d = implies_definition m one other n in
     let room = subst (λ (x : Named). Fits b x.definitions) (naming-Implies m f one other n c.in-Implies.is) c.requires.room in
-    let known = encodable_implication m one other (subst (IsEncodableFormula m) c.in-Implies.is c.requires.formula) in
+    let known = encodable_implication m b.bounds one other (subst (IsEncodableFormula m b.bounds) c.in-Implies.is c.requires.formula) in
     let added : Adds b (naming m one n).definitions p = subst (λ (x : Formula). Adds b (naming m x n).definitions p) c.get-in-Implies.ensures c.in_ok-premise-in-Implies.ensures.added in
     let count = count_after b p (naming m one n).definitions added in
     let few = c.requires.variables in
     let more : model_variables m ≤ var_count p = omega arith in (
       search (rules, the_lemmas),
       (
-        subst (IsEncodableFormula m) (sym c.get-in-Implies-2.ensures) known.1,
+        subst (IsEncodableFormula m p.bounds) (sym c.get-in-Implies-2.ensures) (encodable_after m other b p (definitions_part n (naming m one n).definitions) added c.recall_well_formed.ensures.proper.same_count few known.1),
         (more, subst (λ (x : Formula). Fits p (naming m x (var_count p)).definitions) (sym c.get-in-Implies-2.ensures) (second_of_two m one other d b p added room)),
       ),
     )
@@ -331,7 +331,7 @@ name_formula-define_any-requires-in-Implies-clause-known t c =
     let p = c.name_formula-in-Implies.new.builder in
     let d = implies_definition m one other n in
     let room = subst (λ (x : Named). Fits b x.definitions) (naming-Implies m f one other n c.in-Implies.is) c.requires.room in
-    let known = encodable_implication m one other (subst (IsEncodableFormula m) c.in-Implies.is c.requires.formula) in
+    let known = encodable_implication m b.bounds one other (subst (IsEncodableFormula m b.bounds) c.in-Implies.is c.requires.formula) in
     let added : Adds b (naming m one n).definitions p = subst (λ (x : Formula). Adds b (naming m x n).definitions p) c.get-in-Implies.ensures c.in_ok-premise-in-Implies.ensures.added in
     let count = count_after b p (naming m one n).definitions added in
     let few = c.requires.variables in
@@ -365,7 +365,7 @@ name_formula-define_any-requires-in-Implies-clause-room t c =
     let p = c.name_formula-in-Implies.new.builder in
     let d = implies_definition m one other n in
     let room = subst (λ (x : Named). Fits b x.definitions) (naming-Implies m f one other n c.in-Implies.is) c.requires.room in
-    let known = encodable_implication m one other (subst (IsEncodableFormula m) c.in-Implies.is c.requires.formula) in
+    let known = encodable_implication m b.bounds one other (subst (IsEncodableFormula m b.bounds) c.in-Implies.is c.requires.formula) in
     let added : Adds b (naming m one n).definitions p = subst (λ (x : Formula). Adds b (naming m x n).definitions p) c.get-in-Implies.ensures c.in_ok-premise-in-Implies.ensures.added in
     let count = count_after b p (naming m one n).definitions added in
     let few = c.requires.variables in
@@ -398,7 +398,7 @@ name_formula-returns-in_ok-conclusion-in-Implies-clause-literal t c =
     let p = c.name_formula-in-Implies.new.builder in
     let d = implies_definition m one other n in
     let room = subst (λ (x : Named). Fits b x.definitions) (naming-Implies m f one other n c.in-Implies.is) c.requires.room in
-    let known = encodable_implication m one other (subst (IsEncodableFormula m) c.in-Implies.is c.requires.formula) in
+    let known = encodable_implication m b.bounds one other (subst (IsEncodableFormula m b.bounds) c.in-Implies.is c.requires.formula) in
     let added : Adds b (naming m one n).definitions p = subst (λ (x : Formula). Adds b (naming m x n).definitions p) c.get-in-Implies.ensures c.in_ok-premise-in-Implies.ensures.added in
     let count = count_after b p (naming m one n).definitions added in
     let few = c.requires.variables in
@@ -430,7 +430,7 @@ name_formula-returns-in_ok-conclusion-in-Implies-clause-added t c =
     let p = c.name_formula-in-Implies.new.builder in
     let d = implies_definition m one other n in
     let room = subst (λ (x : Named). Fits b x.definitions) (naming-Implies m f one other n c.in-Implies.is) c.requires.room in
-    let known = encodable_implication m one other (subst (IsEncodableFormula m) c.in-Implies.is c.requires.formula) in
+    let known = encodable_implication m b.bounds one other (subst (IsEncodableFormula m b.bounds) c.in-Implies.is c.requires.formula) in
     let added : Adds b (naming m one n).definitions p = subst (λ (x : Formula). Adds b (naming m x n).definitions p) c.get-in-Implies.ensures c.in_ok-premise-in-Implies.ensures.added in
     let count = count_after b p (naming m one n).definitions added in
     let few = c.requires.variables in
@@ -467,14 +467,14 @@ name_formula-name_formula-requires-in-Iff-2 t c =
     let p = c.name_formula-in-Iff.new.builder in
     let d = iff_definition m one other n in
     let room = subst (λ (x : Named). Fits b x.definitions) (naming-Iff m f one other n c.in-Iff.is) c.requires.room in
-    let known = encodable_equivalence m one other (subst (IsEncodableFormula m) c.in-Iff.is c.requires.formula) in
+    let known = encodable_equivalence m b.bounds one other (subst (IsEncodableFormula m b.bounds) c.in-Iff.is c.requires.formula) in
     let added : Adds b (naming m one n).definitions p = subst (λ (x : Formula). Adds b (naming m x n).definitions p) c.get-in-Iff.ensures c.in_ok-one-in-Iff.ensures.added in
     let count = count_after b p (naming m one n).definitions added in
     let few = c.requires.variables in
     let more : model_variables m ≤ var_count p = omega arith in (
       search (rules, the_lemmas),
       (
-        subst (IsEncodableFormula m) (sym c.get-in-Iff-2.ensures) known.1,
+        subst (IsEncodableFormula m p.bounds) (sym c.get-in-Iff-2.ensures) (encodable_after m other b p (definitions_part n (naming m one n).definitions) added c.recall_well_formed.ensures.proper.same_count few known.1),
         (more, subst (λ (x : Formula). Fits p (naming m x (var_count p)).definitions) (sym c.get-in-Iff-2.ensures) (second_of_two m one other d b p added room)),
       ),
     )
@@ -491,7 +491,7 @@ name_formula-define_same-requires-clause-one t c =
     let p = c.name_formula-in-Iff.new.builder in
     let d = iff_definition m one other n in
     let room = subst (λ (x : Named). Fits b x.definitions) (naming-Iff m f one other n c.in-Iff.is) c.requires.room in
-    let known = encodable_equivalence m one other (subst (IsEncodableFormula m) c.in-Iff.is c.requires.formula) in
+    let known = encodable_equivalence m b.bounds one other (subst (IsEncodableFormula m b.bounds) c.in-Iff.is c.requires.formula) in
     let added : Adds b (naming m one n).definitions p = subst (λ (x : Formula). Adds b (naming m x n).definitions p) c.get-in-Iff.ensures c.in_ok-one-in-Iff.ensures.added in
     let count = count_after b p (naming m one n).definitions added in
     let few = c.requires.variables in
@@ -521,7 +521,7 @@ name_formula-define_same-requires-clause-other t c =
     let p = c.name_formula-in-Iff.new.builder in
     let d = iff_definition m one other n in
     let room = subst (λ (x : Named). Fits b x.definitions) (naming-Iff m f one other n c.in-Iff.is) c.requires.room in
-    let known = encodable_equivalence m one other (subst (IsEncodableFormula m) c.in-Iff.is c.requires.formula) in
+    let known = encodable_equivalence m b.bounds one other (subst (IsEncodableFormula m b.bounds) c.in-Iff.is c.requires.formula) in
     let added : Adds b (naming m one n).definitions p = subst (λ (x : Formula). Adds b (naming m x n).definitions p) c.get-in-Iff.ensures c.in_ok-one-in-Iff.ensures.added in
     let count = count_after b p (naming m one n).definitions added in
     let few = c.requires.variables in
@@ -551,7 +551,7 @@ name_formula-define_same-requires-clause-room t c =
     let p = c.name_formula-in-Iff.new.builder in
     let d = iff_definition m one other n in
     let room = subst (λ (x : Named). Fits b x.definitions) (naming-Iff m f one other n c.in-Iff.is) c.requires.room in
-    let known = encodable_equivalence m one other (subst (IsEncodableFormula m) c.in-Iff.is c.requires.formula) in
+    let known = encodable_equivalence m b.bounds one other (subst (IsEncodableFormula m b.bounds) c.in-Iff.is c.requires.formula) in
     let added : Adds b (naming m one n).definitions p = subst (λ (x : Formula). Adds b (naming m x n).definitions p) c.get-in-Iff.ensures c.in_ok-one-in-Iff.ensures.added in
     let count = count_after b p (naming m one n).definitions added in
     let few = c.requires.variables in
@@ -582,7 +582,7 @@ name_formula-returns-in_ok-other-in-Iff-clause-literal t c =
     let p = c.name_formula-in-Iff.new.builder in
     let d = iff_definition m one other n in
     let room = subst (λ (x : Named). Fits b x.definitions) (naming-Iff m f one other n c.in-Iff.is) c.requires.room in
-    let known = encodable_equivalence m one other (subst (IsEncodableFormula m) c.in-Iff.is c.requires.formula) in
+    let known = encodable_equivalence m b.bounds one other (subst (IsEncodableFormula m b.bounds) c.in-Iff.is c.requires.formula) in
     let added : Adds b (naming m one n).definitions p = subst (λ (x : Formula). Adds b (naming m x n).definitions p) c.get-in-Iff.ensures c.in_ok-one-in-Iff.ensures.added in
     let count = count_after b p (naming m one n).definitions added in
     let few = c.requires.variables in
@@ -614,7 +614,7 @@ name_formula-returns-in_ok-other-in-Iff-clause-added t c =
     let p = c.name_formula-in-Iff.new.builder in
     let d = iff_definition m one other n in
     let room = subst (λ (x : Named). Fits b x.definitions) (naming-Iff m f one other n c.in-Iff.is) c.requires.room in
-    let known = encodable_equivalence m one other (subst (IsEncodableFormula m) c.in-Iff.is c.requires.formula) in
+    let known = encodable_equivalence m b.bounds one other (subst (IsEncodableFormula m b.bounds) c.in-Iff.is c.requires.formula) in
     let added : Adds b (naming m one n).definitions p = subst (λ (x : Formula). Adds b (naming m x n).definitions p) c.get-in-Iff.ensures c.in_ok-one-in-Iff.ensures.added in
     let count = count_after b p (naming m one n).definitions added in
     let few = c.requires.variables in
@@ -668,7 +668,7 @@ name_each-loop-part-preserved t c =
     let here = drop-read parts parts i part refl c.loop-part-test.true c.part-item.is in
     let far = subst (λ (others : List Formula). AreNamed m b parts p ls others) here c.loop-part.invariant in
     subst (λ (items : List Literal). AreNamed m b parts q items rest) (sym {A = List Literal} c.in_ok-push.ensures.items)
-    (named_more m b p q parts ls l part rest far c.in_ok-name_formula.ensures.added c.in_ok-name_formula.ensures.literal)
+    (named_more m b p q parts ls l part rest far c.recall_well_formed.ensures.proper.same_count c.in_ok-name_formula.ensures.added c.in_ok-name_formula.ensures.literal)
 
 pub name_formula-returns-in-Name-clause-literal : goal.name_formula-returns-in-Name-clause-literal
 name_formula-returns-in-Name-clause-literal t c =

@@ -12,8 +12,8 @@ use Rattle.cgm_enc_formula.specs.Building.{HasRoomFor, Part, definition_part, de
 use Rattle.cgm_enc_formula.specs.Definitions.{Definition, all_of, at_least, at_most}
 use Rattle.cgm_enc_formula.specs.Literals.{positive}
 use Rattle.cgm_enc_formula.specs.Naming.{equal_definitions}
-use Rattle.cgm_enc_formula.specs.Terms.{row_terms}
-use Rattle.cgm_enc_formula.proofs.NamingSteps.{Adds, Fits, back_fits, count_after, front_fits, whole_added, whole_fits}
+use Rattle.cgm_enc_formula.specs.Terms.{AreRowTerms, row_terms}
+use Rattle.cgm_enc_formula.proofs.NamingSteps.{Adds, Fits, back_fits, comparison_after, count_after, front_fits, whole_added, whole_fits}
 use Rattle.cgm_enc_formula.proofs.Steps.{one_definition}
 use Rattle.cgm_enc_formula.proofs.names.name_equal.Goals as goal
 
@@ -49,6 +49,16 @@ name_at_least-requires-clause-variables c =
     let count = count_after b p (d ∷ []) (alone b p d c.in_ok-most.ensures.added) in
     let few = c.requires.variables in
     omega arith
+
+pub name_at_least-requires-clause-comparison : goal.name_at_least-requires-clause-comparison
+name_at_least-requires-clause-comparison c =
+    let m = lists_of c.args.model.now in
+    let l = c.args.linear.now in
+    let b = c.args.builder.now in
+    let p = c.name_at_most.new.builder in
+    let is : to_z w64 (of_z w64 c.args.k) ≡ c.args.k = search rules in
+    subst (λ (z : ℤ). AreRowTerms m p.bounds (l, z)) (sym is)
+    (comparison_after m b p (definition_part (var_count b) (at_most (row_terms m l) (to_z w64 (of_z w64 c.args.k)))) (l, c.args.k) c.in_ok-most.ensures.added c.recall_well_formed.ensures.proper.same_count c.requires.variables c.requires.comparison)
 
 pub name_at_least-requires-clause-room : goal.name_at_least-requires-clause-room
 name_at_least-requires-clause-room c =

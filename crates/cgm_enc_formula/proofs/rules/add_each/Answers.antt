@@ -34,7 +34,7 @@ loop-rule-preserved c =
     let r = c.rule-item.result in
     let here = drop-read all all i r refl c.loop-rule-test.true c.rule-item.is in
     added_more m c.args.builder.now c.loop-rule.builder c.add_rule.new.builder all r (drop (i + 1) all)
-    (subst (λ (rest : List Rule). AreAdded m c.args.builder.now all c.loop-rule.builder rest) here c.loop-rule.invariant) c.in_ok-add_rule.ensures
+    (subst (λ (rest : List Rule). AreAdded m c.args.builder.now all c.loop-rule.builder rest) here c.loop-rule.invariant) c.recall_well_formed.ensures.proper.same_count c.in_ok-add_rule.ensures
 
 pub returns : goal.returns
 returns c =

@@ -38,7 +38,7 @@ condition_known m count (rules.Require f) l known few h = of_one count (atom_of 
 
 pub name_formula-requires-clause-formula : goal.name_formula-requires-clause-formula
 name_formula-requires-clause-formula c =
-    subst (λ (f : Formula). IsEncodableFormula (lists_of c.args.model.now) f) (sym c.formula_of.ensures) c.requires.encodable.formula
+    subst (λ (f : Formula). IsEncodableFormula (lists_of c.args.model.now) c.args.builder.now.bounds f) (sym c.formula_of.ensures) c.requires.encodable.formula
 
 pub name_formula-requires-clause-room : goal.name_formula-requires-clause-room
 name_formula-requires-clause-room c =

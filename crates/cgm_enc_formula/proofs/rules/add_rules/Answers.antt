@@ -21,7 +21,7 @@ add_each-requires-clause-encodable c =
     let m = lists_of c.args.model.now in
     let bounds = c.args.builder.now.bounds in
     let within = subst (λ (rs : List Rule). Each (IsWithinMeasure m bounds) rs) c.as_slice-rules.ensures c.in-None.ensures in
-    subst (λ (rs : List Rule). All (IsEncodableRule m) rs) (sym c.as_slice-rules.ensures) (rules_encodable m bounds c.args.model.now.well_formed within)
+    subst (λ (rs : List Rule). All (IsEncodableRule m bounds) rs) (sym c.as_slice-rules.ensures) (rules_encodable m bounds c.args.model.now.well_formed within)
 
 pub add_each-requires-clause-room : goal.add_each-requires-clause-room
 add_each-requires-clause-room c =

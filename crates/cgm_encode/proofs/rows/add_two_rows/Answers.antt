@@ -9,9 +9,9 @@ use Rattle.cgm_atom.specs.Building.{IsRowSize, with_row}
 use Rattle.cgm_atom.specs.Instance.{Instance, var_count}
 use Rattle.cgm_atom.specs.Limits.{AreTermsOf}
 use Rattle.cgm_enc_formula.specs.Definitions.{negative}
+use Rattle.cgm_enc_formula.proofs.TermMeasures.{opposite_size}
 use Rattle.cgm_encode.specs.Building.{with_rows}
 use Rattle.cgm_encode.specs.Totals.{row_of}
-use Rattle.cgm_encode.proofs.CombinedSizes.{opposite_size}
 use Rattle.cgm_encode.proofs.DefiningSizes.{first_row_size, passed, passed_opposite, second_row_size}
 use Rattle.cgm_encode.proofs.DefiningTerms.{first_terms, minus_one_nonzero, negative_terms, one_nonzero}
 use Rattle.cgm_encode.proofs.rows.add_two_rows.Goals as goal

@@ -3,6 +3,7 @@ pub mod Line
 pub mod Meaning
 pub mod Parsed
 pub mod Progress
+pub mod Taken
 pub mod Text
 pub mod Trees
 pub mod Uses

@@ -9,7 +9,7 @@ use crate::shape::{
     all_words, direction_and_word, is_end, one_word, two_words, two_words_and_number,
     word_and_must, word_and_number, word_and_truth, word_and_two_numbers,
 };
-use crate::take::{take_colon, take_word};
+use crate::take::{Mark, take, take_word};
 use crate::written::{FormStop, Tree, Written};
 use cgm_lex::Token;
 use cgm_print::words::{ConditionWord, NameWord, PairWord, Sort, WeightWord};
@@ -43,7 +43,7 @@ fn refinement(alloc: Global, line: &[u8], tokens: &[Token]) -> Result<Written, F
         None => Err(FormStop::Form),
         Some((name, rest)) => match take_word(rest) {
             None => Err(FormStop::Form),
-            Some((target, rest)) => match take_colon(rest) {
+            Some((target, rest)) => match take(rest, Mark::Colon) {
                 None => Err(FormStop::Form),
                 Some(rest) => match take_word(rest) {
                     None => Err(FormStop::Form),

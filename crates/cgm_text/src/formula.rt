@@ -1,14 +1,15 @@
 //! The form of a formula.
-ghost use Rattle.std.specs.Prelude.{◌≡◌, ◌≢◌, ◌<◌, ℕ, ℤ, List, [], ◌∷◌, ◌++◌, codes, length, map, IfSome, IfNone, IfOk, IfErr, OnOk};
+ghost use Rattle.std.specs.Prelude.{◌≡◌, ◌≢◌, ◌<◌, ℕ, ℤ, List, [], ◌∷◌, ◌++◌, codes, length, map, IfSome, IfNone, IfOk, IfErr, MatchOption, OnOk};
 ghost use Rattle.cgm_lex.specs.Lexemes.{Lexeme, closing, number, opening, word};
 ghost use Rattle.cgm_text.specs.declared.written.Connective.{Connective};
+ghost use Rattle.cgm_text.specs.Taken.{IsBehind, IsNotFirst};
 ghost use Rattle.cgm_text.specs.Trees.{IsFor, formula_in, seen_all};
 ghost use Rattle.cgm_text.specs.Parsed.{BeginsNoFormula, BeginsNoParts, connective_word};
 ghost use Rattle.cgm_print.specs.Written.{comparison_word, joined, joint_word, negation, paired, pairing_word, spelled, spelled_each, formulas_of};
 
 use crate::keyword::connective_of;
 use crate::linear::linear;
-use crate::take::{bytes_in, take_close, take_number, take_open, take_word};
+use crate::take::{Mark, bytes_in, take, take_number, take_word};
 use crate::written::{Connective, FormStop, Linear, Tree};
 use cgm_lex::Token;
 use cgm_print::words::{Comparison, Joint, Pairing};
@@ -17,11 +18,9 @@ use std::alloc::Global;
 
 /// Takes the word of a connective off.
 fn take_connective<'t>(line: &[u8], tokens: &'t [Token]) -> Option<(Connective, &'t [Token])>
-    ensures found { IfSome result (λ parts. seen_all line.now tokens.now ≡ word
-        (connective_word parts.0) ∷ seen_all line.now parts.1.now) }
-    ensures shorter { IfSome result (λ parts. length parts.1.now < length tokens.now) }
-    ensures none { IfNone result ((c : Connective) (after : List Lexeme) → seen_all line.now
-        tokens.now ≢ word (connective_word c) ∷ after) }
+    ensures { MatchOption result
+        ((c : Connective) → IsNotFirst line.now (word (connective_word c)) tokens.now)
+        (λ parts. IsBehind line.now (word (connective_word parts.0)) tokens.now parts.1.now) }
 {
     match take_word(tokens) {
         None => None,
@@ -104,7 +103,7 @@ fn take_bound(tokens: &[Token]) -> Option<(i64, &[Token])>
 {
     match take_number(tokens) {
         None => None,
-        Some((k, rest)) => match take_close(rest) {
+        Some((k, rest)) => match take(rest, Mark::Close) {
             None => None,
             Some(rest) => Some((k, rest)),
         },
@@ -155,7 +154,7 @@ fn negation<'t>(
 {
     match formula(alloc, line, tokens) {
         Err(stop) => Err(stop),
-        Ok((part, rest)) => match take_close(rest) {
+        Ok((part, rest)) => match take(rest, Mark::Close) {
             None => {
                 discard(part);
                 Err(FormStop::Form)
@@ -212,7 +211,7 @@ fn push_parts<'t>(
 {
     let mut rest = tokens;
     loop {
-        match take_close(rest) {
+        match take(rest, Mark::Close) {
             Some(after) => return Ok(after),
             None => {}
         }
@@ -247,7 +246,7 @@ fn paired<'t>(
                 discard(one);
                 Err(stop)
             }
-            Ok((other, rest)) => match take_close(rest) {
+            Ok((other, rest)) => match take(rest, Mark::Close) {
                 None => {
                     discard(one);
                     discard(other);
@@ -296,7 +295,7 @@ pub(crate) fn formula<'t>(
 {
     match take_word(tokens) {
         Some((name, rest)) => Ok((Tree::Name(name), rest)),
-        None => match take_open(tokens) {
+        None => match take(tokens, Mark::Open) {
             None => Err(FormStop::Form),
             Some(rest) => bracketed(alloc, line, rest),
         },

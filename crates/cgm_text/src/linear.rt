@@ -5,7 +5,7 @@ ghost use Rattle.cgm_text.specs.Trees.{IsFor, linear_in, seen_all, term_in};
 ghost use Rattle.cgm_text.specs.Parsed.{BeginsNoLinear, BeginsNoTerm};
 ghost use Rattle.cgm_print.specs.Written.{spelled_linear, spelled_term};
 
-use crate::take::{take_close, take_exact, take_number, take_open, take_word};
+use crate::take::{Mark, take, take_exact, take_number, take_word};
 use crate::written::{FormStop, Linear, Term};
 use cgm_lex::Token;
 use sqlite_items::Items;
@@ -24,7 +24,7 @@ fn scaled<'t>(line: &[u8], tokens: &'t [Token]) -> Option<(Term, &'t [Token])>
             None => None,
             Some((k, rest)) => match take_word(rest) {
                 None => None,
-                Some((name, rest)) => match take_close(rest) {
+                Some((name, rest)) => match take(rest, Mark::Close) {
                     None => None,
                     Some(rest) => Some((Term::Scaled(k, name), rest)),
                 },
@@ -42,7 +42,7 @@ fn term<'t>(line: &[u8], tokens: &'t [Token]) -> Option<(Term, &'t [Token])>
 {
     match take_word(tokens) {
         Some((name, rest)) => Some((Term::Plain(name), rest)),
-        None => match take_open(tokens) {
+        None => match take(tokens, Mark::Open) {
             None => None,
             Some(rest) => scaled(line, rest),
         },
@@ -57,7 +57,7 @@ fn take_plus<'t>(line: &[u8], tokens: &'t [Token]) -> Option<&'t [Token]>
     ensures none { IfNone result ((after : List Lexeme) → seen_all line.now tokens.now ≢ opening
         ∷ word (codes "+") ∷ after) }
 {
-    match take_open(tokens) {
+    match take(tokens, Mark::Open) {
         None => None,
         Some(rest) => take_exact(line, rest, "+"),
     }
@@ -91,7 +91,7 @@ fn total<'t>(
             let mut others = Items::new(alloc);
             let mut rest = after;
             loop {
-                match take_close(rest) {
+                match take(rest, Mark::Close) {
                     Some(after) => return Ok((Linear::Total(first, others), after)),
                     None => {}
                 }

@@ -1,19 +1,25 @@
 //! Taking the first token off.
-ghost use Rattle.std.specs.Prelude.{◌≡◌, ◌≢◌, ℕ, ℤ, ◌<◌, List, ◌∷◌, length, IfSome, IfNone};
-ghost use Rattle.cgm_lex.specs.Lexemes.{Lexeme, opening, closing, colon, number, word};
-ghost use Rattle.cgm_text.specs.Trees.{seen_all, word_in};
+ghost use Rattle.std.specs.Prelude.{◌≡◌, ℕ, ℤ, List, MatchOption};
+ghost use Rattle.cgm_lex.specs.Lexemes.{number, word};
+ghost use Rattle.cgm_text.specs.Taken.{IsBehind, IsBehindInEach, IsNotFirst, mark_lexeme};
+ghost use Rattle.cgm_text.specs.Trees.{word_in};
 
 use crate::written::Word;
 use cgm_base::is_word;
 use cgm_lex::{Kind, Token};
 
+/// A bracket or a colon.
+#[derive(Clone, Copy)]
+pub(crate) enum Mark {
+    Open,
+    Close,
+    Colon,
+}
+
 /// Takes a word off.
 pub(crate) fn take_word(tokens: &[Token]) -> Option<(Word, &[Token])>
-    ensures found { IfSome result (λ parts. (line : List ℕ) → seen_all line tokens.now ≡ word
-        (word_in line parts.0) ∷ seen_all line parts.1.now) }
-    ensures shorter { IfSome result (λ parts. length parts.1.now < length tokens.now) }
-    ensures none { IfNone result ((line w : List ℕ) (after : List Lexeme) → seen_all line tokens.now
-        ≢ word w ∷ after) }
+    ensures { MatchOption result ((line w : List ℕ) → IsNotFirst line (word w) tokens.now)
+        (λ parts. IsBehindInEach (λ line. word (word_in line parts.0)) tokens.now parts.1.now) }
 {
     match tokens.split_first() {
         None => None,
@@ -32,11 +38,9 @@ pub(crate) fn take_word(tokens: &[Token]) -> Option<(Word, &[Token])>
 
 /// Takes a number off.
 pub(crate) fn take_number(tokens: &[Token]) -> Option<(i64, &[Token])>
-    ensures found { IfSome result (λ parts. (line : List ℕ) → seen_all line tokens.now ≡ number
-        parts.0 ∷ seen_all line parts.1.now) }
-    ensures shorter { IfSome result (λ parts. length parts.1.now < length tokens.now) }
-    ensures none { IfNone result ((line : List ℕ) (k : ℤ) (after : List Lexeme) → seen_all line
-        tokens.now ≢ number k ∷ after) }
+    ensures { MatchOption result
+        ((line : List ℕ) (k : ℤ) → IsNotFirst line (number k) tokens.now)
+        (λ parts. IsBehindInEach (λ line. number parts.0) tokens.now parts.1.now) }
 {
     match tokens.split_first() {
         None => None,
@@ -47,53 +51,27 @@ pub(crate) fn take_number(tokens: &[Token]) -> Option<(i64, &[Token])>
     }
 }
 
-/// Takes an opening bracket off.
-pub(crate) fn take_open(tokens: &[Token]) -> Option<&[Token]>
-    ensures found { IfSome result (λ rest. (line : List ℕ) → seen_all line tokens.now ≡ opening
-        ∷ seen_all line rest.now) }
-    ensures shorter { IfSome result (λ rest. length rest.now < length tokens.now) }
-    ensures none { IfNone result ((line : List ℕ) (after : List Lexeme) → seen_all line tokens.now
-        ≢ opening ∷ after) }
+/// Takes this bracket or colon off.
+pub(crate) fn take(tokens: &[Token], mark: Mark) -> Option<&[Token]>
+    ensures { MatchOption result
+        ((line : List ℕ) → IsNotFirst line (mark_lexeme mark) tokens.now)
+        (λ rest. IsBehindInEach (λ line. mark_lexeme mark) tokens.now rest.now) }
 {
     match tokens.split_first() {
         None => None,
-        Some((token, rest)) => match token.kind {
-            Kind::Open => Some(rest),
-            _ => None,
-        },
-    }
-}
-
-/// Takes a closing bracket off.
-pub(crate) fn take_close(tokens: &[Token]) -> Option<&[Token]>
-    ensures found { IfSome result (λ rest. (line : List ℕ) → seen_all line tokens.now ≡ closing
-        ∷ seen_all line rest.now) }
-    ensures shorter { IfSome result (λ rest. length rest.now < length tokens.now) }
-    ensures none { IfNone result ((line : List ℕ) (after : List Lexeme) → seen_all line tokens.now
-        ≢ closing ∷ after) }
-{
-    match tokens.split_first() {
-        None => None,
-        Some((token, rest)) => match token.kind {
-            Kind::Close => Some(rest),
-            _ => None,
-        },
-    }
-}
-
-/// Takes a colon off.
-pub(crate) fn take_colon(tokens: &[Token]) -> Option<&[Token]>
-    ensures found { IfSome result (λ rest. (line : List ℕ) → seen_all line tokens.now ≡ colon
-        ∷ seen_all line rest.now) }
-    ensures shorter { IfSome result (λ rest. length rest.now < length tokens.now) }
-    ensures none { IfNone result ((line : List ℕ) (after : List Lexeme) → seen_all line tokens.now
-        ≢ colon ∷ after) }
-{
-    match tokens.split_first() {
-        None => None,
-        Some((token, rest)) => match token.kind {
-            Kind::Colon => Some(rest),
-            _ => None,
+        Some((token, rest)) => match mark {
+            Mark::Open => match token.kind {
+                Kind::Open => Some(rest),
+                _ => None,
+            },
+            Mark::Close => match token.kind {
+                Kind::Close => Some(rest),
+                _ => None,
+            },
+            Mark::Colon => match token.kind {
+                Kind::Colon => Some(rest),
+                _ => None,
+            },
         },
     }
 }
@@ -109,11 +87,8 @@ pub(crate) fn bytes_in<'l>(line: &'l [u8], word: Word) -> &'l [u8]
 
 /// Takes this word off.
 pub(crate) fn take_exact<'t>(line: &[u8], tokens: &'t [Token], text: &str) -> Option<&'t [Token]>
-    ensures found { IfSome result (λ rest. seen_all line.now tokens.now ≡ word text.now ∷ seen_all
-        line.now rest.now) }
-    ensures shorter { IfSome result (λ rest. length rest.now < length tokens.now) }
-    ensures none { IfNone result ((after : List Lexeme) → seen_all line.now tokens.now ≢ word
-        text.now ∷ after) }
+    ensures { MatchOption result (IsNotFirst line.now (word text.now) tokens.now)
+        (λ rest. IsBehind line.now (word text.now) tokens.now rest.now) }
 {
     match take_word(tokens) {
         None => None,

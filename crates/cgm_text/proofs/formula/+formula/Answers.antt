@@ -10,7 +10,7 @@ use Rattle.cgm_text.specs.Parsed.{BeginsNoFormula, BeginsNoParts, connective_wor
 
 pub bracketed-returns-in-None-clause-form : goal.bracketed-returns-in-None-clause-form
 bracketed-returns-in-None-clause-form t c =
-    no_connective (seen_all c.args.line.now c.args.tokens.now) c.in-None.ensures.none
+    no_connective (seen_all c.args.line.now c.args.tokens.now) c.in-None.ensures
 
 pub bracketed-returns-in-Not-clause-found : goal.bracketed-returns-in-Not-clause-found
 bracketed-returns-in-Not-clause-found t c =
@@ -60,10 +60,10 @@ bracketed-returns-in-Compare-clause-form t c =
     let begins = c.in-Some.ensures.found ∙ ap (λ (w : Connective). word (connective_word w) ∷ seen_all line c.in-Some.rest.now) c.in-Compare.is in
     subst (λ (ts : List Lexeme). IfErr c.compared.result (IsFor (BeginsNoFormula (opening ∷ ts)))) (sym begins) c.compared.ensures.form
 
-pub formula-returns-in-None-take_open-clause-form : goal.formula-returns-in-None-take_open-clause-form
-formula-returns-in-None-take_open-clause-form t c =
+pub formula-returns-in-None-take-clause-form : goal.formula-returns-in-None-take-clause-form
+formula-returns-in-None-take-clause-form t c =
     let line = c.args.line.now in
-    no_start (seen_all line c.args.tokens.now) (c.in-None.ensures.none line) (c.in-None-take_open.ensures.none line)
+    no_start (seen_all line c.args.tokens.now) (c.in-None.ensures line) (c.in-None-take.ensures line)
 
 pub joined-returns-in-Err-clause-form : goal.joined-returns-in-Err-clause-form
 joined-returns-in-Err-clause-form t c =
@@ -92,7 +92,7 @@ push_parts-returns-in-Err-clause-form t c =
     let line = c.args.line.now in
     let tokens = seen_all line c.args.tokens.now in
     let rest = seen_all line c.loop-after.rest.now in
-    weaken (BeginsNoFormula rest) (BeginsNoParts tokens) c.in-Err.stop c.in-Err.ensures.form (λ none. no_parts_end (formulas_of (map (formula_in line) c.loop-after.parts)) tokens rest c.loop-after.invariant.0 none (c.in-None.ensures.none line))
+    weaken (BeginsNoFormula rest) (BeginsNoParts tokens) c.in-Err.stop c.in-Err.ensures.form (λ none. no_parts_end (formulas_of (map (formula_in line) c.loop-after.parts)) tokens rest c.loop-after.invariant.0 none (c.in-None.ensures line))
 
 pub push_parts-loop-after-preserved : goal.push_parts-loop-after-preserved
 push_parts-loop-after-preserved t c =
@@ -108,7 +108,7 @@ negation-returns-in-Err-clause-form t c =
 pub negation-returns-in-None-clause-form : goal.negation-returns-in-None-clause-form
 negation-returns-in-None-clause-form t c =
     let line = c.args.line.now in
-    no_negation_end (formula_in line c.in-Ok.part) (seen_all line c.args.tokens.now) (seen_all line c.in-Ok.rest.now) c.in-Ok.ensures.found (c.in-None.ensures.none line)
+    no_negation_end (formula_in line c.in-Ok.part) (seen_all line c.args.tokens.now) (seen_all line c.in-Ok.rest.now) c.in-Ok.ensures.found (c.in-None.ensures line)
 
 pub negation-returns-in_ok-negated-in-Some-clause-found : goal.negation-returns-in_ok-negated-in-Some-clause-found
 negation-returns-in_ok-negated-in-Some-clause-found t c =
@@ -130,7 +130,7 @@ paired-returns-in-Err-formula-clause-form t c =
 pub paired-returns-in-None-clause-form : goal.paired-returns-in-None-clause-form
 paired-returns-in-None-clause-form t c =
     let line = c.args.line.now in
-    no_pairing_end c.args.pairing (formula_in line c.in-Ok.one) (formula_in line c.in-Ok-formula.other) (seen_all line c.args.tokens.now) (seen_all line c.in-Ok.rest.now) (seen_all line c.in-Ok-formula.rest.now) c.in-Ok.ensures.found c.in-Ok-formula.ensures.found (c.in-None.ensures.none line)
+    no_pairing_end c.args.pairing (formula_in line c.in-Ok.one) (formula_in line c.in-Ok-formula.other) (seen_all line c.args.tokens.now) (seen_all line c.in-Ok.rest.now) (seen_all line c.in-Ok-formula.rest.now) c.in-Ok.ensures.found c.in-Ok-formula.ensures.found (c.in-None.ensures line)
 
 pub paired-returns-in_ok-pair-in-Some-clause-found : goal.paired-returns-in_ok-pair-in-Some-clause-found
 paired-returns-in_ok-pair-in-Some-clause-found t c =

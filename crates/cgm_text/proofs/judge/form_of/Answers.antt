@@ -11,7 +11,7 @@ use Rattle.cgm_text.proofs.judge.form_of.Goals as goal
 pub returns-in-None-clause-stop : goal.returns-in-None-clause-stop
 returns-in-None-clause-stop c = λ m.
     let line = c.args.line.now in
-    rw c.bad.ensures (word_stop m (seen_all line c.args.tokens.now) (λ sort after. c.in-None.ensures.none line (sort_word sort) after))
+    rw c.bad.ensures (word_stop m (seen_all line c.args.tokens.now) (λ sort after. c.in-None.ensures line (sort_word sort) after))
 
 pub returns-in-Some-sort_of_word-clause-stop : goal.returns-in-Some-sort_of_word-clause-stop
 returns-in-Some-sort_of_word-clause-stop c =

@@ -6,7 +6,7 @@ use Rattle.cgm_text.proofs.linear.total.Goals as goal
 pub returns-in-None-term-clause-form : goal.returns-in-None-term-clause-form
 returns-in-None-term-clause-form c =
     let line = c.args.line.now in
-    no_total_after (term_in line c.in-Some.first) (map (term_in line) c.loop-after.others) (seen_all line c.args.tokens.now) (seen_all line c.loop-after.rest.now) c.loop-after.invariant.0 c.in-None-term.ensures.none (c.in-None-take_close.ensures.none line)
+    no_total_after (term_in line c.in-Some.first) (map (term_in line) c.loop-after.others) (seen_all line c.args.tokens.now) (seen_all line c.loop-after.rest.now) c.loop-after.invariant.0 c.in-None-term.ensures.none (c.in-None-take.ensures line)
 
 pub loop-after-preserved : goal.loop-after-preserved
 loop-after-preserved c =

@@ -7,6 +7,8 @@ use Rattle.cgm_formula.specs.Reading.{name_in}
 use Rattle.cgm_model.specs.declared.lists.Lists.{Lists}
 use Rattle.cgm_model.specs.Named.{element_names}
 use Rattle.cgm_model.specs.Leaves.{is_leaf_task, leaf_tasks}
+use Rattle.cgm_evolve.specs.declared.costs.Cost.{Cost}
+use Rattle.cgm_evolve.specs.declared.costs.Cost.TheVariants as kinds
 use Rattle.cgm_evolve.specs.Pairs.{Pair, truth_in}
 
 -- the elements on interest lines, or these others where there is no such line
@@ -42,6 +44,11 @@ is_changed m pairs a element = differs (earlier_truth m pairs element) (is_true 
 -- whether the element is a leaf task that is true now and wasn't before
 abbrev pub is_new_work : Lists → List Pair → Assignment → ℕ → Bool
 is_new_work m pairs a element = is_leaf_task m element && is_true a element && not (was_true (earlier_truth m pairs element))
+
+-- whether the element counts for this cost
+abbrev pub is_counted : Cost → Lists → List Pair → Assignment → ℕ → Bool
+is_counted kinds.Familiarity = is_changed
+is_counted kinds.Effort = is_new_work
 
 -- the elements of interest that changed
 abbrev pub familiarity : Lists → List Pair → Assignment → ℕ

@@ -13,6 +13,13 @@ use crate::earlier::Earlier;
 use cgm_formula::truth_at;
 use cgm_model::{Assignment, Model};
 
+/// What is counted of the elements of interest.
+#[derive(Clone, Copy)]
+pub(crate) enum Cost {
+    Familiarity,
+    Effort,
+}
+
 /// The number of elements.
 fn element_count(model: &Model) -> u32
     ensures count { result ≡ length model.now.elements }
@@ -88,83 +95,67 @@ fn interests(model: &Model) -> &[u32]
     model.interests.as_slice()
 }
 
-/// How many of these elements changed.
-fn changed_among(
+/// Whether the element counts for this cost.
+fn is_counted(
+    cost: Cost,
+    model: &Model,
+    earlier: &Earlier,
+    assignment: &Assignment,
+    element: u32,
+) -> bool
+    ensures { result ≡ costs.is_counted cost (lists_of model.now) earlier.now.pairs assignment.now
+        element }
+{
+    match cost {
+        Cost::Familiarity => is_changed(model, earlier, assignment, element),
+        Cost::Effort => is_new_work(model, earlier, assignment, element),
+    }
+}
+
+/// How many of these elements count.
+fn counted_among(
+    cost: Cost,
     model: &Model,
     earlier: &Earlier,
     assignment: &Assignment,
     elements: &[u32],
 ) -> usize
-    ensures { result ≡ count_by (costs.is_changed (lists_of model.now) earlier.now.pairs
+    ensures { result ≡ count_by (costs.is_counted cost (lists_of model.now) earlier.now.pairs
         assignment.now) elements.now }
 {
     elements
         .iter()
-        .filter(|element| is_changed(model, earlier, assignment, **element))
+        .filter(|element| is_counted(cost, model, earlier, assignment, **element))
         .count()
 }
 
-/// How many leaf tasks changed.
-fn changed_leaf_tasks(model: &Model, earlier: &Earlier, assignment: &Assignment) -> usize
-    ensures { result ≡ count_by (costs.is_changed (lists_of model.now) earlier.now.pairs
-        assignment.now) (leaf_tasks (lists_of model.now)) }
-{
-    (0..element_count(model))
-        .filter(|element| model.is_leaf_task(*element))
-        .filter(|element| is_changed(model, earlier, assignment, *element))
-        .count()
-}
-
-/// How many elements of interest changed.
-fn changed(model: &Model, earlier: &Earlier, assignment: &Assignment) -> usize
-    ensures count { result ≡ costs.familiarity (lists_of model.now) earlier.now.pairs
-        assignment.now }
-    ensures few { result ≤ limit_number limits.Statements }
-{
-    let interests = interests(model);
-    if interests.is_empty() {
-        return changed_leaf_tasks(model, earlier, assignment);
-    }
-    changed_among(model, earlier, assignment, interests)
-}
-
-/// How many of these elements are new work.
-fn new_work_among(
+/// How many leaf tasks count.
+fn counted_leaf_tasks(
+    cost: Cost,
     model: &Model,
     earlier: &Earlier,
     assignment: &Assignment,
-    elements: &[u32],
 ) -> usize
-    ensures { result ≡ count_by (costs.is_new_work (lists_of model.now) earlier.now.pairs
-        assignment.now) elements.now }
-{
-    elements
-        .iter()
-        .filter(|element| is_new_work(model, earlier, assignment, **element))
-        .count()
-}
-
-/// How many leaf tasks are new work.
-fn new_work_of_leaf_tasks(model: &Model, earlier: &Earlier, assignment: &Assignment) -> usize
-    ensures { result ≡ count_by (costs.is_new_work (lists_of model.now) earlier.now.pairs
+    ensures { result ≡ count_by (costs.is_counted cost (lists_of model.now) earlier.now.pairs
         assignment.now) (leaf_tasks (lists_of model.now)) }
 {
     (0..element_count(model))
         .filter(|element| model.is_leaf_task(*element))
-        .filter(|element| is_new_work(model, earlier, assignment, *element))
+        .filter(|element| is_counted(cost, model, earlier, assignment, *element))
         .count()
 }
 
-/// How many elements of interest are new work.
-fn new_work(model: &Model, earlier: &Earlier, assignment: &Assignment) -> usize
-    ensures count { result ≡ costs.effort (lists_of model.now) earlier.now.pairs assignment.now }
+/// How many elements of interest count.
+fn counted(cost: Cost, model: &Model, earlier: &Earlier, assignment: &Assignment) -> usize
+    ensures count { result ≡ count_by (costs.is_counted cost (lists_of model.now) earlier.now.pairs
+        assignment.now) (costs.elements_of_interest (lists_of model.now)) }
     ensures few { result ≤ limit_number limits.Statements }
 {
     let interests = interests(model);
     if interests.is_empty() {
-        return new_work_of_leaf_tasks(model, earlier, assignment);
+        return counted_leaf_tasks(cost, model, earlier, assignment);
     }
-    new_work_among(model, earlier, assignment, interests)
+    counted_among(cost, model, earlier, assignment, interests)
 }
 
 fn number(count: usize) -> i64
@@ -181,7 +172,7 @@ pub fn familiarity(model: &Model, earlier: &Earlier, assignment: &Assignment) ->
     ensures { result ≡ pos (costs.familiarity (lists_of model.now) earlier.now.pairs
         assignment.now) }
 {
-    number(changed(model, earlier, assignment))
+    number(counted(Cost::Familiarity, model, earlier, assignment))
 }
 
 /// The effort of an assignment that fits: how many elements of interest are leaf tasks that are true,
@@ -190,5 +181,5 @@ pub fn effort(model: &Model, earlier: &Earlier, assignment: &Assignment) -> i64
     requires { Fits (lists_of model.now) assignment.now }
     ensures { result ≡ pos (costs.effort (lists_of model.now) earlier.now.pairs assignment.now) }
 {
-    number(new_work(model, earlier, assignment))
+    number(counted(Cost::Effort, model, earlier, assignment))
 }

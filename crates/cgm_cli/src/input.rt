@@ -20,14 +20,10 @@ pub(crate) struct Input {
 }
 
 /// Gives the memory of an input back. What drops an input is long to prove, so it is done here alone.
-pub(crate) fn discard(input: Input) {
-    let _gone = input;
-}
+pub(crate) fn discard(_input: Input) {}
 
 /// The same for a reading.
-fn discard_reading(reading: Reading) {
-    let _gone = reading;
-}
+fn discard_reading(_reading: Reading) {}
 
 /// The model of the named file, and the earlier realization of the other file where one is named, or
 /// the status after it was told why there is none. Without that file nothing is known of an earlier

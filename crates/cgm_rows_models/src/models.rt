@@ -47,9 +47,7 @@ fn model_of(alloc: Global, text: &str) -> Result<Model, Fail> {
 }
 
 /// Gives the memory of a model back.
-fn discard(model: Model) {
-    let _gone = model;
-}
+fn discard(_model: Model) {}
 
 /// Whether a model is answered so, where no earlier realization is known.
 fn is_answered_by(alloc: Global, model: &Model, asked: &Asked<'_>) -> Result<bool, Fail> {

@@ -19,9 +19,7 @@ pub(crate) fn problem_of(alloc: Global, text: &str) -> Result<Problem, Fail> {
 }
 
 /// Gives the memory of a problem back.
-pub(crate) fn discard(problem: Problem) {
-    let _gone = problem;
-}
+pub(crate) fn discard(_problem: Problem) {}
 
 fn build(alloc: Global, builder: &mut ProblemBuilder, text: &str) -> Result<(), Fail>
     requires { HasSizes builder.old 0 0 0 }

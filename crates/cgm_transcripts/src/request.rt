@@ -109,6 +109,4 @@ fn take_only<'w>(
 }
 
 /// Gives the memory of a request back.
-pub(crate) fn discard(request: Request) {
-    let _gone = request;
-}
+pub(crate) fn discard(_request: Request) {}

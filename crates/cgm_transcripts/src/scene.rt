@@ -33,19 +33,13 @@ pub(crate) fn run_case<P: Program>(
 }
 
 /// Gives the memory of a scene back.
-fn discard(scene: Scene) {
-    let _gone = scene;
-}
+fn discard(_scene: Scene) {}
 
 /// Gives the memory of a shelf back.
-fn discard_shelf(shelf: MemShelf) {
-    let _gone = shelf;
-}
+fn discard_shelf(_shelf: MemShelf) {}
 
 /// Gives the memory of a sink back.
-fn discard_sink(sink: MemSink) {
-    let _gone = sink;
-}
+fn discard_sink(_sink: MemSink) {}
 
 fn add_number(numbers: &mut Vec<u64>, number: u64) -> Result<(), OutOfMemory> {
     numbers.push(number)?;

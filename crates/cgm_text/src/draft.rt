@@ -19,6 +19,7 @@ use cgm_lex::reading::{Draft, LineFault, LineStop, lexing_stop};
 use cgm_lex::{Token, tokens_of_line};
 use cgm_model::{AddStop, ModelBuilder, Statement};
 use std::alloc::Global;
+use std::mem::drop;
 
 /// What the lines so far make.
 #[derive(Drop)]
@@ -154,7 +155,9 @@ impl ModelDraft {
     }
 
     /// Gives the memory of the draft back.
-    pub(crate) fn discard(self) {}
+    pub(crate) fn discard(self) {
+        drop(self);
+    }
 
     /// The model of the lines so far.
     pub(crate) fn finish(self) -> Reading

@@ -96,7 +96,7 @@ pub row_size : (old p : Instance) (terms same : List (ℤ × Var)) (passed k : �
 row_size old p terms same passed k bounds e is count known small least =
     let still : measure (named old).bounds terms ≡ measure old.bounds terms = measure-longer old.bounds (pos 0 ∷ []) (pos 1 ∷ []) terms count known in (
       subst (λ (b : Bounds). measure b same ≤ max_measure) (sym bounds)
-      (subst (λ (ts : List (ℤ × Var)). measure (named old).bounds ts ≤ max_measure) (sym e)
-      (subst (λ (n : ℕ). n ≤ max_measure) (sym still) small)),
+          (subst (λ (ts : List (ℤ × Var)). measure (named old).bounds ts ≤ max_measure) (sym e)
+          (subst (λ (n : ℕ). n ≤ max_measure) (sym still) small)),
       subst (λ (z : ℤ). unsigned_abs z ≤ max_least) (sym is) least,
     )

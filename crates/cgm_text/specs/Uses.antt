@@ -1,5 +1,5 @@
 -- The names that a written statement uses, from the left, and what is wrong with the first of them that is unknown or of a wrong kind.
-use Rattle.std.specs.Prelude.{ℕ, Bool, true, false, if◌then◌else◌, List, [], ◌∷◌, map, Option, None, Some}
+use Rattle.std.specs.Prelude.{◌≡◌, ℕ, Bool, true, false, if◌then◌else◌, List, [], ◌∷◌, map, Option, None, Some}
 use Rattle.std.specs.Option.{option_or}
 use Rattle.cgm_base.specs.declared.fault.BadKind.{BadKind}
 use Rattle.cgm_base.specs.declared.fault.BadKind.TheVariants as kinds
@@ -117,3 +117,8 @@ thing_fault wanted (Some thing) = if suits wanted thing then None else Some kind
 abbrev pub first_name_fault : Lists → List NameUse → Option BadKind
 first_name_fault m [] = None
 first_name_fault m (u ∷ uses) = option_or (thing_fault u.wanted (thing_named m u.used)) (first_name_fault m uses)
+
+-- with whatever uses behind these, their own first fault comes first: then the first of those behind
+abbrev pub IsFirstNameFault : Lists → (List NameUse → List NameUse) → Option BadKind → Type 0
+IsFirstNameFault m before fault =
+    (after : List NameUse) → first_name_fault m (before after) ≡ option_or fault (first_name_fault m after)

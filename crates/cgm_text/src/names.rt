@@ -1,11 +1,10 @@
 //! What is wrong with the first name that a statement may not use.
-ghost use Rattle.std.specs.Prelude.{◌≡◌, List, [], ◌∷◌, map};
-ghost use Rattle.std.specs.Option.{option_or};
+ghost use Rattle.std.specs.Prelude.{◌≡◌, [], ◌∷◌, map};
 ghost use Rattle.cgm_model.specs.Named.{thing_named};
 ghost use Rattle.cgm_print.specs.Written.{formulas_of};
 ghost use Rattle.cgm_text.specs.declared.names.Wanted.TheVariants as wants;
 ghost use Rattle.cgm_text.specs.Trees.{formula_in, linear_in, term_in, word_in};
-ghost use Rattle.cgm_text.specs.Uses.{NameUse, end_of, first_name_fault, formula_uses, formulas_uses, linear_uses, named_uses, quantity_uses, statement_uses, suits, terms_uses, thing_fault, use_as};
+ghost use Rattle.cgm_text.specs.Uses.{IsFirstNameFault, end_of, first_name_fault, formula_uses, formulas_uses, linear_uses, named_uses, quantity_uses, statement_uses, suits, terms_uses, thing_fault, use_as};
 ghost use Rattle.cgm_text.specs.Parsed.{built_in, statement_in};
 
 use crate::keyword::built_in;
@@ -115,9 +114,7 @@ fn elements_fault(builder: &ModelBuilder, line: &[u8], words: &[Word]) -> Option
 }
 
 fn term_fault(builder: &ModelBuilder, line: &[u8], term: &Term) -> Option<BadKind>
-    ensures { (after : List NameUse) → first_name_fault builder.now
-        (terms_uses (term_in line.now term.now ∷ []) after) ≡ option_or result
-        (first_name_fault builder.now after) }
+    ensures { IsFirstNameFault builder.now (terms_uses (term_in line.now term.now ∷ [])) result }
 {
     match term {
         Term::Plain(w) => word_fault(builder, line, Wanted::Number, *w),
@@ -126,9 +123,7 @@ fn term_fault(builder: &ModelBuilder, line: &[u8], term: &Term) -> Option<BadKin
 }
 
 fn terms_fault(builder: &ModelBuilder, line: &[u8], terms: &[Term]) -> Option<BadKind>
-    ensures { (after : List NameUse) → first_name_fault builder.now
-        (terms_uses (map (term_in line.now) terms.now) after) ≡ option_or result
-        (first_name_fault builder.now after) }
+    ensures { IsFirstNameFault builder.now (terms_uses (map (term_in line.now) terms.now)) result }
 {
     for term in terms {
         match term_fault(builder, line, term) {
@@ -140,9 +135,7 @@ fn terms_fault(builder: &ModelBuilder, line: &[u8], terms: &[Term]) -> Option<Ba
 }
 
 fn linear_fault(builder: &ModelBuilder, line: &[u8], linear: &Linear) -> Option<BadKind>
-    ensures { (after : List NameUse) → first_name_fault builder.now
-        (linear_uses (linear_in line.now linear.now) after) ≡ option_or result
-        (first_name_fault builder.now after) }
+    ensures { IsFirstNameFault builder.now (linear_uses (linear_in line.now linear.now)) result }
 {
     match linear {
         Linear::Single(term) => term_fault(builder, line, term),
@@ -156,9 +149,7 @@ fn linear_fault(builder: &ModelBuilder, line: &[u8], linear: &Linear) -> Option<
 /// What is wrong with the first bad name of a formula.
 #[cycle(fault)]
 fn formula_fault(builder: &ModelBuilder, line: &[u8], tree: &Tree) -> Option<BadKind>
-    ensures { (after : List NameUse) → first_name_fault builder.now
-        (formula_uses (formula_in line.now tree.now) after) ≡ option_or result
-        (first_name_fault builder.now after) }
+    ensures { IsFirstNameFault builder.now (formula_uses (formula_in line.now tree.now)) result }
 {
     match tree {
         Tree::Name(w) => word_fault(builder, line, Wanted::Truth, *w),
@@ -177,9 +168,8 @@ fn formula_fault(builder: &ModelBuilder, line: &[u8], tree: &Tree) -> Option<Bad
 
 #[cycle(fault)]
 fn formulas_fault(builder: &ModelBuilder, line: &[u8], trees: &[Tree]) -> Option<BadKind>
-    ensures { (after : List NameUse) → first_name_fault builder.now
-        (formulas_uses (formulas_of (map (formula_in line.now) trees.now)) after) ≡ option_or result
-        (first_name_fault builder.now after) }
+    ensures { IsFirstNameFault builder.now
+        (formulas_uses (formulas_of (map (formula_in line.now) trees.now))) result }
 {
     for tree in trees {
         match formula_fault(builder, line, tree) {

@@ -1,3 +1,4 @@
+pub mod EmptyLists
 pub mod GraphSizes
 pub mod GraphTruths
 pub mod Groups

@@ -1,5 +1,5 @@
 -- What a loop keeps of the numbers below a place, and of the items of a list.
-use Rattle.std.proofs.Common.{◌≡◌, ℕ, zero, suc, ◌+◌, ◌<◌, Bool, List, [], ◌∷◌, ◌++◌, length, get_or, take, refl, sym, ap, ◌∙◌, arith}
+use Rattle.std.proofs.Common.{◌≡◌, ℕ, ◌+◌, ◌<◌, Bool, List, [], ◌∷◌, ◌++◌, length, get_or, take, sym, ap, ◌∙◌, arith}
 use Rattle.std.specs.Prelude.{filter}
 use Rattle.std.specs.List.{range_with_len}
 use Rattle.std.proofs.lemmas.List.{take_more}
@@ -21,10 +21,3 @@ items_kept p xs i d old new l are added =
     ∙ ap (λ (ys : List ℕ). ys ++ filter p (get_or xs i d ∷ [])) are
     ∙ sym (filter-append p (take i xs) (get_or xs i d ∷ []))
     ∙ ap (λ (ys : List ℕ). filter p ys) (sym (take_more xs i d l))
-
--- lists that are all empty, and one more
-pub empty_more : {X : Type 0} (lists : List (List X)) → ((k : ℕ) → get_or lists k [] ≡ []) → (k : ℕ) → get_or (lists ++ [] ∷ []) k [] ≡ []
-empty_more [] empty zero = refl
-empty_more [] empty (suc k) = refl
-empty_more (xs ∷ lists) empty zero = empty zero
-empty_more (xs ∷ lists) empty (suc k) = empty_more lists (λ j. empty (suc j)) k

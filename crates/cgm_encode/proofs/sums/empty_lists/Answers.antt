@@ -1,7 +1,7 @@
 use Rattle.std.proofs.Common.{ℕ, ◌+◌, ◌++◌, ◌∷◌, [], List, ap, get_or, length, ◌∙◌}
 use Rattle.std.proofs.lemmas.List.{length_push}
+use Rattle.cgm_enc_graph.proofs.EmptyLists.{empty_more}
 use Rattle.cgm_encode.specs.Totals.{Share}
-use Rattle.cgm_encode.proofs.Kept.{empty_more}
 use Rattle.cgm_encode.proofs.sums.empty_lists.Goals as goal
 
 pub loop-preserved : goal.loop-preserved

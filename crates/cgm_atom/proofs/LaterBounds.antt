@@ -14,6 +14,7 @@ use Rattle.cgm_atom.specs.declared.entries.Entry.TheVariants.{Best, Lemma}
 use Rattle.cgm_atom.specs.Acceptance.{IsAccepted, faults, first_fault}
 use Rattle.cgm_atom.specs.Entailment.{Follows, IsUnderBound, best_values}
 use Rattle.cgm_atom.specs.Instance.{Instance, fault_unless, first_some, vector}
+use Rattle.cgm_atom.specs.Laws.{AreDescending, BestsDescend}
 use Rattle.cgm_atom.specs.LogState.{LogState, last_best, state_of}
 use Rattle.cgm_base.specs.Order.{IsLess}
 use Rattle.cgm_atom.specs.Order.{IsBelow, is_below, is_less}
@@ -67,11 +68,6 @@ passes false x h = absurd (cc)
 
 -- ---- bests
 
--- each is less than the one before it, the first less than the limit
-abbrev pub AreDescending : Instance → Option (List ℤ) → List (List ℤ) → Type 0
-AreDescending p limit [] = Unit {0}
-AreDescending p limit (values ∷ others) = IsBelow (vector p values) (option_map (vector p) limit) × AreDescending p (Some values) others
-
 accepted_best : (p : Instance) (s : LogState) (by : ℕ) (values : List ℤ) → first_fault p s (Best by values) ≡ None → IsBelow (vector p values) (option_map (vector p) (last_best s))
 unfolding first_fault
 accepted_best p s by values h =
@@ -94,6 +90,9 @@ bests_descend p front (Lemma by clause hints bound ∷ log) h =
     let rest = bests_descend p (front ++ e ∷ []) log (subst (λ (x : List Entry). IsAccepted p x) (sym (append_assoc front (e ∷ []) log)) h) in
     let same : best_values (front ++ e ∷ []) ≡ best_values front = best_values-append front (e ∷ []) ∙ append-nil (best_values front) in
     subst (λ (vs : List (List ℤ)). AreDescending p (last_or None vs) (best_values log)) same rest
+
+pub all_bests_descend : BestsDescend
+all_bests_descend p log h = bests_descend p [] log h
 
 -- ---- later bounds
 

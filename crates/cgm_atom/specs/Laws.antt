@@ -1,6 +1,7 @@
 -- Laws over the definitions: on narrowing, cuts, bounds of lemmas, and closed logs.
-use Rattle.std.specs.Prelude.{◌++◌, ◌≡◌, ◌↔◌, ℕ, ◌≤◌, ℤ, List, length, Option, Some, None, IsTrue, IsSomeAnd}
+use Rattle.std.specs.Prelude.{◌++◌, ◌≡◌, ◌↔◌, ℕ, ◌≤◌, ℤ, List, [], ◌∷◌, length, Option, Some, None, IsTrue, IsSomeAnd}
 use Rattle.std.specs.List.{All, last_or}
+use Rattle.std.specs.Option.{option_map}
 use Rattle.cgm_atom.specs.declared.constraints.Atom.{Atom}
 use Rattle.cgm_atom.specs.declared.constraints.Clause.{Clause}
 use Rattle.cgm_atom.specs.declared.constraints.Row.{Row}
@@ -13,10 +14,11 @@ use Rattle.cgm_atom.specs.Atoms.{atom_true, clause_true, row_true}
 use Rattle.cgm_atom.specs.Bounds.{Bounds, IsInside, AreProperBounds, IsWithin}
 use Rattle.cgm_atom.specs.Cut.{cut}
 use Rattle.cgm_atom.specs.Entailment.{Follows, best_values}
-use Rattle.cgm_atom.specs.Instance.{Instance, HasNoSolution, IsLeast, IsSolution, values_at}
+use Rattle.cgm_atom.specs.Instance.{Instance, HasNoSolution, IsLeast, IsSolution, values_at, vector}
 use Rattle.cgm_atom.specs.LogState.{LogState, all_narrowed, carried, is_closing, last_best, named, state_of, state_with}
 use Rattle.cgm_atom.specs.Constraints.{Constraint, left_by}
 use Rattle.cgm_atom.specs.Narrowing.{all_assumed, left_by_clause, left_by_row, made_true}
+use Rattle.cgm_atom.specs.Order.{IsBelow}
 use Rattle.cgm_base.specs.Order.{IsLess}
 
 -- ---- narrowing keeps solutions
@@ -119,6 +121,14 @@ BestsAreSolutions =
     → AreProperBounds p.bounds
     → IsAccepted p log
     → All (IsSolution p) (best_values log)
+
+-- the vector of each is less than that of the one before it, of the first than that of the limit, if there is one
+abbrev pub AreDescending : Instance → Option (List ℤ) → List (List ℤ) → Type 0
+AreDescending p limit [] = Unit {0}
+AreDescending p limit (values ∷ others) = IsBelow (vector p values) (option_map (vector p) limit) × AreDescending p (Some values) others
+
+abbrev pub BestsDescend : Type 0
+BestsDescend = (p : Instance) (log : List Entry) → IsAccepted p log → AreDescending p None (best_values log)
 
 -- the last entry is a lemma without atoms
 abbrev pub EndsWithClosing : List Entry → Type 0

@@ -4,7 +4,7 @@ ghost use Rattle.cgm_atom.specs.declared.constraints.Clause.{Clause};
 ghost use Rattle.cgm_atom.specs.declared.entries.Entry.TheVariants as entry;
 ghost use Rattle.cgm_atom.specs.declared.entries.Hint.{Hint};
 ghost use Rattle.cgm_atom.specs.declared.entries.Hint.TheVariants as hint;
-ghost use Rattle.cgm_atom.specs.Laws.{AcceptedStatesGrow, AssumedKeepValues, BestsAreSolutions, CarriedStays, ClauseKeepsValues, ClosedLogEnds, ClosedLogIsLeast, CutIsLess, LaterBoundsFollow, LemmasFollow, MadeTrueKeepsValues, NamesStay, NarrowingShrinks, RowKeepsValues, SmallerBoxesAssume, SmallerBoxesFollowHints, SmallerBoxesNarrow};
+ghost use Rattle.cgm_atom.specs.Laws.{AcceptedStatesGrow, AssumedKeepValues, BestsAreSolutions, BestsDescend, CarriedStays, ClauseKeepsValues, ClosedLogEnds, ClosedLogIsLeast, CutIsLess, LaterBoundsFollow, LemmasFollow, MadeTrueKeepsValues, NamesStay, NarrowingShrinks, RowKeepsValues, SmallerBoxesAssume, SmallerBoxesFollowHints, SmallerBoxesNarrow};
 ghost use Rattle.cgm_atom.specs.Limits.{max_atom_number, max_batch_lemmas, max_bound, max_least, max_measure, max_objectives, max_workers};
 ghost use Rattle.cgm_atom.specs.Placing.{PlacedArePlaced, PlacedCarryPending, PlacedComeBack, PlacedNamePending, PlacedStay};
 ghost use Rattle.cgm_atom.specs.Ranges.{IsPrintable};
@@ -96,6 +96,11 @@ pub fn lemmas_follow()
 /// Each best of an accepted log is a solution.
 pub fn bests_are_solutions()
     ensures { BestsAreSolutions }
+{}
+
+/// In an accepted log the vector of each best is less than that of the best before it.
+pub fn bests_descend()
+    ensures { BestsDescend }
 {}
 
 /// An accepted log is closed exactly where its last entry is a lemma without atoms.

@@ -1,4 +1,5 @@
 pub mod Landing
+pub mod Laws
 pub mod LogBook
 pub mod LogParts
 pub mod Seats

@@ -3,6 +3,7 @@
 
 mod batches;
 mod judging;
+pub mod laws;
 mod logs;
 mod traders;
 

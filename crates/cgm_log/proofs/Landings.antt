@@ -1,11 +1,10 @@
 -- A proper batch stays accepted where it lands on the entries that were seen.
-use Rattle.std.proofs.Common.{◌≡◌, ℕ, ◌+◌, Bool, true, false, not, ◌||◌, List, [], ◌∷◌, ◌++◌, length, take, refl, sym, ap, subst, ◌∙◌, append_assoc, append-nil, arith}
+use Rattle.std.proofs.Common.{◌≡◌, ℕ, ◌+◌, Bool, true, false, not, ◌||◌, List, [], ◌∷◌, ◌++◌, length, refl, sym, ap, subst, ◌∙◌, append_assoc, append-nil, arith}
 use Rattle.std.specs.Prelude.{ℤ, IsTrue, IfSome, if◌then◌else◌}
 use Rattle.std.specs.declared.option.Option.{Option}
 use Rattle.std.specs.declared.option.Option.TheVariants.{Some, None}
 use Rattle.std.specs.List.{All, last_or}
 use Rattle.std.specs.Option.{option_map}
-use Rattle.std.proofs.lemmas.List.{take_all}
 use Rattle.std.proofs.lemmas.List.Elements.{All-head, All-tail}
 use Rattle.cgm_atom.specs.declared.entries.BadStep.{BadStep}
 use Rattle.cgm_atom.specs.declared.entries.BadStep.TheVariants as fault
@@ -22,10 +21,6 @@ use Rattle.cgm_atom.proofs.StateLemmas.{IsAccepted-push, best_values-append, las
 use Rattle.cgm_log.specs.declared.batches.Batch.{Batch}
 use Rattle.cgm_log.specs.declared.batches.Fate.TheVariants.{Behind, Kept}
 use Rattle.cgm_log.specs.Landing.{ClosesLast, IsLemmaOf, IsProperBatch, fate_after, kept_candidate, kept_entry}
-
--- who has seen as many entries as there are has seen them all
-pub proper_after_all : (p : Instance) (log : List Entry) (seen : ℕ) (b : Batch) → seen ≡ length log → IsProperBatch p (take seen log) b → IsProperBatch p log b
-proper_after_all p log seen b e h = subst (λ (xs : List Entry). IsProperBatch p xs b) (take_all seen log (omega arith)) h
 
 -- entries that are accepted one after another
 accepted_more : (p : Instance) (log more : List Entry) → IsAccepted p log → IsAcceptedAfter p (state_of log) more → IsAccepted p (log ++ more)

@@ -260,9 +260,9 @@ later_accepted p seen more done (Lemma maker clause hints bound ∷ rest) by non
     let nextt : state_with t (placed_entry n' e) ≡ state_of (later seen more (done ++ e ∷ [])) = state_push (seen ++ more) done n' e in (
       lemma_passes p s t maker clause (map (placed n) hints) (map (placed n') hints) bound accepted.0 still_open alike,
       subst (λ (x : LogState). IsAcceptedAfter p x (all_placed n' rest)) (sym nextt)
-      (later_accepted p seen more (done ++ e ∷ []) rest by (more_lemmas done maker clause hints bound none) (All-tail (IsLemmaOf by n) e rest all)
-      (λ h. subst (λ (x : LogState). IsTrue x.closed) nexts (either_later s.closed t.closed (is_empty_clause clause) closing (subst (λ (x : LogState). IsTrue x.closed) (sym nextt) h)))
-      (subst (λ (x : LogState). IsAcceptedAfter p x (all_placed n rest)) nexts accepted.1)),
+          (later_accepted p seen more (done ++ e ∷ []) rest by (more_lemmas done maker clause hints bound none) (All-tail (IsLemmaOf by n) e rest all)
+          (λ h. subst (λ (x : LogState). IsTrue x.closed) nexts (either_later s.closed t.closed (is_empty_clause clause) closing (subst (λ (x : LogState). IsTrue x.closed) (sym nextt) h)))
+          (subst (λ (x : LogState). IsAcceptedAfter p x (all_placed n rest)) nexts accepted.1)),
     )
 
 -- ---- the batch

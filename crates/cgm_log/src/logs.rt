@@ -104,15 +104,16 @@ impl Log {
         self.indexed().is_closed()
     }
 
-    /// Lands the batch of a worker that has seen the first `seen` entries.
+    /// Lands the batch of a worker that has seen the first `seen` entries. Others may have added
+    /// more since then, which are the answer's news.
     ///
     /// On a closed log nothing is added. Else the lemmas are added in their order, with `Own(i)` as
     /// the entry where lemma i lands, and then the candidate, if it is less than the last best or
     /// there is none. Without memory the log is as before.
     ///
-    /// Conditions: all entries were seen, and the batch is proper after them.
+    /// Condition: there are so many entries, and the batch is proper after them.
     pub fn trade(&mut self, seen: u64, batch: Batch) -> Result<Traded, Refund>
-        requires all_seen { seen ≡ length self.old.entries }
+        requires seen { seen ≤ length self.old.entries }
         requires proper { IsProperBatch self.old.problem (take seen self.old.entries) batch }
         ensures answer { IfOk result (λ t. IsAnswer self.old.problem self.old.entries batch t) }
         ensures news { IfOk result (λ t. news_of t ≡ drop seen self.old.entries) }

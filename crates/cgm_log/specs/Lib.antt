@@ -1,3 +1,4 @@
+pub mod Events
 pub mod Landing
 pub mod Laws
 pub mod LogBook

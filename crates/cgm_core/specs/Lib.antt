@@ -1,0 +1,3 @@
+pub mod CoreParts
+pub mod Laws
+pub mod Stops

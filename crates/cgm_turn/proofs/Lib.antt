@@ -1,0 +1,13 @@
+pub mod Closing
+pub mod CoreTrading
+pub mod Drawing
+pub mod Ending
+pub mod HandingOn
+pub mod Joining
+pub mod Keeping
+pub mod Ledgers
+pub mod Opening
+pub mod Passing
+pub mod Splitting
+pub mod Turning
+pub mod Waiting

@@ -1,0 +1,114 @@
+-- A split keeps the rule: the new pass has the next number, and has seen what the first has.
+use Rattle.std.proofs.Common.{◌≡◌, ℕ, zero, suc, ◌+◌, ◌-◌, ◌*◌, ◌%◌, ◌^◌, ◌≤◌, ◌<◌, ◌≢◌, Bool, true, false, List, [], ◌∷◌, ◌++◌, length, set, get_or, refl, sym, ap, subst, ◌∙◌, arith, length-set, get_or-set_same, length-append, eq-eqb, ne_eqb}
+use Rattle.std.specs.Prelude.{IfSome, IsSome, slice_index, slice_set, if◌then◌else◌, nat_le, ◌==◌}
+use Rattle.std.specs.declared.option.Option.{Option}
+use Rattle.std.specs.declared.option.Option.TheVariants.{Some, None}
+use mathlib.Core.Option.{some, some-injective}
+use mathlib.Core.Option as option
+use mathlib.Core.Logic.{dite}
+use native.Mathlib.Decide.{ℕ_discrete}
+use lib.ListN.{get_elem?}
+use Rattle.std.proofs.lemmas.List.{get_or-set_other, length_push}
+use Rattle.std.proofs.Math.Nat.{mod-eq_of_lt}
+use Rattle.atomic_table.specs.Table.{Allows, Joins, Splits, State, keeps, step}
+use Rattle.atomic_table.proofs.Lists.{at_longer, set_else, set_here}
+use Rattle.cgm_atom.specs.declared.entries.Entry.{Entry}
+use Rattle.cgm_log.specs.LogBook.{LogBook}
+use Rattle.cgm_turn.specs.declared.views.Joined.{Joined}
+use Rattle.cgm_turn.specs.declared.views.View.{View}
+use Rattle.cgm_turn.specs.Entries.{BeginsWith, made_by}
+use Rattle.cgm_turn.specs.Plays.{Draws, account, drawing, joining, longer, spent_view, split_off, splitting}
+use Rattle.cgm_turn.specs.Rule.{AreTicketsApart, IsAccountOf, IsLive, IsPaid, IsServed, IsSpent, IsTurnTable, KnowsTurn, KnowsTurnBy, Leads, NoneHolds, cost, living, total_of, view_weight}
+use Rattle.cgm_turn.specs.Views.{account_with}
+use Rattle.cgm_turn.proofs.Keeping.{apart_new, apart_same, apart_without, bound_of, known_live, leads_kept, live_if, rests}
+use Rattle.cgm_turn.proofs.Ledgers.{each_after, each_more, terms_le, total-more, total-same, total-set, within}
+
+longer_apart : (views : List View) (a : View) → a.ticket ≡ None → AreTicketsApart views → AreTicketsApart (views ++ a ∷ [])
+longer_apart views a none apart j k x y t at at' e e' =
+    each_more (λ (i : ℕ) (z : View). z.ticket ≡ Some t → i ≡ k) views a (λ some_ticket. absurd (cc))
+    (λ i z here some_ticket.
+    each_more (λ (i' : ℕ) (z' : View). z'.ticket ≡ Some t → i ≡ i') views a (λ some_ticket'. absurd (cc))
+    (λ i' z' here' some_ticket'. apart i i' z z' t here here' some_ticket some_ticket') k y at' e')
+    j x at e
+
+split_kept : (serving next : ℕ) (homes : List (option.Option (Option LogBook))) (views : List View) (id : ℕ) (v : View) → IsServed serving next homes views → get_elem? views id ≡ some v → v.is_spent ≡ false → v.number ≡ 0 → v.splits < 15
+    → IsServed serving next homes (set views id (splitting v) ++ split_off v ∷ [])
+split_kept serving next homes views id v g at lives number few_splits =
+    let a : View = splitting v in
+    let b : View = split_off v in
+    let all : List View = set views id a ++ b ∷ [] in
+    let live = live_if v.is_spent serving next g.log g.joined id v (g.each id v at) lives in
+    let here : id ≡ 0 = sym live.number ∙ number in
+    let place : get_elem? views 0 ≡ some v = ap (get_elem? views) (sym here) ∙ at in
+    let same : g.leads.first ≡ v = some-injective g.leads.first v (sym g.leads.place ∙ place) in
+    let splits : v.splits ≡ g.splits = ap (λ (x : View). x.splits) (sym same) ∙ g.leads.splits_is in
+    let out : v.out ≡ g.out = ap (λ (x : View). x.out) (sym same) ∙ g.leads.out_is in
+    let count : length all ≡ length views + 1 = length_push (set views id a) b ∙ ap (λ (n : ℕ). n + 1) (length-set views id a) in
+    let at_end : v.splits + 1 ≡ length (set views id a) = omega (arith, splits, g.given, length-set views id a) in
+    let fresh = g.later (length (set views id a)) (omega (arith, length-set views id a)) in
+    record {
+      log = g.log;
+      joined = g.joined;
+      out = g.out + 1;
+      splits = g.splits + 1;
+      slots = g.slots;
+      leads = record {
+        first = a;
+        place = at_longer (set views id a) (b ∷ []) 0 a (ap (get_elem? (set views id a)) (sym here) ∙ set_here views id a (within views id v at));
+        lives = lives;
+        joined_is = ap (λ (x : View). x.joined) (sym same) ∙ g.leads.joined_is;
+        out_is = ap (λ (n : ℕ). n + 1) out;
+        splits_is = ap (λ (n : ℕ). n + 1) splits;
+      };
+      given = omega (arith, count, g.given);
+      home = λ none.
+          g.home (λ j u there.
+          dite (ℕ_discrete j id)
+          (λ own.
+          ap (λ (x : View). x.held) (sym (some-injective v u (sym at ∙ ap (get_elem? views) (sym own) ∙ there)))
+          ∙ none id a (at_longer (set views id a) (b ∷ []) id a (set_here views id a (within views id v at))))
+          (λ elsewhere. none j u (at_longer (set views id a) (b ∷ []) j u (set_else views id j a elsewhere ∙ there))));
+      order = g.order;
+      each =
+          each_more (λ (j : ℕ) (u : View). KnowsTurn serving next g.log g.joined j u) (set views id a) b
+          (record {
+            number = at_end;
+            problem = live.problem;
+            seen = live.seen;
+            landed = fresh.0;
+            unjoined = fresh.1;
+            waits = tt;
+            cheap = omega arith;
+            holds = tt;
+          })
+          (each_after (λ (j : ℕ) (u : View). KnowsTurn serving next g.log g.joined j u) views id a
+          (known_live v.is_spent serving next g.log g.joined id a lives (record {
+            number = live.number;
+            problem = live.problem;
+            seen = live.seen;
+            landed = live.landed;
+            unjoined = live.unjoined;
+            waits = live.waits;
+            cheap = live.cheap;
+            holds = live.holds;
+          }))
+          (λ j u n there. g.each j u there));
+      apart = longer_apart (set views id a) b refl (apart_same views id v a at refl g.apart);
+      accounts = g.accounts;
+      later = λ x far. g.later x (omega (arith, count, far));
+      living = total-more living (set views id a) b ∙ ap (λ (n : ℕ). n + 1) (total-same living views id v a at refl ∙ g.living);
+      paid = record {
+        paid = omega (arith, total-more cost (set views id a) b, total-same cost views id v a at refl, g.paid.paid);
+        weights = omega (arith, total-more view_weight (set views id a) b, total-same view_weight views id v a at refl, g.paid.weights, count);
+        cheap =
+            each_more (λ (i : ℕ) (z : View). cost z ≤ z.weight * 2 ^ 59) (set views id a) b (omega arith)
+            (each_after (λ (i : ℕ) (z : View). cost z ≤ z.weight * 2 ^ 59) views id a (g.paid.cheap id v at) (λ j u n there. g.paid.cheap j u there));
+        few = omega (arith, count, g.given, splits, few_splits);
+      };
+    }
+
+pub splits_off : (id : ℕ) (v : View) → v.is_spent ≡ false → v.number ≡ 0 → v.splits < 15 → Splits IsTurnTable id v (splitting v) (split_off v)
+splits_off id v lives number few_splits s g at = record {
+  words = g.words;
+  served = split_kept (slice_index s.words 0) (slice_index s.words 1) s.homes s.views id v g.served at lives number few_splits;
+}

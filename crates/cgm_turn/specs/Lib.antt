@@ -1,0 +1,9 @@
+pub mod Entries
+pub mod Laws
+pub mod PassParts
+pub mod Passes
+pub mod Plays
+pub mod Rule
+pub mod TurnParts
+pub mod Turns
+pub mod Views

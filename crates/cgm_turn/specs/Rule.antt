@@ -1,0 +1,108 @@
+-- The rule of the table: what holds of its words, its slot and the views of all passes, between any two steps. Words are parameters of it, so that a further word is one more of them.
+use Rattle.std.specs.Prelude.{◌≡◌, Bool, true, false, ℕ, ◌+◌, ◌*◌, ◌^◌, ◌<◌, ◌≤◌, List, [], ◌∷◌, length, slice_index, cond, IfSome, IsSome, Option, Some, None}
+use mathlib.Core.Option.{some}
+use mathlib.Core.Option as option
+use lib.ListN.{get_elem?}
+use Rattle.atomic_table.specs.Table.{State}
+use Rattle.cgm_atom.specs.declared.entries.Entry.{Entry}
+use Rattle.cgm_log.specs.LogBook.{LogBook}
+use Rattle.cgm_turn.specs.declared.views.Joined.{Joined}
+use Rattle.cgm_turn.specs.declared.views.View.{View}
+use Rattle.cgm_turn.specs.Entries.{BeginsWith, made_by}
+use Rattle.cgm_turn.specs.Views.{account_with}
+
+-- the sum over a list
+abbrev pub total_of : {A : Type 0} → (A → ℕ) → List A → ℕ
+total_of g [] = 0
+total_of g (x ∷ xs) = g x + total_of g xs
+
+-- a pass that wasn't joined, of the log as it stands and the tickets that are served and next: its number is its place
+-- among the views, it was told a front of the log, what it landed is its entries there, and only whose ticket is served
+-- holds the log
+pub record IsLive (serving next : ℕ) (log : LogBook) (joined : List Joined) (j : ℕ) (v : View) : Type 0 where
+  pub number : v.number ≡ j
+  pub problem : v.problem ≡ log.problem
+  pub seen : BeginsWith log.entries v.seen
+  pub landed : made_by j log.entries ≡ v.landed
+  pub unjoined : account_with j joined ≡ None
+  pub waits : IfSome v.ticket (λ t. (serving ≤ t) × (t < next))
+  pub cheap : v.begun_by_joined + 2 ^ 59 ≤ v.weight * 2 ^ 59
+  pub holds : IfSome v.held (λ entries. (v.ticket ≡ Some serving) × (entries ≡ log.entries))
+
+-- one that was joined: the first pass keeps an account of it
+pub record IsSpent (joined : List Joined) (j : ℕ) (v : View) : Type 0 where
+  pub ticket : v.ticket ≡ None
+  pub held : v.held ≡ None
+  pub account : IsSome (account_with j joined)
+
+abbrev pub KnowsTurnBy : Bool → ℕ → ℕ → LogBook → List Joined → ℕ → View → Type 0
+KnowsTurnBy true serving next log joined j v = IsSpent joined j v
+KnowsTurnBy false serving next log joined j v = IsLive serving next log joined j v
+
+abbrev pub KnowsTurn : ℕ → ℕ → LogBook → List Joined → ℕ → View → Type 0
+KnowsTurn serving next log joined j v = KnowsTurnBy v.is_spent serving next log joined j v
+
+-- what is kept of a joined pass is what the log has of it
+pub record IsAccountOf (log : LogBook) (w : ℕ) (r : Joined) : Type 0 where
+  pub seen : BeginsWith log.entries r.seen
+  pub landed : made_by w log.entries ≡ r.landed
+
+abbrev pub living : View → ℕ
+living v = cond v.is_spent 0 1
+
+abbrev pub cost : View → ℕ
+cost v = v.begun + v.begun_by_joined
+
+abbrev pub view_weight : View → ℕ
+view_weight v = v.weight
+
+-- the first pass, with what it keeps of the joined ones and how many are out
+pub record Leads (views : List View) (joined : List Joined) (out splits : ℕ) : Type 0 where
+  pub first : View
+  pub place : get_elem? views 0 ≡ some first
+  pub lives : first.is_spent ≡ false
+  pub joined_is : first.joined ≡ joined
+  pub out_is : first.out ≡ out
+  pub splits_is : first.splits ≡ splits
+
+abbrev pub NoneHolds : List View → Type 0
+NoneHolds views = (j : ℕ) (v : View) → get_elem? views j ≡ some v → v.held ≡ None
+
+-- no two passes have one ticket
+abbrev pub AreTicketsApart : List View → Type 0
+AreTicketsApart views = (j k : ℕ) (v w : View) (t : ℕ) → get_elem? views j ≡ some v → get_elem? views k ≡ some w → v.ticket ≡ Some t → w.ticket ≡ Some t → j ≡ k
+
+-- no word wraps: the next ticket counts the trades that were begun, each pass began at most 2^59, and there are at most 16
+-- passes. A joined pass is one view that tells nothing, so a view carries the trades and the number of those joined to it
+pub record IsPaid (next : ℕ) (views : List View) : Type 0 where
+  pub paid : total_of cost views ≡ next
+  pub weights : total_of view_weight views ≡ length views
+  pub cheap : (j : ℕ) (v : View) → get_elem? views j ≡ some v → cost v ≤ v.weight * 2 ^ 59
+  pub few : length views ≤ 16
+
+-- the rule, of the ticket that is served, the next ticket, the slot and the views
+pub record IsServed (serving next : ℕ) (homes : List (option.Option (Option LogBook))) (views : List View) : Type 0 where
+  -- the log when it was last at home, what the first pass keeps of the joined ones, and how many are out
+  pub log : LogBook
+  pub joined : List Joined
+  pub out : ℕ
+  pub splits : ℕ
+  pub slots : length homes ≡ 1
+  -- the numbers of passes are given out in order
+  pub leads : Leads views joined out splits
+  pub given : length views ≡ splits + 1
+  -- the log is in the slot, unless a pass holds it
+  pub home : NoneHolds views → get_elem? homes 0 ≡ some (some (Some log))
+  pub order : serving ≤ next
+  pub each : (j : ℕ) (v : View) → get_elem? views j ≡ some v → KnowsTurn serving next log joined j v
+  pub apart : AreTicketsApart views
+  pub accounts : (w : ℕ) → IfSome (account_with w joined) (IsAccountOf log w)
+  -- numbers that weren't given out yet
+  pub later : (w : ℕ) → length views ≤ w → (made_by w log.entries ≡ []) × (account_with w joined ≡ None)
+  pub living : total_of living views ≡ out + 1
+  pub paid : IsPaid next views
+
+-- the rule, of a table with two words
+pub record IsTurnTable (s : State (Option LogBook) View) : Type 0 where
+  pub words : length s.words ≡ 2
+  pub served : IsServed (slice_index s.words 0) (slice_index s.words 1) s.homes s.views

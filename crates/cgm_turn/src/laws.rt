@@ -1,0 +1,8 @@
+//! Laws over the definitions of the turn. Each function does nothing: its contract is the law.
+ghost use Rattle.cgm_turn.specs.Laws.{TradesAreTheCores};
+
+/// A trade at the turn is the core's: in the state of the core whose log is what the pass had seen
+/// and the answer's news, the same trade is allowed, and leaves the log that the pass has seen then.
+pub fn trades_are_the_cores()
+    ensures { TradesAreTheCores }
+{}

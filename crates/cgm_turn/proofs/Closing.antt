@@ -16,7 +16,7 @@ use Rattle.cgm_atom.specs.declared.entries.Entry.{Entry}
 use Rattle.cgm_log.specs.LogBook.{LogBook}
 use Rattle.cgm_turn.specs.declared.views.Joined.{Joined}
 use Rattle.cgm_turn.specs.declared.views.View.{View}
-use Rattle.cgm_turn.specs.Entries.{BeginsWith, made_by}
+use Rattle.cgm_turn.specs.Entries.{AreOfLog, BeginsWith, made_by}
 use Rattle.cgm_turn.specs.Rule.{IsAccountOf, IsLive, IsServed, IsSpent, IsTurnTable, KnowsTurn, KnowsTurnBy, NoneHolds, living, total_of}
 use Rattle.cgm_turn.specs.Views.{IsLogAtEnd, account_with, landed_by, landed_of}
 use Rattle.cgm_turn.proofs.Keeping.{live_if, rests}
@@ -108,6 +108,7 @@ ends serving next homes views id v g at lives number rest out =
             of_joined (account_with w g.joined) w g.log (unjoined_made_none serving next homes views v g place lives only w other) (g.accounts w)
             ∙ ap (λ (xs : List Joined). option_map_or landed_of (account_with w xs) []) (sym joined_is)
             ∙ sym (passed (w == v.number) v.landed (option_map_or landed_of (account_with w v.joined) []) (ne_eqb w v.number (λ e. other (e ∙ number)))));
+        fronts = subst (λ (xs : List Joined). AreOfLog g.log.entries xs) (sym joined_is) g.fronts;
         seen_by_joined = λ w. subst (λ (xs : List Joined). IfSome (account_with w xs) (λ r. BeginsWith g.log.entries r.seen)) (sym joined_is) (seen_on (account_with w g.joined) w g.log (g.accounts w));
       },
     )

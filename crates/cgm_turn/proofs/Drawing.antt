@@ -84,6 +84,7 @@ draw_kept serving next homes views id v g at lives rest few_begun =
           (λ j u n there. other_knows u.is_spent serving next g.log g.joined j u (g.each j u there));
       apart = apart_new views id w next refl (λ j u there. new_to u.is_spent serving next g.log g.joined j u (g.each j u there)) g.apart;
       accounts = g.accounts;
+      fronts = g.fronts;
       later = λ x far. g.later x (omega (arith, length-set views id w, far));
       living = total-same living views id v w at refl ∙ g.living;
       paid = record {

@@ -27,7 +27,7 @@ Some-same : (x y : LogBook) → Some x ≡ Some y → x ≡ y
 Some-same x y e = cc
 
 pub end_of_pass : (table : TableId) (v : View) (log : LogBook) → IsLogAtEnd v log → IsLogAtClose (state_at table v) log
-end_of_pass table v log h = record { problem = h.problem; told = h.seen; own = h.made; told_to_joined = h.seen_by_joined }
+end_of_pass table v log h = record { problem = h.problem; told = h.seen; own = h.made; told_to_joined = h.seen_by_joined; fronts = h.fronts }
 
 pub taken_log : (xs : List (Option LogBook)) (x y : LogBook) → get_elem? xs 0 ≡ some (Some x) → get_elem? xs 0 ≡ some (Some y) → x ≡ y
 taken_log xs x y e f = Some-same x y (some-injective (Some x) (Some y) (sym e ∙ f))

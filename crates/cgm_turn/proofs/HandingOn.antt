@@ -19,12 +19,22 @@ use Rattle.cgm_atom.specs.declared.entries.Entry.{Entry}
 use Rattle.cgm_log.specs.LogBook.{LogBook}
 use Rattle.cgm_turn.specs.declared.views.Joined.{Joined}
 use Rattle.cgm_turn.specs.declared.views.View.{View}
-use Rattle.cgm_turn.specs.Entries.{BeginsWith, made_by, maker}
+use Rattle.cgm_turn.specs.Entries.{AreOfLog, BeginsWith, made_by, maker}
 use Rattle.cgm_turn.specs.Plays.{HandsBack, HandsOn, count_held, gone_home, handed_back, handed_on, put_back}
 use Rattle.cgm_turn.specs.Rule.{AreTicketsApart, IsAccountOf, IsLive, IsPaid, IsServed, IsSpent, IsTurnTable, KnowsTurn, KnowsTurnBy, Leads, NoneHolds, cost, living, total_of, view_weight}
 use Rattle.cgm_turn.specs.Views.{account_with}
 use Rattle.cgm_turn.proofs.Keeping.{accounts_on, apart_without, at_some, bound_of, known_again, leads_kept, live_if_held, other_knows, paid_kept}
 use Rattle.cgm_turn.proofs.Ledgers.{begins_longer, begins_self, each_after, others_add_none, own_add_all, total-same, within}
+
+-- ---- fronts of a longer log
+
+begins_on : (old new added front : List Entry) → new ≡ old ++ added → BeginsWith old front → BeginsWith new front
+begins_on old new added front e h = subst (λ (xs : List Entry). BeginsWith xs front) (sym e) (begins_longer old front added h)
+
+fronts_longer : (old new added : List Entry) (joined : List Joined) → new ≡ old ++ added → AreOfLog old joined → AreOfLog new joined
+fronts_longer old new added [] e h = tt
+fronts_longer old new added (r ∷ others) e h =
+    ((begins_on old new added r.seen e h.0.0, begins_on old new added r.before e h.0.1), fronts_longer old new added others e h.1)
 
 -- ---- the step
 
@@ -73,6 +83,7 @@ hand_on_kept serving next homes views id v log' old added g at held grown own pr
       apart = apart_without views id w refl g.apart;
       accounts = λ x.
           accounts_on (account_with x g.joined) x id log log' added (λ there same_number. there (subst (λ (n : ℕ). account_with n g.joined ≡ None) (sym same_number) live.unjoined)) longer own_here (g.accounts x);
+      fronts = fronts_longer log.entries log'.entries added g.joined longer g.fronts;
       later = λ x far.
           let past = g.later x (omega (arith, length-set views id w, far)) in
           let n : x ≢ id = λ e. omega (arith, e, far, length-set views id w, within views id v at) in

@@ -81,7 +81,7 @@ join_kept serving next homes views id v other w g at apart_ids at' lives number 
     let live = live_if v.is_spent serving next log g.joined id v (g.each id v at) lives in
     let live' = live_if w.is_spent serving next log g.joined other w (g.each other w at') lives' in
     let here : id ≡ 0 = sym live.number ∙ number in
-    let r : Joined = account w in
+    let r : Joined = account v w in
     let place : get_elem? views 0 ≡ some v = ap (get_elem? views) (sym here) ∙ at in
     let same : g.leads.first ≡ v = some-injective g.leads.first v (sym g.leads.place ∙ place) in
     let joined_is : v.joined ≡ g.joined = ap (λ (x : View). x.joined) (sym same) ∙ g.leads.joined_is in
@@ -146,6 +146,7 @@ join_kept serving next homes views id v other w g at apart_ids at' lives number 
       apart = apart_without one other spent_view refl (apart_same views id v a at refl g.apart);
       accounts = λ x.
           accounted log r g.joined x (record { seen = live'.seen; landed = subst (λ (n : ℕ). made_by n log.entries ≡ w.landed) (sym live'.number) live'.landed }) (g.accounts x);
+      fronts = ((live'.seen, live.seen), g.fronts);
       later = λ x far.
           let past = g.later x (omega (arith, count, far)) in
           (past.0, none_kept r g.joined x (λ e. omega (arith, e, live'.number, count, far, within views other w at')) past.1);

@@ -45,6 +45,7 @@ opens_served log none = let v : View = newcomer log.problem in record {
       }));
   apart = λ j k u w t e e' f f'. (only_place v j u e).0 ∙ sym (only_place v k w e').0;
   accounts = λ w. tt;
+  fronts = tt;
   later = λ w far. (ap (made_by w) none, refl);
   living = refl;
   paid = record {

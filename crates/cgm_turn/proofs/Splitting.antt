@@ -95,6 +95,7 @@ split_kept serving next homes views id v g at lives number few_splits =
           (λ j u n there. g.each j u there));
       apart = longer_apart (set views id a) b refl (apart_same views id v a at refl g.apart);
       accounts = g.accounts;
+      fronts = g.fronts;
       later = λ x far. g.later x (omega (arith, count, far));
       living = total-more living (set views id a) b ∙ ap (λ (n : ℕ). n + 1) (total-same living views id v a at refl ∙ g.living);
       paid = record {

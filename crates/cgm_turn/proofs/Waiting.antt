@@ -67,6 +67,7 @@ take_kept serving next homes views id v g at mine =
           (λ j u n there. g.each j u there);
       apart = apart_same views id v w at refl g.apart;
       accounts = g.accounts;
+      fronts = g.fronts;
       later = λ x far. g.later x (omega (arith, length-set views id w, far));
       living = total-same living views id v w at refl ∙ g.living;
       paid = paid_kept next views id v w at refl refl g.paid;

@@ -12,7 +12,7 @@ use Rattle.cgm_log.specs.LogBook.{LogBook}
 use Rattle.cgm_log.specs.Seats.{Seat}
 use Rattle.cgm_log.specs.Trading.{IsAnswer, news_of}
 use Rattle.cgm_turn.specs.declared.views.Joined.{Joined}
-use Rattle.cgm_turn.specs.Entries.{BeginsWith, made_by}
+use Rattle.cgm_turn.specs.Entries.{AreOfLog, BeginsWith, made_by}
 use Rattle.cgm_turn.specs.Plays.{longer}
 use Rattle.cgm_turn.specs.Views.{account_with, landed_of}
 
@@ -72,13 +72,13 @@ beginner table p = record { table = table; problem = p; number = 0; told = []; o
 abbrev pub split_pass : PassState → PassState
 split_pass first = record { table = first.table; problem = first.problem; number = first.splits + 1; told = first.told; own = []; trades = 0; splits = 0; out = 0; joined = [] }
 
--- what the first pass keeps of one that is joined to it
-abbrev pub account_of : PassState → Joined
-account_of other = record { number = other.number; seen = other.told; landed = other.own }
+-- what the first pass keeps of one that is joined to it: what it had seen and landed, and what the first had seen then
+abbrev pub account_of : PassState → PassState → Joined
+account_of first other = record { number = other.number; seen = other.told; before = first.told; landed = other.own }
 
 -- the first pass, which has seen the longer of both, and keeps what the other had seen and landed
 abbrev pub joined_pass : PassState → PassState → PassState
-joined_pass first other = record first { told = longer first.told other.told; out = first.out - 1; joined = account_of other ∷ first.joined }
+joined_pass first other = record first { told = longer first.told other.told; out = first.out - 1; joined = account_of first other ∷ first.joined }
 
 -- what pass w landed, as the first pass knows it
 abbrev pub own_of : PassState → ℕ → List Entry
@@ -91,3 +91,4 @@ pub record IsLogAtClose (first : PassState) (log : LogBook) : Type 0 where
   pub told : BeginsWith log.entries first.told
   pub own : (w : ℕ) → made_by w log.entries ≡ own_of first w
   pub told_to_joined : (w : ℕ) → IfSome (account_with w first.joined) (λ r. BeginsWith log.entries r.seen)
+  pub fronts : AreOfLog log.entries first.joined

@@ -102,8 +102,9 @@ split_off v =
 abbrev pub longer : List Entry → List Entry → List Entry
 longer xs ys = if nat_le (length xs) (length ys) then ys else xs
 
-abbrev pub account : View → Joined
-account w = record { number = w.number; seen = w.seen; landed = w.landed }
+-- what the first pass keeps of one that is joined to it
+abbrev pub account : View → View → Joined
+account v w = record { number = w.number; seen = w.seen; before = v.seen; landed = w.landed }
 
 abbrev pub joining : View → View → View
 joining v w =
@@ -112,7 +113,7 @@ joining v w =
       begun_by_joined = v.begun_by_joined + (w.begun + w.begun_by_joined);
       weight = v.weight + w.weight;
       out = v.out - 1;
-      joined = account w ∷ v.joined;
+      joined = account v w ∷ v.joined;
     }
 
 abbrev pub no_problem : Instance

@@ -8,7 +8,7 @@ use Rattle.cgm_atom.specs.declared.entries.Entry.{Entry}
 use Rattle.cgm_log.specs.LogBook.{LogBook}
 use Rattle.cgm_turn.specs.declared.views.Joined.{Joined}
 use Rattle.cgm_turn.specs.declared.views.View.{View}
-use Rattle.cgm_turn.specs.Entries.{BeginsWith, made_by}
+use Rattle.cgm_turn.specs.Entries.{AreOfLog, BeginsWith, made_by}
 use Rattle.cgm_turn.specs.Views.{account_with}
 
 -- the sum over a list
@@ -97,6 +97,7 @@ pub record IsServed (serving next : ℕ) (homes : List (option.Option (Option Lo
   pub each : (j : ℕ) (v : View) → get_elem? views j ≡ some v → KnowsTurn serving next log joined j v
   pub apart : AreTicketsApart views
   pub accounts : (w : ℕ) → IfSome (account_with w joined) (IsAccountOf log w)
+  pub fronts : AreOfLog log.entries joined
   -- numbers that weren't given out yet
   pub later : (w : ℕ) → length views ≤ w → (made_by w log.entries ≡ []) × (account_with w joined ≡ None)
   pub living : total_of living views ≡ out + 1

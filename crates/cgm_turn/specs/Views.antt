@@ -8,7 +8,7 @@ use Rattle.cgm_atom.specs.Instance.{Instance}
 use Rattle.cgm_log.specs.LogBook.{LogBook}
 use Rattle.cgm_turn.specs.declared.views.Joined.{Joined}
 use Rattle.cgm_turn.specs.declared.views.View.{View}
-use Rattle.cgm_turn.specs.Entries.{BeginsWith, made_by, maker}
+use Rattle.cgm_turn.specs.Entries.{AreOfLog, BeginsWith, made_by, maker}
 
 -- the first pass, before all splits
 abbrev pub newcomer : Instance → View
@@ -59,6 +59,7 @@ pub record IsLogAtEnd (v : View) (log : LogBook) : Type 0 where
   pub seen : BeginsWith log.entries v.seen
   pub made : (w : ℕ) → made_by w log.entries ≡ landed_by v w
   pub seen_by_joined : (w : ℕ) → IfSome (account_with w v.joined) (λ r. BeginsWith log.entries r.seen)
+  pub fronts : AreOfLog log.entries v.joined
 
 -- the seat took the log out of the slot, and it goes back as it was found
 pub record HasTurnUnused (me : Me (Option LogBook) View) (log : LogBook) : Type 0 where

@@ -9,6 +9,8 @@ use std::snapshot::Snapshot;
 pub struct Joined {
     pub number: u64,
     pub seen: Seq<Entry>,
+    /// What the first had seen when it was joined.
+    pub before: Seq<Entry>,
     pub landed: Seq<Entry>,
 }
 

@@ -1,6 +1,6 @@
 // Cases: the problem of each, and what is done with it.
 use crate::problems::{discard, problem_of};
-use crate::{lessons, narrowing, runs, trails, values, verdicts};
+use crate::{histories, lessons, narrowing, runs, trails, values, verdicts};
 use cgm_atom::Problem;
 use std::alloc::Global;
 use std::process::Abort;
@@ -9,6 +9,7 @@ use std::test::Fail;
 /// What a case does with its problem: the statements are those of the module.
 #[derive(Clone, Copy)]
 pub(crate) enum Driver {
+    Histories,
     Narrowing,
     Lessons,
     Runs,
@@ -48,6 +49,7 @@ fn failing_over<'t>(
     text: &'t str,
 ) -> Result<Option<&'t str>, Fail> {
     match driver {
+        Driver::Histories => histories::failing(alloc, problem, text),
         Driver::Narrowing => narrowing::failing(alloc, problem, text),
         Driver::Trails => trails::failing(alloc, problem, text),
         Driver::Values => values::failing(alloc, problem, text),

@@ -1,5 +1,5 @@
 //! Worked examples over problems: values, boxes, the checker, certificates, trails, propagation, orders,
-//! what conflicts teach, trades and whole runs, as tests.
+//! what conflicts teach, trades, histories of several workers, turns and whole runs, as tests.
 #![tactic(auto)]
 
 #[cfg(test)]
@@ -12,6 +12,10 @@ mod choices;
 mod drivers;
 #[cfg(test)]
 mod given;
+#[cfg(test)]
+mod histories;
+#[cfg(test)]
+mod history_rows;
 #[cfg(test)]
 mod lesson_rows;
 #[cfg(test)]
@@ -38,6 +42,10 @@ mod trades;
 mod trail_rows;
 #[cfg(test)]
 mod trails;
+#[cfg(test)]
+mod turn_rows;
+#[cfg(test)]
+mod turns;
 #[cfg(test)]
 mod value_rows;
 #[cfg(test)]

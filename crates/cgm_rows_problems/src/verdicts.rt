@@ -35,7 +35,7 @@ fn entries_of(alloc: Global, text: &str) -> Result<Vec<Entry>, Fail> {
 fn push_entry(alloc: Global, entries: &mut Vec<Entry>, statement: &str) -> Result<(), Fail> {
     match parted(statement) {
         ("best", values) => entries.push(best(numbers(alloc, values)?))?,
-        ("lemma", words) => entries.push(lemma(alloc, words)?)?,
+        ("lemma", words) => entries.push(lemma(alloc, 0, words)?)?,
         _ => {}
     }
     Ok(())
@@ -48,13 +48,14 @@ fn best(values: Vec<i64>) -> Entry {
     }
 }
 
-fn lemma(alloc: Global, words: &str) -> Result<Entry, Fail> {
+/// A worker's lemma: a bound, atoms, `:` and hints.
+pub(crate) fn lemma(alloc: Global, worker: u32, words: &str) -> Result<Entry, Fail> {
     let (bound, rest) = parted(words);
     let bound = count(bound);
     match rest.split_once(':') {
         None => Err(Fail::new("no lemma")),
         Some((wanted, named)) => Ok(Entry::Lemma {
-            by: 0,
+            by: worker,
             clause: Clause {
                 atoms: Seq::of(atoms(alloc, wanted)?),
             },

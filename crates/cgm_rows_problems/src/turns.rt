@@ -1,0 +1,133 @@
+// Passes of a turn, on one thread. Each offers a candidate, which lands in its next turn.
+ghost use Rattle.std.specs.Prelude.{◌≡◌, ◌+◌, ◌^◌, ◌<◌, IsTrue, IfOk};
+ghost use Rattle.cgm_atom.specs.Instance.{IsSolution};
+ghost use Rattle.cgm_turn.specs.Passes.{IsPassOf, IsSamePass};
+
+use cgm_atom::{Entry, MAX_WORKERS, Problem, Seq, satisfied};
+use cgm_log::{Batch, Fate, Log, MAX_TRADES, Traded};
+use cgm_turn::{Pass, Turn};
+use std::alloc::Global;
+use std::sync::Wait;
+use std::test::Fail;
+
+/// The values, which have to be a solution.
+pub(crate) fn solution(alloc: Global, problem: &Problem, values: &[i64]) -> Result<Vec<i64>, Fail>
+    ensures { IfOk result (λ v. IsSolution problem.now v.items) }
+{
+    if !satisfied(problem, values) {
+        return Err(Fail::new("no solution"));
+    }
+    Ok(Vec::from_slice(alloc, values)?)
+}
+
+/// Whether a pass may trade: its number is a worker's, and it has trades left.
+fn may_trade(pass: &Pass) -> bool
+    ensures { IsTrue result → (pass.now.number < 16) × (pass.now.trades < 2 ^ 59) }
+{
+    if pass.number() >= MAX_WORKERS {
+        return false;
+    }
+    pass.trades() < MAX_TRADES
+}
+
+/// Trades a candidate by a pass.
+pub(crate) fn offer<R: Wait>(
+    rt: &R,
+    alloc: Global,
+    turn: &Turn,
+    pass: &mut Pass,
+    values: Vec<i64>,
+) -> Result<Traded, Fail>
+    requires own { IsPassOf turn.now pass.old }
+    requires solution { IsSolution pass.old.problem values.items }
+    ensures own { IsPassOf turn.now pass.new }
+    ensures same { IsSamePass pass.old pass.new }
+{
+    if !may_trade(pass) {
+        return Err(Fail::new("no trade left"));
+    }
+    let batch = Batch {
+        by: pass.number(),
+        lemmas: Seq::of(Vec::new(alloc)),
+        candidate: Some(Seq::of(values)),
+    };
+    match turn.trade(rt, pass, batch) {
+        Ok(traded) => Ok(traded),
+        Err(_) => Err(Fail::new("no memory")),
+    }
+}
+
+/// Whether a candidate was kept with this ordinal, at this place, and so many entries were news.
+pub(crate) fn is_kept(traded: &Traded, ordinal: u64, place: u64, told: usize) -> bool {
+    match traded {
+        Traded::Closed { .. } => false,
+        Traded::Landed { news, first, fate } => {
+            *first == place && news.as_slice().len() == told && has_ordinal(fate, ordinal)
+        }
+    }
+}
+
+fn has_ordinal(fate: &Option<Fate>, wanted: u64) -> bool {
+    match fate {
+        Some(Fate::Kept { ordinal }) => *ordinal == wanted,
+        _ => false,
+    }
+}
+
+/// Whether a candidate is behind the best with this ordinal and these values, and so many entries were
+/// news.
+pub(crate) fn is_behind(traded: &Traded, wanted: u64, best: &[i64], told: usize) -> bool {
+    match traded {
+        Traded::Closed { .. } => false,
+        Traded::Landed { news, fate, .. } => {
+            news.as_slice().len() == told && has_best(fate, wanted, best)
+        }
+    }
+}
+
+fn has_best(fate: &Option<Fate>, wanted: u64, best: &[i64]) -> bool {
+    match fate {
+        Some(Fate::Behind { ordinal, values }) => {
+            *ordinal == wanted && values.as_slice() == best
+        }
+        _ => false,
+    }
+}
+
+/// Whether a log has one entry, the best of this worker with these values.
+pub(crate) fn is_one_best(log: &Log, worker: u32, wanted: &[i64]) -> bool {
+    match log.entries() {
+        [Entry::Best { by, values }] => *by == worker && values.as_slice() == wanted,
+        _ => false,
+    }
+}
+
+/// Splits off the pass with this number and, while it is out, all further ones; each offers a candidate
+/// that is one better, the last one first. Whether each was kept at its place.
+pub(crate) fn nest<R: Wait>(
+    rt: &R,
+    alloc: Global,
+    problem: &Problem,
+    turn: &Turn,
+    first: &mut Pass,
+    number: u32,
+) -> Result<bool, Fail>
+    requires own { IsPassOf turn.now first.old }
+    requires problem { turn.now.problem ≡ problem.now }
+    requires first { first.old.number ≡ 0 }
+    requires number { first.old.splits + 1 ≡ number }
+    requires workers { turn.now.workers ≡ 16 }
+    ensures own { IsPassOf turn.now first.new }
+    ensures first { first.new.number ≡ 0 }
+{
+    if number >= MAX_WORKERS {
+        return Ok(true);
+    }
+    let mut other = turn.split(first);
+    let later = nest(rt, alloc, problem, turn, first, number + 1)?;
+    let values = solution(alloc, problem, &[i64::from(number)])?;
+    let traded = offer(rt, alloc, turn, &mut other, values)?;
+    turn.join(first, other);
+    let ordinal = u64::from(MAX_WORKERS - number);
+    Ok(later && is_kept(&traded, ordinal, ordinal, ordinal as usize - 1))
+}

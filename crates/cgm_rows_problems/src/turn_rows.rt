@@ -1,10 +1,8 @@
 // Turns: passes that trade one after another on one thread, and the log at the close.
-use crate::problems::problem_of;
-use crate::turns::{is_behind, is_kept, is_one_best, nest, offer, solution};
+use crate::turns::{is_behind, is_kept, is_one_best, nest, offer, opened};
 use cgm_atom::Entry;
-use cgm_log::Log;
 use cgm_search::{IdleGate, Plan, Stopped, Worker};
-use cgm_turn::{Seated, Turn};
+use cgm_turn::Seated;
 use std::alloc::Global;
 use std::sync::Wait;
 use std::test::Fail;
@@ -15,24 +13,10 @@ const ONE: &str = "vars 0..1 0..1; row 1*1 -1*0 >= 0; row -1*1 1*0 >= 0; objecti
 /// Whether pass 0 keeps its candidate, pass 1, which has seen nothing, is told of it and is behind it,
 /// and the log at the close has that one entry.
 fn are_two<R: Wait>(rt: &R, alloc: Global) -> Result<bool, Fail> {
-    let problem = problem_of(alloc, ONE)?;
-    let log = Log::new(alloc, problem.copy(alloc)?);
-    let (turn, mut first) = Turn::new(alloc, log, 2)?;
+    let (problem, turn, mut first) = opened(alloc, ONE, 2)?;
     let mut second = turn.split(&mut first);
-    let kept = offer(
-        rt,
-        alloc,
-        &turn,
-        &mut first,
-        solution(alloc, &problem, &[0, 0])?,
-    )?;
-    let behind = offer(
-        rt,
-        alloc,
-        &turn,
-        &mut second,
-        solution(alloc, &problem, &[1, 1])?,
-    )?;
+    let kept = offer(rt, alloc, &problem, &turn, &mut first, &[0, 0])?;
+    let behind = offer(rt, alloc, &problem, &turn, &mut second, &[1, 1])?;
     turn.join(&mut first, second);
     if first.out() != 0 {
         return Ok(false);
@@ -48,17 +32,9 @@ fn are_two<R: Wait>(rt: &R, alloc: Global) -> Result<bool, Fail> {
 /// Whether sixteen passes are out at once, the first among them, each is told all that came before it,
 /// and the log at the close has a best of each.
 fn are_sixteen<R: Wait>(rt: &R, alloc: Global) -> Result<bool, Fail> {
-    let problem = problem_of(alloc, "vars 0..20; objectives 0")?;
-    let log = Log::new(alloc, problem.copy(alloc)?);
-    let (turn, mut first) = Turn::new(alloc, log, 16)?;
+    let (problem, turn, mut first) = opened(alloc, "vars 0..20; objectives 0", 16)?;
     let others = nest(rt, alloc, &problem, &turn, &mut first, 1)?;
-    let last = offer(
-        rt,
-        alloc,
-        &turn,
-        &mut first,
-        solution(alloc, &problem, &[0])?,
-    )?;
+    let last = offer(rt, alloc, &problem, &turn, &mut first, &[0])?;
     if first.out() != 0 {
         return Ok(false);
     }
@@ -85,17 +61,14 @@ fn is_best_of(entry: &Entry, worker: usize) -> bool {
 
 /// Whether a pass that has seen nothing closes a log without entries.
 fn is_unused(alloc: Global) -> Result<bool, Fail> {
-    let log = Log::new(alloc, problem_of(alloc, ONE)?);
-    let (turn, first) = Turn::new(alloc, log, 1)?;
+    let (_, turn, first) = opened(alloc, ONE, 1)?;
     let log = turn.close(first);
     Ok(log.entries().is_empty())
 }
 
 /// Whether one worker at a turn finds the least solution.
 fn has_searched<R: Wait>(rt: &R, alloc: Global) -> Result<bool, Fail> {
-    let problem = problem_of(alloc, ONE)?;
-    let log = Log::new(alloc, problem.copy(alloc)?);
-    let (turn, first) = Turn::new(alloc, log, 1)?;
+    let (problem, turn, first) = opened(alloc, ONE, 1)?;
     let plan = Plan {
         budget: 1_000,
         restarts: 10,

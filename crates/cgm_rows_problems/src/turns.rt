@@ -1,8 +1,8 @@
 // Passes of a turn, on one thread. Each offers a candidate, which lands in its next turn.
-ghost use Rattle.std.specs.Prelude.{◌≡◌, ◌+◌, ◌^◌, ◌<◌, IsTrue, IfOk};
-ghost use Rattle.cgm_atom.specs.Instance.{IsSolution};
-ghost use Rattle.cgm_turn.specs.Passes.{IsPassOf, IsSamePass};
+ghost use Rattle.std.specs.Prelude.{◌≡◌, ◌+◌, ◌^◌, ◌<◌, ◌≤◌, IsTrue, IfOk};
+ghost use Rattle.cgm_turn.specs.Passes.{IsPassOf, IsSamePass, beginner};
 
+use crate::problems::problem_of;
 use cgm_atom::{Entry, MAX_WORKERS, Problem, Seq, satisfied};
 use cgm_log::{Batch, Fate, Log, MAX_TRADES, Traded};
 use cgm_turn::{Pass, Turn};
@@ -10,14 +10,17 @@ use std::alloc::Global;
 use std::sync::Wait;
 use std::test::Fail;
 
-/// The values, which have to be a solution.
-pub(crate) fn solution(alloc: Global, problem: &Problem, values: &[i64]) -> Result<Vec<i64>, Fail>
-    ensures { IfOk result (λ v. IsSolution problem.now v.items) }
+/// The problem of a text, the turn of its log for so many workers, and the first pass.
+pub(crate) fn opened(alloc: Global, text: &str, workers: u32) -> Result<(Problem, Turn, Pass), Fail>
+    requires { (1 ≤ workers) × (workers ≤ 16) }
+    ensures own { IfOk result (λ t. IsPassOf t.1 t.2) }
+    ensures turn { IfOk result (λ t. (t.1.problem ≡ t.0) × (t.1.workers ≡ workers)) }
+    ensures first { IfOk result (λ t. t.2 ≡ beginner t.2.table t.0) }
 {
-    if !satisfied(problem, values) {
-        return Err(Fail::new("no solution"));
-    }
-    Ok(Vec::from_slice(alloc, values)?)
+    let problem = problem_of(alloc, text)?;
+    let log = Log::new(alloc, problem.copy(alloc)?);
+    let (turn, first) = Turn::new(alloc, log, workers)?;
+    Ok((problem, turn, first))
 }
 
 /// Whether a pass may trade: its number is a worker's, and it has trades left.
@@ -30,26 +33,30 @@ fn may_trade(pass: &Pass) -> bool
     pass.trades() < MAX_TRADES
 }
 
-/// Trades a candidate by a pass.
+/// Trades a candidate by a pass. It has to be a solution.
 pub(crate) fn offer<R: Wait>(
     rt: &R,
     alloc: Global,
+    problem: &Problem,
     turn: &Turn,
     pass: &mut Pass,
-    values: Vec<i64>,
+    values: &[i64],
 ) -> Result<Traded, Fail>
     requires own { IsPassOf turn.now pass.old }
-    requires solution { IsSolution pass.old.problem values.items }
+    requires problem { turn.now.problem ≡ problem.now }
     ensures own { IsPassOf turn.now pass.new }
     ensures same { IsSamePass pass.old pass.new }
 {
+    if !satisfied(problem, values) {
+        return Err(Fail::new("no solution"));
+    }
     if !may_trade(pass) {
         return Err(Fail::new("no trade left"));
     }
     let batch = Batch {
         by: pass.number(),
         lemmas: Seq::of(Vec::new(alloc)),
-        candidate: Some(Seq::of(values)),
+        candidate: Some(Seq::of(Vec::from_slice(alloc, values)?)),
     };
     match turn.trade(rt, pass, batch) {
         Ok(traded) => Ok(traded),
@@ -125,8 +132,8 @@ pub(crate) fn nest<R: Wait>(
     }
     let mut other = turn.split(first);
     let later = nest(rt, alloc, problem, turn, first, number + 1)?;
-    let values = solution(alloc, problem, &[i64::from(number)])?;
-    let traded = offer(rt, alloc, turn, &mut other, values)?;
+    let values = [i64::from(number)];
+    let traded = offer(rt, alloc, problem, turn, &mut other, &values)?;
     turn.join(first, other);
     let ordinal = u64::from(MAX_WORKERS - number);
     Ok(later && is_kept(&traded, ordinal, ordinal, ordinal as usize - 1))

@@ -68,6 +68,10 @@ pub record IsTradeOf (old : PassState) (b : Batch) (r : Result Traded Refund) (n
 abbrev pub beginner : TableId → Instance → PassState
 beginner table p = record { table = table; problem = p; number = 0; told = []; own = []; trades = 0; splits = 0; out = 0; joined = [] }
 
+-- the first pass after a split
+abbrev pub first_after_split : PassState → PassState
+first_after_split first = record first { splits = first.splits + 1; out = first.out + 1 }
+
 -- a pass that is split off from the first
 abbrev pub split_pass : PassState → PassState
 split_pass first = record { table = first.table; problem = first.problem; number = first.splits + 1; told = first.told; own = []; trades = 0; splits = 0; out = 0; joined = [] }

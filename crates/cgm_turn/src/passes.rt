@@ -6,7 +6,7 @@ ghost use lib.ListN.{get_elem?};
 ghost use Rattle.cgm_atom.specs.Acceptance.{IsAccepted};
 ghost use Rattle.cgm_log.specs.Landing.{IsProperBatch};
 ghost use Rattle.cgm_log.specs.LogBook.{LogBook};
-ghost use Rattle.cgm_turn.specs.Passes.{IsLogAtClose, IsPassOf, IsTradeOf, beginner, joined_pass, split_pass};
+ghost use Rattle.cgm_turn.specs.Passes.{IsLogAtClose, IsPassOf, IsTradeOf, beginner, first_after_split, joined_pass, split_pass};
 
 use crate::moves::{Place, draw_ticket, join_seat, split_seat, trade_in_turn, wait};
 use crate::views::{Served, View};
@@ -132,10 +132,7 @@ impl Turn {
         requires own { IsPassOf self.now first.old }
         requires first { first.old.number ≡ 0 }
         requires few { first.old.splits + 1 < self.now.workers }
-        ensures first { first.new ≡ record first.old {
-          splits = first.old.splits + 1;
-          out = first.old.out + 1;
-        } }
+        ensures first { first.new ≡ first_after_split first.old }
         ensures other { result ≡ split_pass first.old }
     {
         let seat = split_seat(&self.table.shared, &mut first.seat);

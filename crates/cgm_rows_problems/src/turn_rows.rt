@@ -81,7 +81,7 @@ fn has_searched<R: Wait>(rt: &R, alloc: Global) -> Result<bool, Fail> {
 }
 
 /// Whether a worker's run ends with a closed log, of which its pass has seen a best and its end.
-fn is_final<R: Wait>(mut worker: Worker<Seated<'_, R>>) -> bool {
+fn is_final<'t, R: Wait>(mut worker: Worker<Seated<'t, R>>) -> bool {
     let stopped = worker.run(&IdleGate);
     let (seated, _) = worker.into_parts();
     stopped == Stopped::Final && seated.into_pass().seen() >= 2

@@ -65,11 +65,11 @@ pub(crate) fn offer<R: Wait>(
 }
 
 /// Whether a candidate was kept with this ordinal, at this place, and so many entries were news.
-pub(crate) fn is_kept(traded: &Traded, ordinal: u64, place: u64, told: usize) -> bool {
+pub(crate) fn is_kept(traded: &Traded, ordinal: u64, place: u64, told: u64) -> bool {
     match traded {
         Traded::Closed { .. } => false,
         Traded::Landed { news, first, fate } => {
-            *first == place && news.as_slice().len() == told && has_ordinal(fate, ordinal)
+            *first == place && news.as_slice().len() as u64 == told && has_ordinal(fate, ordinal)
         }
     }
 }
@@ -83,11 +83,11 @@ fn has_ordinal(fate: &Option<Fate>, wanted: u64) -> bool {
 
 /// Whether a candidate is behind the best with this ordinal and these values, and so many entries were
 /// news.
-pub(crate) fn is_behind(traded: &Traded, wanted: u64, best: &[i64], told: usize) -> bool {
+pub(crate) fn is_behind(traded: &Traded, wanted: u64, best: &[i64], told: u64) -> bool {
     match traded {
         Traded::Closed { .. } => false,
         Traded::Landed { news, fate, .. } => {
-            news.as_slice().len() == told && has_best(fate, wanted, best)
+            news.as_slice().len() as u64 == told && has_best(fate, wanted, best)
         }
     }
 }
@@ -103,9 +103,16 @@ fn has_best(fate: &Option<Fate>, wanted: u64, best: &[i64]) -> bool {
 
 /// Whether a log has one entry, the best of this worker with these values.
 pub(crate) fn is_one_best(log: &Log, worker: u32, wanted: &[i64]) -> bool {
-    match log.entries() {
-        [Entry::Best { by, values }] => *by == worker && values.as_slice() == wanted,
-        _ => false,
+    match log.entries().split_first() {
+        None => false,
+        Some((entry, rest)) => rest.is_empty() && is_best(entry, worker, wanted),
+    }
+}
+
+fn is_best(entry: &Entry, worker: u32, wanted: &[i64]) -> bool {
+    match entry {
+        Entry::Best { by, values } => *by == worker && values.as_slice() == wanted,
+        Entry::Lemma { .. } => false,
     }
 }
 
@@ -135,6 +142,6 @@ pub(crate) fn nest<R: Wait>(
     let values = [i64::from(number)];
     let traded = offer(rt, alloc, problem, turn, &mut other, &values)?;
     turn.join(first, other);
-    let ordinal = u64::from(MAX_WORKERS - number);
-    Ok(later && is_kept(&traded, ordinal, ordinal, ordinal as usize - 1))
+    let before = u64::from(15 - number);
+    Ok(later && is_kept(&traded, before + 1, before + 1, before))
 }

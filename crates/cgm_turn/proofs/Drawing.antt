@@ -18,7 +18,7 @@ use Rattle.cgm_turn.specs.declared.views.Joined.{Joined}
 use Rattle.cgm_turn.specs.declared.views.View.{View}
 use Rattle.cgm_turn.specs.Entries.{BeginsWith, made_by}
 use Rattle.cgm_turn.specs.Plays.{Draws, account, drawing, joining, longer, spent_view, split_off, splitting}
-use Rattle.cgm_turn.specs.Rule.{AreTicketsApart, IsAccountOf, IsLive, IsPaid, IsServed, IsSpent, IsTurnTable, KnowsTurn, KnowsTurnBy, Leads, NoneHolds, cost, living, total_of, view_weight}
+use Rattle.cgm_turn.specs.Rule.{AreTicketsApart, IsAccountOf, IsAway, IsLive, IsPaid, IsServed, IsSpent, IsTurnTable, KnowsTurn, KnowsTurnBy, Leads, NoneHolds, cost, count_ticket, living, tickets_of, total_of, view_weight}
 use Rattle.cgm_turn.specs.Views.{account_with}
 use Rattle.cgm_turn.proofs.Keeping.{apart_new, apart_same, apart_without, bound_of, known_live, leads_kept, live_if, rests}
 use Rattle.cgm_turn.proofs.Ledgers.{each_after, each_more, terms_le, total-more, total-same, total-set, within}
@@ -55,6 +55,9 @@ draw_kept serving next homes views id v g at lives rest few_begun =
     let live = live_if v.is_spent serving next g.log g.joined id v (g.each id v at) lives in
     let held : v.held ≡ None = rests v.held v.ticket serving g.log rest live.holds in
     let costs = total-set cost views id v w at in
+    let tickets = total-set tickets_of views id v w at in
+    let none_before : tickets_of v ≡ 0 = ap count_ticket rest in
+    let one_then : tickets_of w ≡ 1 = refl in
     record {
       log = g.log;
       joined = g.joined;
@@ -68,7 +71,9 @@ draw_kept serving next homes views id v g at lives rest few_begun =
           dite (ℕ_discrete j id)
           (λ here. ap (λ (x : View). x.held) (sym (some-injective v u (sym at ∙ ap (get_elem? views) (sym here) ∙ there))) ∙ held)
           (λ elsewhere. none j u (set_else views id j w elsewhere ∙ there)));
+      away = each_after (λ (j : ℕ) (u : View). IsAway homes u) views id w (g.away id v at) (λ j u n there. g.away j u there);
       order = omega (arith, g.order);
+      drawn = omega (arith, tickets, none_before, one_then, g.drawn);
       each =
           each_after (λ (j : ℕ) (u : View). KnowsTurn serving (next + 1) g.log g.joined j u) views id w
           (known_live v.is_spent serving (next + 1) g.log g.joined id w lives (record {

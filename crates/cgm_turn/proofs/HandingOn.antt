@@ -21,10 +21,10 @@ use Rattle.cgm_turn.specs.declared.views.Joined.{Joined}
 use Rattle.cgm_turn.specs.declared.views.View.{View}
 use Rattle.cgm_turn.specs.Entries.{AreOfLog, BeginsWith, made_by, maker}
 use Rattle.cgm_turn.specs.Plays.{HandsBack, HandsOn, count_held, gone_home, handed_back, handed_on, put_back}
-use Rattle.cgm_turn.specs.Rule.{AreTicketsApart, IsAccountOf, IsLive, IsPaid, IsServed, IsSpent, IsTurnTable, KnowsTurn, KnowsTurnBy, Leads, NoneHolds, cost, living, total_of, view_weight}
+use Rattle.cgm_turn.specs.Rule.{AreTicketsApart, IsAccountOf, IsAway, IsLive, IsPaid, IsServed, IsSpent, IsTurnTable, KnowsTurn, KnowsTurnBy, Leads, NoneHolds, cost, count_ticket, living, tickets_of, total_of, view_weight}
 use Rattle.cgm_turn.specs.Views.{account_with}
-use Rattle.cgm_turn.proofs.Keeping.{accounts_on, apart_without, at_some, bound_of, known_again, leads_kept, live_if_held, other_knows, paid_kept}
-use Rattle.cgm_turn.proofs.Ledgers.{begins_longer, begins_self, each_after, others_add_none, own_add_all, total-same, within}
+use Rattle.cgm_turn.proofs.Keeping.{accounts_on, apart_without, at_some, bound_of, known_again, leads_kept, held_none, live_if_held, other_holds_none, other_knows, paid_kept}
+use Rattle.cgm_turn.proofs.Ledgers.{begins_longer, begins_self, each_after, others_add_none, own_add_all, total-same, total-set, within}
 
 -- ---- fronts of a longer log
 
@@ -55,6 +55,9 @@ hand_on_kept serving next homes views id v log' old added g at held grown own pr
     let longer : log'.entries ≡ log.entries ++ added = grown ∙ ap (λ (xs : List Entry). xs ++ added) found in
     let own_here : All (λ e. maker e ≡ id) added = subst (λ (n : ℕ). All (λ e. maker e ≡ n) added) live.number own in
     let same : log'.problem ≡ log.problem = problem ∙ live.problem in
+    let homes' : List (option.Option (Option LogBook)) = set homes 0 (some (Some log')) in
+    let one_before : tickets_of v ≡ 1 = ap count_ticket mine in
+    let none_then : tickets_of w ≡ 0 = refl in
     let ticket = at_some (λ (t : ℕ). (serving ≤ t) × (t < next)) v.ticket serving mine live.waits in
     record {
       log = log';
@@ -65,7 +68,14 @@ hand_on_kept serving next homes views id v log' old added g at held grown own pr
       leads = leads_kept views id v w g.joined g.out g.splits at refl refl refl refl g.leads;
       given = length-set views id w ∙ g.given;
       home = λ rest. set_here homes 0 (some (Some log')) (omega (arith, g.slots));
+      away =
+          each_after (λ (j : ℕ) (u : View). IsAway homes' u) views id w
+          (λ entries e. held_none w.held entries (get_elem? homes' 0 ≡ some option.none) refl e)
+          (λ j u n there entries e.
+          held_none u.held entries (get_elem? homes' 0 ≡ some option.none)
+          (other_holds_none u.is_spent serving next log g.joined j u (λ t. n (g.apart j id u v serving there at t mine)) (g.each j u there)) e);
       order = omega (arith, ticket.1);
+      drawn = omega (arith, total-set tickets_of views id v w at, one_before, none_then, g.drawn);
       each =
           each_after (λ (j : ℕ) (u : View). KnowsTurn (serving + 1) next log' g.joined j u) views id w
           (known_again v.is_spent serving (serving + 1) next next log log' g.joined id v w old (g.each id v at) held (record {

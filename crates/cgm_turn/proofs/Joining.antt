@@ -19,9 +19,9 @@ use Rattle.cgm_turn.specs.declared.views.Joined.{Joined}
 use Rattle.cgm_turn.specs.declared.views.View.{View}
 use Rattle.cgm_turn.specs.Entries.{BeginsWith, made_by}
 use Rattle.cgm_turn.specs.Plays.{Draws, account, drawing, joining, longer, spent_view, split_off, splitting}
-use Rattle.cgm_turn.specs.Rule.{AreTicketsApart, IsAccountOf, IsLive, IsPaid, IsServed, IsSpent, IsTurnTable, KnowsTurn, KnowsTurnBy, Leads, NoneHolds, cost, living, total_of, view_weight}
+use Rattle.cgm_turn.specs.Rule.{AreTicketsApart, IsAccountOf, IsAway, IsLive, IsPaid, IsServed, IsSpent, IsTurnTable, KnowsTurn, KnowsTurnBy, Leads, NoneHolds, cost, count_ticket, living, tickets_of, total_of, view_weight}
 use Rattle.cgm_turn.specs.Views.{account_with}
-use Rattle.cgm_turn.proofs.Keeping.{apart_new, apart_same, apart_without, bound_of, known_live, leads_kept, live_if, rests}
+use Rattle.cgm_turn.proofs.Keeping.{apart_new, apart_same, apart_without, bound_of, held_none, known_live, leads_kept, live_if, rests}
 use Rattle.cgm_turn.proofs.Ledgers.{each_after, each_more, terms_le, total-more, total-same, total-set, within}
 
 -- ---- accounts with one more
@@ -95,6 +95,10 @@ join_kept serving next homes views id v other w g at apart_ids at' lives number 
     let two = terms_le living views id other v w apart_ids at at' in
     let living_one = total-same living views id v a at refl in
     let living_all = total-set living one other w spent_view at_one in
+    let tickets_one = total-same tickets_of views id v a at refl in
+    let tickets_all = total-set tickets_of one other w spent_view at_one in
+    let none_other : tickets_of w ≡ 0 = ap count_ticket rest' in
+    let none_spent : tickets_of spent_view ≡ 0 = refl in
     let cost_one = total-set cost views id v a at in
     let cost_all = total-set cost one other w spent_view at_one in
     let weight_one = total-set view_weight views id v a at in
@@ -122,7 +126,13 @@ join_kept serving next homes views id v other w g at apart_ids at' lives number 
           dite (ℕ_discrete j other)
           (λ its. ap (λ (x : View). x.held) (sym (some-injective w u (sym at' ∙ ap (get_elem? views) (sym its) ∙ there))) ∙ rests w.held w.ticket serving log rest' live'.holds)
           (λ n'. none j u (set_else one other j spent_view n' ∙ set_else views id j a n ∙ there))));
+      away =
+          each_after (λ (j : ℕ) (u : View). IsAway homes u) one other spent_view
+          (λ entries e. held_none spent_view.held entries (get_elem? homes 0 ≡ some option.none) refl e)
+          (λ j u n' there.
+          each_after (λ (i : ℕ) (z : View). IsAway homes z) views id a (g.away id v at) (λ i z n there'. g.away i z there') j u there);
       order = g.order;
+      drawn = omega (arith, tickets_one, tickets_all, none_other, none_spent, g.drawn);
       each =
           each_after (λ (j : ℕ) (u : View). KnowsTurn serving next log (r ∷ g.joined) j u) one other spent_view
           (record { ticket = refl; held = refl; account = some_new r g.joined other live'.number })

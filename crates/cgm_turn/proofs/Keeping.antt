@@ -62,6 +62,19 @@ pub if_none : {X : Type 0} (P : X → Type 0) (o : Option X) → o ≡ None → 
 if_none P None e = tt
 if_none P (Some x) e = absurd (cc)
 
+-- nothing is held, and something is
+pub held_none : (o : Option (List Entry)) (entries : List Entry) (P : Type 0) → o ≡ None → o ≡ Some entries → P
+held_none o entries P none held = absurd (cc)
+
+-- who isn't served holds nothing
+holds_unserved : (o : Option (List Entry)) (ticket : Option ℕ) (serving : ℕ) (log : LogBook) → ¬ (ticket ≡ Some serving) → IfSome o (λ entries. (ticket ≡ Some serving) × (entries ≡ log.entries)) → o ≡ None
+holds_unserved None ticket serving log other h = refl
+holds_unserved (Some entries) ticket serving log other h = absurd (other h.0)
+
+pub other_holds_none : (t : Bool) (serving next : ℕ) (log : LogBook) (joined : List Joined) (j : ℕ) (u : View) → ¬ (u.ticket ≡ Some serving) → KnowsTurnBy t serving next log joined j u → u.held ≡ None
+other_holds_none true serving next log joined j u other k = k.held
+other_holds_none false serving next log joined j u other k = holds_unserved u.held u.ticket serving log other k.holds
+
 -- ---- the others
 
 pub waits_on : (o : Option ℕ) (serving next : ℕ) → ((t : ℕ) → o ≡ Some t → t ≢ serving) → IfSome o (λ t. (serving ≤ t) × (t < next)) → IfSome o (λ t. (serving + 1 ≤ t) × (t < next))

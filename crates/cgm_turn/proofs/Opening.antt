@@ -13,13 +13,14 @@ use Rattle.cgm_turn.specs.declared.views.View.{View}
 use Rattle.cgm_turn.specs.Entries.{made_by}
 use Rattle.cgm_turn.specs.Rule.{IsServed, IsTurnTable, KnowsTurn, cost}
 use Rattle.cgm_turn.specs.Views.{newcomer}
+use Rattle.cgm_turn.proofs.Keeping.{held_none}
 
 only_place : {A : Type 0} (a : A) (j : ℕ) (b : A) → get_elem? (a ∷ []) j ≡ some b → (j ≡ 0) × (a ≡ b)
 only_place a zero b e = (refl, some-injective a b e)
 only_place a (suc j) b e = absurd (some-ne-none b (sym e))
 
 opens_served : (log : LogBook) → log.entries ≡ [] → IsServed 0 0 (some (Some log) ∷ []) (newcomer log.problem ∷ [])
-opens_served log none = let v : View = newcomer log.problem in record {
+opens_served log none = let v : View = newcomer log.problem in let homes : List (option.Option (Option LogBook)) = some (Some log) ∷ [] in record {
   log = log;
   joined = [];
   out = 0;
@@ -28,7 +29,11 @@ opens_served log none = let v : View = newcomer log.problem in record {
   leads = record { first = v; place = refl; lives = refl; joined_is = refl; out_is = refl; splits_is = refl };
   given = refl;
   home = λ rest. refl;
+  away = λ j u e entries held.
+      let nothing : u.held ≡ None = ap (λ (x : View). x.held) (sym (only_place v j u e).1) in
+      held_none u.held entries (get_elem? homes 0 ≡ some option.none) nothing held;
   order = omega arith;
+  drawn = refl;
   each = λ j u e.
       let is = only_place v j u e in
       subst (λ (n : ℕ). KnowsTurn 0 0 log [] n u) (sym is.0)

@@ -18,9 +18,9 @@ use Rattle.cgm_turn.specs.declared.views.Joined.{Joined}
 use Rattle.cgm_turn.specs.declared.views.View.{View}
 use Rattle.cgm_turn.specs.Entries.{BeginsWith, made_by}
 use Rattle.cgm_turn.specs.Plays.{Draws, account, drawing, joining, longer, spent_view, split_off, splitting}
-use Rattle.cgm_turn.specs.Rule.{AreTicketsApart, IsAccountOf, IsLive, IsPaid, IsServed, IsSpent, IsTurnTable, KnowsTurn, KnowsTurnBy, Leads, NoneHolds, cost, living, total_of, view_weight}
+use Rattle.cgm_turn.specs.Rule.{AreTicketsApart, IsAccountOf, IsAway, IsLive, IsPaid, IsServed, IsSpent, IsTurnTable, KnowsTurn, KnowsTurnBy, Leads, NoneHolds, cost, living, tickets_of, total_of, view_weight}
 use Rattle.cgm_turn.specs.Views.{account_with}
-use Rattle.cgm_turn.proofs.Keeping.{apart_new, apart_same, apart_without, bound_of, known_live, leads_kept, live_if, rests}
+use Rattle.cgm_turn.proofs.Keeping.{apart_new, apart_same, apart_without, bound_of, held_none, known_live, leads_kept, live_if, rests}
 use Rattle.cgm_turn.proofs.Ledgers.{each_after, each_more, terms_le, total-more, total-same, total-set, within}
 
 longer_apart : (views : List View) (a : View) → a.ticket ≡ None → AreTicketsApart views → AreTicketsApart (views ++ a ∷ [])
@@ -45,6 +45,7 @@ split_kept serving next homes views id v g at lives number few_splits =
     let out : v.out ≡ g.out = ap (λ (x : View). x.out) (sym same) ∙ g.leads.out_is in
     let count : length all ≡ length views + 1 = length_push (set views id a) b ∙ ap (λ (n : ℕ). n + 1) (length-set views id a) in
     let at_end : v.splits + 1 ≡ length (set views id a) = omega (arith, splits, g.given, length-set views id a) in
+    let none_new : tickets_of b ≡ 0 = refl in
     let fresh = g.later (length (set views id a)) (omega (arith, length-set views id a)) in
     record {
       log = g.log;
@@ -68,7 +69,12 @@ split_kept serving next homes views id v g at lives number few_splits =
           ap (λ (x : View). x.held) (sym (some-injective v u (sym at ∙ ap (get_elem? views) (sym own) ∙ there)))
           ∙ none id a (at_longer (set views id a) (b ∷ []) id a (set_here views id a (within views id v at))))
           (λ elsewhere. none j u (at_longer (set views id a) (b ∷ []) j u (set_else views id j a elsewhere ∙ there))));
+      away =
+          each_more (λ (j : ℕ) (u : View). IsAway homes u) (set views id a) b
+          (λ entries e. held_none b.held entries (get_elem? homes 0 ≡ some option.none) refl e)
+          (each_after (λ (j : ℕ) (u : View). IsAway homes u) views id a (g.away id v at) (λ j u n there. g.away j u there));
       order = g.order;
+      drawn = omega (arith, total-more tickets_of (set views id a) b, total-same tickets_of views id v a at refl, none_new, g.drawn);
       each =
           each_more (λ (j : ℕ) (u : View). KnowsTurn serving next g.log g.joined j u) (set views id a) b
           (record {

@@ -17,19 +17,10 @@ use Rattle.cgm_turn.specs.declared.views.Joined.{Joined}
 use Rattle.cgm_turn.specs.declared.views.View.{View}
 use Rattle.cgm_turn.specs.Entries.{made_by}
 use Rattle.cgm_turn.specs.Plays.{TurnComes, TurnComesAt, IsFoundBy, Waits, holding}
-use Rattle.cgm_turn.specs.Rule.{AreTicketsApart, IsLive, IsServed, IsSpent, IsTurnTable, KnowsTurn, KnowsTurnBy, NoneHolds, living}
+use Rattle.cgm_turn.specs.Rule.{AreTicketsApart, IsLive, IsServed, IsSpent, IsTurnTable, KnowsTurn, KnowsTurnBy, NoneHolds, living, tickets_of}
 use Rattle.cgm_turn.specs.Views.{account_with}
-use Rattle.cgm_turn.proofs.Keeping.{apart_same, at_some, known_with_ticket, leads_kept, live_if_ticket, paid_kept}
+use Rattle.cgm_turn.proofs.Keeping.{apart_same, at_some, known_with_ticket, leads_kept, live_if_ticket, other_holds_none, paid_kept}
 use Rattle.cgm_turn.proofs.Ledgers.{each_after, total-same, within}
-
--- who isn't served holds nothing
-holds_unserved : (o : Option (List Entry)) (ticket : Option ℕ) (serving : ℕ) (log : LogBook) → ¬ (ticket ≡ Some serving) → IfSome o (λ entries. (ticket ≡ Some serving) × (entries ≡ log.entries)) → o ≡ None
-holds_unserved None ticket serving log other h = refl
-holds_unserved (Some entries) ticket serving log other h = absurd (other h.0)
-
-other_holds_none : (t : Bool) (serving next : ℕ) (log : LogBook) (joined : List Joined) (j : ℕ) (u : View) → ¬ (u.ticket ≡ Some serving) → KnowsTurnBy t serving next log joined j u → u.held ≡ None
-other_holds_none true serving next log joined j u other k = k.held
-other_holds_none false serving next log joined j u other k = holds_unserved u.held u.ticket serving log other k.holds
 
 none_holds : (serving next : ℕ) (homes : List (option.Option (Option LogBook))) (views : List View) (id : ℕ) (v : View) → IsServed serving next homes views → get_elem? views id ≡ some v → v.ticket ≡ Some serving → v.held ≡ None → NoneHolds views
 none_holds serving next homes views id v g at mine rest j u there =
@@ -51,7 +42,9 @@ take_kept serving next homes views id v g at mine =
       leads = leads_kept views id v w g.joined g.out g.splits at refl refl refl refl g.leads;
       given = length-set views id w ∙ g.given;
       home = λ none. let held = none id w (set_here views id w (within views id v at)) in absurd (cc);
+      away = λ j u there entries e. set_here homes 0 option.none (omega (arith, g.slots));
       order = g.order;
+      drawn = ap (λ (n : ℕ). serving + n) (total-same tickets_of views id v w at refl) ∙ g.drawn;
       each =
           each_after (λ (j : ℕ) (u : View). KnowsTurn serving next g.log g.joined j u) views id w
           (known_with_ticket v.is_spent serving serving next next g.log g.log g.joined id v w serving (g.each id v at) mine (record {

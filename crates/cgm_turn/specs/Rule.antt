@@ -65,6 +65,18 @@ pub record Leads (views : List View) (joined : List Joined) (out splits : ℕ) :
   pub out_is : first.out ≡ out
   pub splits_is : first.splits ≡ splits
 
+-- how many tickets a pass has
+abbrev pub count_ticket : Option ℕ → ℕ
+count_ticket None = 0
+count_ticket (Some t) = 1
+
+abbrev pub tickets_of : View → ℕ
+tickets_of v = count_ticket v.ticket
+
+-- where the pass holds the log, the slot is empty
+abbrev pub IsAway : List (option.Option (Option LogBook)) → View → Type 0
+IsAway homes v = (entries : List Entry) → v.held ≡ Some entries → get_elem? homes 0 ≡ some option.none
+
 abbrev pub NoneHolds : List View → Type 0
 NoneHolds views = (j : ℕ) (v : View) → get_elem? views j ≡ some v → v.held ≡ None
 
@@ -91,9 +103,12 @@ pub record IsServed (serving next : ℕ) (homes : List (option.Option (Option Lo
   -- the numbers of passes are given out in order
   pub leads : Leads views joined out splits
   pub given : length views ≡ splits + 1
-  -- the log is in the slot, unless a pass holds it
+  -- the log is in the slot exactly where no pass holds it
   pub home : NoneHolds views → get_elem? homes 0 ≡ some (some (Some log))
+  pub away : (j : ℕ) (v : View) → get_elem? views j ≡ some v → IsAway homes v
   pub order : serving ≤ next
+  -- each ticket from the one that is served on is a pass's
+  pub drawn : serving + total_of tickets_of views ≡ next
   pub each : (j : ℕ) (v : View) → get_elem? views j ≡ some v → KnowsTurn serving next log joined j v
   pub apart : AreTicketsApart views
   pub accounts : (w : ℕ) → IfSome (account_with w joined) (IsAccountOf log w)

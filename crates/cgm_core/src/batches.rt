@@ -1,5 +1,5 @@
 //! Whether a batch is proper.
-ghost use Rattle.std.specs.Prelude.{◌≡◌, ◌↔◌, ◌≤◌, ◌<◌, ◌+◌, ◌^◌, length, IsTrue, IfOk, IfSome, OnOk, ◌++◌, ◌∷◌, []};
+ghost use Rattle.std.specs.Prelude.{◌≡◌, ◌↔◌, ◌<◌, ◌+◌, ◌^◌, length, IsTrue, IfOk, IfSome, OnOk, ◌++◌, ◌∷◌, []};
 ghost use Rattle.std.specs.List.{All};
 ghost use Rattle.cgm_atom.specs.Acceptance.{IsAccepted, IsAcceptedAfter};
 ghost use Rattle.cgm_atom.specs.Instance.{IsSolution};

@@ -1,7 +1,6 @@
 //! The core: a log, and how much of it each worker that is in has seen.
-ghost use Rattle.std.specs.Prelude.{◌≡◌, ◌≤◌, [], IfOk, IfErr, OnOk, OnErr, IfSome, Some, take};
-ghost use Rattle.cgm_atom.specs.Acceptance.{IsAccepted};
-ghost use Rattle.cgm_log.specs.Events.{AreAllowedEvents, IsAllowedEvent, after_event, after_events, begin, seated, seen_by, traded};
+ghost use Rattle.std.specs.Prelude.{◌≡◌, IfOk, IfErr, OnOk, OnErr, Some};
+ghost use Rattle.cgm_log.specs.Events.{AreAllowedEvents, IsAllowedEvent, after_event, after_events, begin, seen_by};
 ghost use Rattle.cgm_log.specs.declared.events.Event.TheVariants.{Enter, Trade, Look, Leave};
 ghost use Rattle.cgm_core.specs.Stops.{IsCoreStop, IsReplayStop};
 

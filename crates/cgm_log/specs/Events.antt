@@ -4,7 +4,6 @@ use Rattle.std.specs.Option.{option_flatten}
 use Rattle.cgm_atom.specs.declared.entries.Entry.{Entry}
 use Rattle.cgm_atom.specs.Instance.{Instance}
 use Rattle.cgm_atom.specs.Limits.{max_workers}
-use Rattle.cgm_log.specs.declared.batches.Batch.{Batch}
 use Rattle.cgm_log.specs.Landing.{IsProperBatch, with_landed}
 use Rattle.cgm_log.specs.declared.events.Event.{Event}
 use Rattle.cgm_log.specs.declared.events.Event.TheVariants.{Enter, Trade, Look, Leave}

@@ -1,7 +1,6 @@
 -- Laws over the turn: a trade at it is the core's.
-use Rattle.std.specs.Prelude.{◌≡◌, ℕ, ◌++◌, length, Option, Some, Result, Ok}
+use Rattle.std.specs.Prelude.{◌≡◌, ◌++◌, length, Some, Ok}
 use Rattle.cgm_log.specs.declared.batches.Batch.{Batch}
-use Rattle.cgm_log.specs.declared.batches.Refund.{Refund}
 use Rattle.cgm_log.specs.declared.batches.Traded.{Traded}
 use Rattle.cgm_log.specs.Landing.{IsProperBatch}
 use Rattle.cgm_log.specs.Trading.{news_of}

@@ -1,6 +1,5 @@
 -- What each step does to the view of the pass that makes it, by the kinds of step.
 use Rattle.std.specs.Prelude.{◌≡◌, ◌≢◌, true, false, nat_le, if◌then◌else◌, ℕ, ◌+◌, ◌-◌, List, [], ◌∷◌, ◌++◌, length, drop, Option, Some, None}
-use Rattle.std.specs.Option.{option_map_or}
 use Rattle.atomic_table.specs.Table.{Me, Step}
 use Rattle.cgm_atom.specs.declared.entries.Entry.{Entry}
 use Rattle.cgm_atom.specs.Instance.{Instance}

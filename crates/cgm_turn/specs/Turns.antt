@@ -1,5 +1,5 @@
 -- What a pass knows in its turn, and after it.
-use Rattle.std.specs.Prelude.{◌≡◌, ◌<◌, ◌^◌, ℕ, List, [], ◌∷◌, drop, length, IfOk, IfErr, OnOk, OnErr, Option, Some, None, Result}
+use Rattle.std.specs.Prelude.{◌≡◌, ◌<◌, ◌^◌, [], ◌∷◌, drop, length, IfOk, IfErr, OnOk, Option, Some, None, Result}
 use Rattle.atomic_table.specs.Table.{Me}
 use Rattle.cgm_atom.specs.Acceptance.{IsAccepted}
 use Rattle.cgm_log.specs.declared.batches.Batch.{Batch}

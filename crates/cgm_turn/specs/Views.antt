@@ -1,5 +1,5 @@
 -- What passes know: the view of each, and what its fields say.
-use Rattle.std.specs.Prelude.{◌≡◌, Bool, false, cond, ℕ, ◌==◌, List, [], ◌∷◌, ◌++◌, length, drop, if◌then◌else◌, IfSome, Option, Some, None}
+use Rattle.std.specs.Prelude.{◌≡◌, false, ℕ, ◌==◌, List, [], ◌∷◌, ◌++◌, if◌then◌else◌, IfSome, Option, Some, None}
 use Rattle.std.specs.List.{All}
 use Rattle.std.specs.Option.{option_map_or}
 use Rattle.atomic_table.specs.Table.{Me}

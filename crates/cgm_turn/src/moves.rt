@@ -1,5 +1,5 @@
 //! The steps of a pass on the table.
-ghost use Rattle.std.specs.Prelude.{◌≡◌, ◌∷◌, ◌++◌, ◌<◌, ◌≤◌, ◌^◌, [], List, Some, None, false, true, length};
+ghost use Rattle.std.specs.Prelude.{◌≡◌, ◌∷◌, ◌<◌, ◌^◌, [], Some, None, false, true, length};
 ghost use Rattle.cgm_atom.specs.Acceptance.{IsAccepted};
 ghost use Rattle.cgm_log.specs.LogBook.{LogBook};
 ghost use Rattle.cgm_log.specs.Landing.{IsProperBatch};

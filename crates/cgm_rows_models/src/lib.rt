@@ -1,5 +1,7 @@
-//! Worked examples over models: assignments and the rules that they break, encoding and back, what
-//! entries show, lines of reports, earlier texts that are printed, and small calls, as tests.
+//! Worked examples over models and by the whole program, as tests: assignments and the rules that they
+//! break, encoding and back, what entries show, lines of reports, earlier texts that are printed, and
+//! small calls; limits that only long texts meet, counts that no text tells, how runs over transcripts
+//! end, and the shelves and sinks by themselves.
 #![tactic(auto)]
 
 #[cfg(test)]
@@ -7,11 +9,15 @@ mod assignments;
 #[cfg(test)]
 mod call_rows;
 #[cfg(test)]
+mod count_rows;
+#[cfg(test)]
 mod earlier_rows;
 #[cfg(test)]
 mod encoding_rows;
 #[cfg(test)]
 mod encodings;
+#[cfg(test)]
+mod limit_rows;
 #[cfg(test)]
 mod model_rows;
 #[cfg(test)]
@@ -19,6 +25,14 @@ mod models;
 #[cfg(test)]
 mod questions;
 #[cfg(test)]
+mod runs;
+#[cfg(test)]
+mod shelf_rows;
+#[cfg(test)]
 mod shown;
+#[cfg(test)]
+mod texts;
+#[cfg(test)]
+mod transcript_rows;
 #[cfg(test)]
 mod verify_rows;

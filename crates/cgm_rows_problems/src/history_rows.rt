@@ -41,11 +41,21 @@ const LATE: &[&str] = &[
      trade 1 lemma 1 0<=0 : b1.0 r0 / lemma 1 1<=0 : o1 r1; \
      log best 0 1 1 / lemma 0 1 0<=0 : b1.0 r0 / lemma 1 1 0<=0 : b1.0 r0 / lemma 1 1 1<=0 : e3 r1; \
      seen 0 2; seen 1 4",
-    // Three workers, each with a hint to an entry of another.
+    // Three workers, two of which hint at an entry of another.
     "enter 0; enter 1; enter 2; trade 0 offer 1 1; trade 1; trade 1 lemma 1 0<=0 : b1.0 r0; trade 2; \
      trade 2 lemma 1 1<=0 : e2 r1; trade 0 offer 0 0; trade 1 lemma 1 1<=0 : e2 r1; \
      log best 0 1 1 / lemma 1 1 0<=0 : b1.0 r0 / lemma 2 1 1<=0 : e2 r1 / best 0 0 0 / lemma 1 1 1<=0 : e2 r1; \
      seen 0 4; seen 1 5; seen 2 3",
+    "enter 0; enter 1; enter 2; trade 0 offer 1 1; trade 1; trade 2; trade 0 lemma 1 0<=0 : b1.0 r0; \
+     trade 1 lemma 1 1<=0 : b1.0; trade 2 lemma 1 0<=0 : b1.0 r0 / lemma 1 1<=0 : o1 r1; \
+     log best 0 1 1 / lemma 0 1 0<=0 : b1.0 r0 / lemma 1 1 1<=0 : b1.0 / lemma 2 1 0<=0 : b1.0 r0 / lemma 2 1 1<=0 : e4 r1; \
+     seen 0 2; seen 1 3; seen 2 5",
+    "enter 0; enter 1; enter 2; trade 0 offer 1 1; trade 1 offer 0 0; trade 2 offer 1 1; \
+     log best 0 1 1 / best 1 0 0; seen 0 1; seen 1 2; seen 2 2",
+    "enter 0; enter 1; enter 2; trade 0 offer 1 1; trade 1; trade 2; trade 1 offer 0 0; \
+     trade 2 lemma 1 1<=0 : b1.0 / offer 0 0; log best 0 1 1 / best 1 0 0 / lemma 2 1 1<=0 : b1.0; seen 2 3",
+    "enter 0; enter 1; trade 0 offer 1 1; leave 0; enter 2; look 2 1; trade 2; trade 2 lemma 1 0<=0 : b1.0 r0; \
+     trade 1 offer 0 0; log best 0 1 1 / lemma 2 1 0<=0 : b1.0 r0 / best 1 0 0; seen 0 out; seen 1 3; seen 2 2",
 ];
 
 /// Batches of a worker that has seen all.
@@ -63,15 +73,19 @@ const BATCHES: &[&str] = &[
     // An entry that is there, but wasn't seen.
     "enter 0; enter 1; trade 0 offer 1 1; trade 1; trade 0 lemma 1 0<=0 : b1.0 r0; \
      trade 1 lemma 1 1<=0 : e2 r1; illegal 6",
-    // With the lemma of the other, which its worker hasn't seen, it would be refuted.
+    "enter 0; enter 1; enter 2; trade 0 offer 1 1; trade 1; trade 1 lemma 1 0<=0 : b1.0 r0; \
+     trade 2 lemma 1 1<=0 : e2 r1; illegal 7",
+    // Its hint reaches no conflict. One more hint, to the other's lemma, would, but that wasn't seen.
     "enter 0; enter 1; trade 0 offer 1 1; trade 1; trade 0 lemma 1 0<=0 : b1.0 r0; \
-     trade 1 lemma 0 1<=0 : r1; illegal 6",
+     trade 1 lemma 1 1<=0 : r1; illegal 6",
 ];
 
 /// Logs that are closed.
 const CLOSED: &[&str] = &[
     "enter 0; enter 1; trade 0 offer 0 0; trade 0 lemma 1 : b1.0; trade 1 offer 1 1; \
      log best 0 0 0 / lemma 0 1 : b1.0; seen 0 2; seen 1 2",
+    "enter 0; enter 1; enter 2; trade 0 offer 0 0; trade 1; trade 0 lemma 1 : b1.0; trade 1 lemma 1 1<=0 : b1.0; \
+     trade 2 offer 1 1; log best 0 0 0 / lemma 0 1 : b1.0; seen 0 2; seen 1 2; seen 2 2",
     "enter 0; trade 0 offer 0 0; trade 0 lemma 1 : b1.0; trade 0 offer 1 1; \
      log best 0 0 0 / lemma 0 1 : b1.0; seen 0 2",
     "enter 0; trade 0 offer 0 0; trade 0 lemma 1 : b1.0; trade 0 lemma 1 0<=0 : b1.0 r0; illegal 4",
@@ -88,7 +102,7 @@ const NONE: &[&str] = &[
 ];
 
 #[test]
-fn replays(rt: HostRuntime) -> Result<(), Fail> {
+fn replay(rt: HostRuntime) -> Result<(), Fail> {
     hold(&rt, rt.alloc(), Driver::Histories, ONE, REPLAY)
 }
 

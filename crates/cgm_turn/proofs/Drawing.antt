@@ -37,6 +37,7 @@ other_knows false serving next log joined j u k = record {
   unjoined = k.unjoined;
   waits = later_next u.ticket serving next k.waits;
   cheap = k.cheap;
+  begun = k.begun;
   holds = k.holds;
 }
 
@@ -60,6 +61,7 @@ draw_kept serving next homes views id v g at lives rest few_begun =
     let one_then : tickets_of w ≡ 1 = refl in
     record {
       log = g.log;
+      accepted = g.accepted;
       joined = g.joined;
       out = g.out;
       splits = g.splits;
@@ -84,12 +86,14 @@ draw_kept serving next homes views id v g at lives rest few_begun =
             unjoined = live.unjoined;
             waits = (g.order, omega arith);
             cheap = live.cheap;
+            begun = omega (arith, few_begun);
             holds = subst (λ (o : Option (List Entry)). IfSome o (λ entries. (w.ticket ≡ Some serving) × (entries ≡ g.log.entries))) (sym held) tt;
           }))
           (λ j u n there. other_knows u.is_spent serving next g.log g.joined j u (g.each j u there));
       apart = apart_new views id w next refl (λ j u there. new_to u.is_spent serving next g.log g.joined j u (g.each j u there)) g.apart;
       accounts = g.accounts;
       fronts = g.fronts;
+      distinct = g.distinct;
       later = λ x far. g.later x (omega (arith, length-set views id w, far));
       living = total-same living views id v w at refl ∙ g.living;
       paid = record {

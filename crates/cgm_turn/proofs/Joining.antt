@@ -53,6 +53,7 @@ other_knows false serving next log joined r j u other k = record {
   unjoined = none_kept r joined j other k.unjoined;
   waits = k.waits;
   cheap = k.cheap;
+  begun = k.begun;
   holds = k.holds;
 }
 
@@ -105,6 +106,7 @@ join_kept serving next homes views id v other w g at apart_ids at' lives number 
     let weight_all = total-set view_weight one other w spent_view at_one in
     record {
       log = log;
+      accepted = g.accepted;
       joined = r ∷ g.joined;
       out = g.out - 1;
       splits = g.splits;
@@ -150,6 +152,7 @@ join_kept serving next homes views id v other w g at apart_ids at' lives number 
             unjoined = none_kept r g.joined id (λ e. apart_ids (sym live'.number ∙ e)) live.unjoined;
             waits = live.waits;
             cheap = omega (arith, live.cheap, g.paid.cheap other w at');
+            begun = live.begun;
             holds = live.holds;
           }))))
           (λ n. other_knows u.is_spent serving next log g.joined r j u (λ e. n' (sym e ∙ live'.number)) (g.each j u (sym (set_else views id j a n) ∙ there))));
@@ -157,6 +160,7 @@ join_kept serving next homes views id v other w g at apart_ids at' lives number 
       accounts = λ x.
           accounted log r g.joined x (record { seen = live'.seen; landed = subst (λ (n : ℕ). made_by n log.entries ≡ w.landed) (sym live'.number) live'.landed }) (g.accounts x);
       fronts = ((live'.seen, live.seen), g.fronts);
+      distinct = (subst (λ (n : ℕ). account_with n g.joined ≡ None) (sym live'.number) live'.unjoined, g.distinct);
       later = λ x far.
           let past = g.later x (omega (arith, count, far)) in
           (past.0, none_kept r g.joined x (λ e. omega (arith, e, live'.number, count, far, within views other w at')) past.1);

@@ -96,6 +96,7 @@ other_knows false serving next by log log' added joined j u n grown own same oth
   unjoined = k.unjoined;
   waits = waits_on u.ticket serving next (λ t e same_ticket. other (e ∙ ap Some same_ticket)) k.waits;
   cheap = k.cheap;
+  begun = k.begun;
   holds = holds_none u.held u.ticket serving log (λ entries. (u.ticket ≡ Some (serving + 1)) × (entries ≡ log'.entries)) other k.holds;
 }
 

@@ -49,6 +49,7 @@ split_kept serving next homes views id v g at lives number few_splits =
     let fresh = g.later (length (set views id a)) (omega (arith, length-set views id a)) in
     record {
       log = g.log;
+      accepted = g.accepted;
       joined = g.joined;
       out = g.out + 1;
       splits = g.splits + 1;
@@ -85,6 +86,7 @@ split_kept serving next homes views id v g at lives number few_splits =
             unjoined = fresh.1;
             waits = tt;
             cheap = omega arith;
+            begun = omega arith;
             holds = tt;
           })
           (each_after (λ (j : ℕ) (u : View). KnowsTurn serving next g.log g.joined j u) views id a
@@ -96,12 +98,14 @@ split_kept serving next homes views id v g at lives number few_splits =
             unjoined = live.unjoined;
             waits = live.waits;
             cheap = live.cheap;
+            begun = live.begun;
             holds = live.holds;
           }))
           (λ j u n there. g.each j u there));
       apart = longer_apart (set views id a) b refl (apart_same views id v a at refl g.apart);
       accounts = g.accounts;
       fronts = g.fronts;
+      distinct = g.distinct;
       later = λ x far. g.later x (omega (arith, count, far));
       living = total-more living (set views id a) b ∙ ap (λ (n : ℕ). n + 1) (total-same living views id v a at refl ∙ g.living);
       paid = record {

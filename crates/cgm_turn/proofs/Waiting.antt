@@ -35,6 +35,7 @@ take_kept serving next homes views id v g at mine =
     let live = live_if_ticket v.is_spent serving next g.log g.joined id v serving (g.each id v at) mine in
     record {
       log = g.log;
+      accepted = g.accepted;
       joined = g.joined;
       out = g.out;
       splits = g.splits;
@@ -55,12 +56,14 @@ take_kept serving next homes views id v g at mine =
             unjoined = live.unjoined;
             waits = live.waits;
             cheap = live.cheap;
+            begun = live.begun;
             holds = (mine, refl);
           }))
           (λ j u n there. g.each j u there);
       apart = apart_same views id v w at refl g.apart;
       accounts = g.accounts;
       fronts = g.fronts;
+      distinct = g.distinct;
       later = λ x far. g.later x (omega (arith, length-set views id w, far));
       living = total-same living views id v w at refl ∙ g.living;
       paid = paid_kept next views id v w at refl refl g.paid;

@@ -5,6 +5,7 @@ use mathlib.Core.Option as option
 use lib.ListN.{get_elem?}
 use Rattle.atomic_table.specs.Table.{State}
 use Rattle.cgm_atom.specs.declared.entries.Entry.{Entry}
+use Rattle.cgm_atom.specs.Acceptance.{IsAccepted}
 use Rattle.cgm_log.specs.LogBook.{LogBook}
 use Rattle.cgm_turn.specs.declared.views.Joined.{Joined}
 use Rattle.cgm_turn.specs.declared.views.View.{View}
@@ -27,6 +28,7 @@ pub record IsLive (serving next : ℕ) (log : LogBook) (joined : List Joined) (j
   pub unjoined : account_with j joined ≡ None
   pub waits : IfSome v.ticket (λ t. (serving ≤ t) × (t < next))
   pub cheap : v.begun_by_joined + 2 ^ 59 ≤ v.weight * 2 ^ 59
+  pub begun : v.begun ≤ 2 ^ 59
   pub holds : IfSome v.held (λ entries. (v.ticket ≡ Some serving) × (entries ≡ log.entries))
 
 -- one that was joined: the first pass keeps an account of it
@@ -64,6 +66,11 @@ pub record Leads (views : List View) (joined : List Joined) (out splits : ℕ) :
   pub joined_is : first.joined ≡ joined
   pub out_is : first.out ≡ out
   pub splits_is : first.splits ≡ splits
+
+-- no two joined passes have one number
+abbrev pub AreNumbersApart : List Joined → Type 0
+AreNumbersApart [] = Unit {0}
+AreNumbersApart (r ∷ others) = (account_with r.number others ≡ None) × AreNumbersApart others
 
 -- how many tickets a pass has
 abbrev pub count_ticket : Option ℕ → ℕ
@@ -106,6 +113,7 @@ pub record IsServed (serving next : ℕ) (homes : List (option.Option (Option Lo
   -- the log is in the slot exactly where no pass holds it
   pub home : NoneHolds views → get_elem? homes 0 ≡ some (some (Some log))
   pub away : (j : ℕ) (v : View) → get_elem? views j ≡ some v → IsAway homes v
+  pub accepted : IsAccepted log.problem log.entries
   pub order : serving ≤ next
   -- each ticket from the one that is served on is a pass's
   pub drawn : serving + total_of tickets_of views ≡ next
@@ -113,6 +121,7 @@ pub record IsServed (serving next : ℕ) (homes : List (option.Option (Option Lo
   pub apart : AreTicketsApart views
   pub accounts : (w : ℕ) → IfSome (account_with w joined) (IsAccountOf log w)
   pub fronts : AreOfLog log.entries joined
+  pub distinct : AreNumbersApart joined
   -- numbers that weren't given out yet
   pub later : (w : ℕ) → length views ≤ w → (made_by w log.entries ≡ []) × (account_with w joined ≡ None)
   pub living : total_of living views ≡ out + 1

@@ -207,6 +207,7 @@ pub(crate) fn hand_on(board: &Board, seat: &mut Place, log: Log)
     ensures same { (seat.new.table_id ≡ seat.old.table_id) × (seat.new.id ≡ seat.old.id) }
     ensures after { seat.new.me ≡ (handed_on seat.old.me.0 log, []) }
 {
+    log.recall_log();
     drop(board.exchange(seat, 0, Some(log)));
     board.fetch_add::<HandOn>(seat, 0, 1);
 }
@@ -219,6 +220,7 @@ fn hand_back(board: &Board, seat: &mut Place, log: Log)
     ensures same { (seat.new.table_id ≡ seat.old.table_id) × (seat.new.id ≡ seat.old.id) }
     ensures after { seat.new.me ≡ (handed_back seat.old.me.0, []) }
 {
+    log.recall_log();
     drop(board.exchange(seat, 0, Some(log)));
     board.fetch_add::<HandBack>(seat, 0, 1);
 }

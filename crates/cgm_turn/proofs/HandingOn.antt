@@ -22,9 +22,9 @@ use Rattle.cgm_turn.specs.declared.views.Joined.{Joined}
 use Rattle.cgm_turn.specs.declared.views.View.{View}
 use Rattle.cgm_turn.specs.Entries.{AreOfLog, BeginsWith, made_by, maker}
 use Rattle.cgm_turn.specs.Plays.{HandsBack, HandsOn, count_held, gone_home, handed_back, handed_on, put_back}
-use Rattle.cgm_turn.specs.Rule.{AreTicketsApart, IsAccountOf, IsAway, IsLive, IsPaid, IsServed, IsSpent, IsTurnTable, KnowsTurn, KnowsTurnBy, Leads, NoneHolds, cost, count_ticket, living, tickets_of, total_of, view_weight}
+use Rattle.cgm_turn.specs.Rule.{AreTicketsApart, IsAccountOf, IsAway, IsLive, AreTradesCounted, IsServed, IsSpent, IsTurnTable, KnowsTurn, BySpent, Leads, NoneHolds, trades_of, count_ticket, living, tickets_of, total_of, members_of}
 use Rattle.cgm_turn.specs.Views.{account_with}
-use Rattle.cgm_turn.proofs.Keeping.{accounts_on, apart_without, at_some, bound_of, known_again, leads_kept, held_none, live_if_held, other_holds_none, other_knows, paid_kept}
+use Rattle.cgm_turn.proofs.Keeping.{accounts_on, apart_without, at_some, bound_of, known_again, leads_kept, held_none, live_if_held, other_holds_none, other_knows, counted_kept}
 use Rattle.cgm_turn.proofs.Ledgers.{begins_longer, begins_self, each_after, others_add_none, own_add_all, total-same, total-set, within}
 
 -- ---- fronts of a longer log
@@ -87,7 +87,7 @@ hand_on_kept serving next homes views id v log' old added g at held grown own pr
             landed = subst (λ (n : ℕ). made_by n log'.entries ≡ landed) live.number (sym (all_own (own_add_all v.number old added own) (ap (made_by v.number) found ∙ ap (λ (n : ℕ). made_by n log.entries) live.number ∙ live.landed)));
             unjoined = live.unjoined;
             waits = tt;
-            cheap = live.cheap;
+            bounded = live.bounded;
             begun = live.begun;
             holds = tt;
           }))
@@ -103,7 +103,7 @@ hand_on_kept serving next homes views id v log' old added g at held grown own pr
           let n : x ≢ id = λ e. omega (arith, e, far, length-set views id w, within views id v at) in
           (ap (made_by x) longer ∙ others_add_none x id log.entries added n own_here ∙ past.0, past.1);
       living = total-same living views id v w at refl ∙ g.living;
-      paid = paid_kept next views id v w at refl refl g.paid;
+      trades = counted_kept next views id v w at refl refl g.trades;
     }
 
 -- ---- on the table
@@ -117,7 +117,7 @@ goes_home id v log old added seen landed s held grown own problem accepted begin
     let w : View = put_back v seen landed in
     let kept = hand_on_kept serving next s.homes s.views id v log old added g.served at held grown own problem accepted seen landed begins all_own in
     let n : ℕ = (serving + 1) % 2 ^ 64 in
-    let no_wrap : (serving + 1) % 2 ^ 64 ≡ serving + 1 = mod-eq_of_lt (omega (arith, kept.order, bound_of s.views next g.served.paid)) in
+    let no_wrap : (serving + 1) % 2 ^ 64 ≡ serving + 1 = mod-eq_of_lt (omega (arith, kept.order, bound_of s.views next g.served.trades)) in
     let first : slice_index (slice_set s.words 0 n) 0 ≡ serving + 1 = get_or-set_same s.words 0 n 0 (omega (arith, g.words)) ∙ no_wrap in
     let second : slice_index (slice_set s.words 0 n) 1 ≡ next = get_or-set_other s.words 0 1 n 0 (λ e. omega arith) in
     record {

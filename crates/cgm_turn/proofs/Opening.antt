@@ -13,7 +13,7 @@ use Rattle.cgm_atom.proofs.StateLemmas.{IsAccepted-nil}
 use Rattle.cgm_log.specs.LogBook.{LogBook}
 use Rattle.cgm_turn.specs.declared.views.View.{View}
 use Rattle.cgm_turn.specs.Entries.{made_by}
-use Rattle.cgm_turn.specs.Rule.{IsServed, IsTurnTable, KnowsTurn, cost}
+use Rattle.cgm_turn.specs.Rule.{IsServed, IsTurnTable, KnowsTurn, trades_of}
 use Rattle.cgm_turn.specs.Views.{newcomer}
 use Rattle.cgm_turn.proofs.Keeping.{held_none}
 
@@ -48,7 +48,7 @@ opens_served log none = let v : View = newcomer log.problem in let homes : List 
         landed = ap (made_by 0) none;
         unjoined = refl;
         waits = tt;
-        cheap = omega arith;
+        bounded = omega arith;
         begun = omega arith;
         holds = tt;
       }));
@@ -58,10 +58,10 @@ opens_served log none = let v : View = newcomer log.problem in let homes : List 
   distinct = tt;
   later = λ w far. (ap (made_by w) none, refl);
   living = refl;
-  paid = record {
-    paid = refl;
-    weights = refl;
-    cheap = λ j u e. subst (λ (x : View). cost x ≤ x.weight * 2 ^ 59) (only_place v j u e).1 (omega arith);
+  trades = record {
+    counted = refl;
+    members = refl;
+    bounded = λ j u e. subst (λ (x : View). trades_of x ≤ x.members * 2 ^ 59) (only_place v j u e).1 (omega arith);
     few = omega arith;
   };
 }

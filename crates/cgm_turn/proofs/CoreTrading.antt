@@ -25,5 +25,5 @@ trades_are_the_cores old new b t s proper number trade problem log seat =
       subst (λ (o : Option ℕ). IsSomeAnd o (λ n. IsProperBatch s.problem (take n s.log) b × (b.by ≡ old.number))) (sym seat)
           (subst (λ (p : Instance). IsProperBatch p (take (length old.told) s.log) b) (sym problem) (subst (λ (xs : List Entry). IsProperBatch old.problem xs b) (sym front) proper), number),
       told,
-      seen_set s.seats old.number (length old.told) (length (with_landed s.problem s.log b)) seat ∙ ap (λ (xs : List Entry). Some (length xs)) told,
+      seen_set s.fronts_seen old.number (length old.told) (length (with_landed s.problem s.log b)) seat ∙ ap (λ (xs : List Entry). Some (length xs)) told,
     )

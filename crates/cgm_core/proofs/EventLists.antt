@@ -35,28 +35,28 @@ trade_accepted p log seen b h proper =
     by_closed p log (all_placed (length log) b.lemmas ++ kept_candidate p (state_of log) b.by b.candidate) (state_of log).closed h
     (λ still_open. landing_accepted p log b h still_open (proper_on_log p log seen b still_open proper))
 
--- ---- seats
+-- ---- what each worker has seen
 
 -- at each place the old item, or the one that was set
-set_or_old : (P : Option ℕ → Type 0) (seats : List (Option ℕ)) (i j : ℕ) (new : Option ℕ) → P (option_flatten (slice_get seats j)) → P new → P (option_flatten (slice_get (slice_set seats i new) j))
+set_or_old : (P : Option ℕ → Type 0) (seen : List (Option ℕ)) (i j : ℕ) (new : Option ℕ) → P (option_flatten (slice_get seen j)) → P new → P (option_flatten (slice_get (slice_set seen i new) j))
 set_or_old P [] i j new old h = old
-set_or_old P (s ∷ seats) zero zero new old h = h
-set_or_old P (s ∷ seats) zero (suc j) new old h = old
-set_or_old P (s ∷ seats) (suc i) zero new old h = old
-set_or_old P (s ∷ seats) (suc i) (suc j) new old h = set_or_old P seats i j new old h
+set_or_old P (s ∷ seen) zero zero new old h = h
+set_or_old P (s ∷ seen) zero (suc j) new old h = old
+set_or_old P (s ∷ seen) (suc i) zero new old h = old
+set_or_old P (s ∷ seen) (suc i) (suc j) new old h = set_or_old P seen i j new old h
 
-none_seated : (n j : ℕ) → option_flatten (slice_get (replicate {A = Option ℕ} n None) j) ≡ None
-none_seated zero j = refl
-none_seated (suc n) zero = refl
-none_seated (suc n) (suc j) = none_seated n j
+none_seen : (n j : ℕ) → option_flatten (slice_get (replicate {A = Option ℕ} n None) j) ≡ None
+none_seen zero j = refl
+none_seen (suc n) zero = refl
+none_seen (suc n) (suc j) = none_seen n j
 
 further : (o : Option ℕ) (n m : ℕ) → n ≤ m → IfSome o (λ k. k ≤ n) → IfSome o (λ k. k ≤ m)
 further None n m le h = tt
 further (Some k) n m le h = omega arith
 
-pub fronts_set : (s : CoreState) (log : List Entry) (worker : ℕ) (new : Option ℕ) → length s.log ≤ length log → IfSome new (λ n. n ≤ length log) → AreFronts s → AreFronts (record { problem = s.problem; log = log; seats = slice_set s.seats worker new })
+pub fronts_set : (s : CoreState) (log : List Entry) (worker : ℕ) (new : Option ℕ) → length s.log ≤ length log → IfSome new (λ n. n ≤ length log) → AreFronts s → AreFronts (record { problem = s.problem; log = log; fronts_seen = slice_set s.fronts_seen worker new })
 fronts_set s log worker new le h fronts other =
-    set_or_old (λ (o : Option ℕ). IfSome o (λ n. n ≤ length log)) s.seats worker other new (further (seen_by s other) (length s.log) (length log) le (fronts other)) h
+    set_or_old (λ (o : Option ℕ). IfSome o (λ n. n ≤ length log)) s.fronts_seen worker other new (further (seen_by s other) (length s.log) (length log) le (fronts other)) h
 
 -- ---- one event
 
@@ -104,7 +104,7 @@ nothing_seen (Some k) n e = absurd (cc)
 pub events_keep : EventsKeepLogs
 events_keep p events valid allowed =
     let sound : IsSound p (after_events (begin p) events) =
-    all_kept p (begin p) events (record { problem = refl; accepted = IsAccepted-nil p; fronts = λ worker. nothing_seen (seen_by (begin p) worker) 0 (none_seated max_workers worker) }) allowed in
+    all_kept p (begin p) events (record { problem = refl; accepted = IsAccepted-nil p; fronts = λ worker. nothing_seen (seen_by (begin p) worker) 0 (none_seen max_workers worker) }) allowed in
     let log = (after_events (begin p) events).log in
     record {
       problem = sound.problem;

@@ -5,10 +5,10 @@ use Rattle.cgm_core.specs.declared.cores.Core.TheInside.{Inside}
 use Rattle.cgm_log.specs.Events.{AreFronts, CoreState}
 
 abbrev pub core_state : Inside → CoreState
-core_state c = record { problem = c.log.problem; log = c.log.entries; seats = c.seats.items }
+core_state c = record { problem = c.log.problem; log = c.log.entries; fronts_seen = c.fronts_seen.items }
 
 pub record IsCore (s : CoreState) : Type 0 where
-  pub seats : length s.seats ≡ max_workers
+  pub fronts_seen : length s.fronts_seen ≡ max_workers
   pub fronts : AreFronts s
 
 abbrev pub IsCoreInside : Inside → Type 0

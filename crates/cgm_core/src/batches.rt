@@ -71,6 +71,7 @@ fn is_lemma_of(lemma: &Entry, worker: u32, before: u64) -> bool
             hints,
             bound,
         } => {
+            // The range of the bound is known of its value alone.
             let _bound = *bound;
             if *maker != worker {
                 return false;

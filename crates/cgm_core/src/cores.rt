@@ -17,7 +17,7 @@ use std::marker::Model;
 pub struct Core {
     alloc: Global,
     log: Log,
-    seats: Vec<Option<u64>>,
+    fronts_seen: Vec<Option<u64>>,
 }
 
 impl Model for Core {
@@ -37,11 +37,11 @@ impl Core {
     pub fn new(alloc: Global, problem: Problem) -> Result<Core, OutOfMemory>
         ensures { IfOk result (λ c. c ≡ begin problem) }
     {
-        let seats = vec![in alloc; None; MAX_WORKERS as usize]?;
+        let fronts_seen = vec![in alloc; None; MAX_WORKERS as usize]?;
         Ok(Core {
             alloc,
             log: Log::new(alloc, problem),
-            seats,
+            fronts_seen,
         })
     }
 
@@ -57,8 +57,8 @@ impl Core {
     pub fn seen(&self, worker: u32) -> Option<u64>
         ensures { result ≡ seen_by self.now worker }
     {
-        match self.seats.get(worker as usize) {
-            Some(seat) => *seat,
+        match self.fronts_seen.get(worker as usize) {
+            Some(seen) => *seen,
             None => None,
         }
     }
@@ -90,7 +90,7 @@ impl Core {
         match self.seen(worker) {
             Some(_) => Err(CoreStop::Illegal { place: 1 }),
             None => {
-                self.seats[worker as usize] = Some(0);
+                self.fronts_seen[worker as usize] = Some(0);
                 Ok(())
             }
         }
@@ -105,7 +105,7 @@ impl Core {
         match self.seen(worker) {
             None => Err(CoreStop::Illegal { place: 1 }),
             Some(_) => {
-                self.seats[worker as usize] = None;
+                self.fronts_seen[worker as usize] = None;
                 Ok(())
             }
         }
@@ -158,7 +158,7 @@ impl Core {
             Ok(true) => match self.log.trade(seen, batch) {
                 Err(_) => Err(CoreStop::Memory),
                 Ok(_) => {
-                    self.seats[worker as usize] = Some(self.log.entries().len() as u64);
+                    self.fronts_seen[worker as usize] = Some(self.log.entries().len() as u64);
                     Ok(())
                 }
             },

@@ -12,13 +12,13 @@ pub record CoreState : Type 0 where
   pub problem : Instance
   pub log : List Entry
   -- for each worker, by number, how many entries it has seen, if it is in
-  pub seats : List (Option ℕ)
+  pub fronts_seen : List (Option ℕ)
 
 abbrev pub begin : Instance → CoreState
-begin p = record { problem = p; log = []; seats = replicate max_workers None }
+begin p = record { problem = p; log = []; fronts_seen = replicate max_workers None }
 
 abbrev pub seen_by : CoreState → ℕ → Option ℕ
-seen_by s worker = option_flatten (slice_get s.seats worker)
+seen_by s worker = option_flatten (slice_get s.fronts_seen worker)
 
 -- ---- events
 
@@ -30,17 +30,17 @@ IsAllowedEvent s (Look worker count) = IsSomeAnd (seen_by s worker) (λ n. (n �
 IsAllowedEvent s (Leave worker) = IsSome (seen_by s worker)
 
 -- the worker has seen so many
-abbrev pub seated : CoreState → ℕ → Option ℕ → CoreState
-seated s worker seen = record s { seats = slice_set s.seats worker seen }
+abbrev pub with_seen : CoreState → ℕ → Option ℕ → CoreState
+with_seen s worker seen = record s { fronts_seen = slice_set s.fronts_seen worker seen }
 
 abbrev pub traded : CoreState → ℕ → List Entry → CoreState
-traded s worker log = record { problem = s.problem; log = log; seats = slice_set s.seats worker (Some (length log)) }
+traded s worker log = record { problem = s.problem; log = log; fronts_seen = slice_set s.fronts_seen worker (Some (length log)) }
 
 abbrev pub after_event : CoreState → Event → CoreState
-after_event s (Enter worker) = seated s worker (Some 0)
+after_event s (Enter worker) = with_seen s worker (Some 0)
 after_event s (Trade worker batch) = traded s worker (with_landed s.problem s.log batch)
 after_event s (Look worker count) = s
-after_event s (Leave worker) = seated s worker None
+after_event s (Leave worker) = with_seen s worker None
 
 -- ---- lists of events
 

@@ -17,7 +17,7 @@ use Rattle.cgm_log.specs.LogBook.{LogBook}
 use Rattle.cgm_turn.specs.declared.views.Joined.{Joined}
 use Rattle.cgm_turn.specs.declared.views.View.{View}
 use Rattle.cgm_turn.specs.Entries.{AreOfLog, BeginsWith, made_by}
-use Rattle.cgm_turn.specs.Rule.{IsAccountOf, IsLive, IsServed, IsSpent, IsTurnTable, KnowsTurn, KnowsTurnBy, NoneHolds, living, total_of}
+use Rattle.cgm_turn.specs.Rule.{IsAccountOf, IsLive, IsServed, IsSpent, IsTurnTable, KnowsTurn, BySpent, NoneHolds, living, total_of}
 use Rattle.cgm_turn.specs.Views.{IsLogAtEnd, account_with, landed_by, landed_of}
 use Rattle.cgm_turn.proofs.Keeping.{live_if, rests}
 use Rattle.cgm_turn.proofs.Ledgers.{terms_le, within}
@@ -41,7 +41,7 @@ others_spent views v j u false place lives only n at e =
     let two = terms_le living views 0 j v u n place at in
     absurd (omega (arith, two, only, one_if v v.is_spent lives refl, one_if u u.is_spent e refl))
 
-spent_if : (t : Bool) (serving next : ℕ) (log : LogBook) (joined : List Joined) (j : ℕ) (v : View) → KnowsTurnBy t serving next log joined j v → t ≡ true → IsSpent joined j v
+spent_if : (t : Bool) (serving next : ℕ) (log : LogBook) (joined : List Joined) (j : ℕ) (v : View) → BySpent t (IsSpent joined j v) (IsLive serving next log joined j v) → t ≡ true → IsSpent joined j v
 spent_if true serving next log joined j v k e = k
 spent_if false serving next log joined j v k e = absurd (cc)
 

@@ -18,7 +18,7 @@ use Rattle.cgm_turn.specs.declared.views.Joined.{Joined}
 use Rattle.cgm_turn.specs.declared.views.View.{View}
 use Rattle.cgm_turn.specs.Entries.{BeginsWith, made_by}
 use Rattle.cgm_turn.specs.Plays.{Draws, account, drawing, joining, longer, spent_view, split_off, splitting}
-use Rattle.cgm_turn.specs.Rule.{AreTicketsApart, IsAccountOf, IsAway, IsLive, IsPaid, IsServed, IsSpent, IsTurnTable, KnowsTurn, KnowsTurnBy, Leads, NoneHolds, cost, count_ticket, living, tickets_of, total_of, view_weight}
+use Rattle.cgm_turn.specs.Rule.{AreTicketsApart, IsAccountOf, IsAway, IsLive, AreTradesCounted, IsServed, IsSpent, IsTurnTable, KnowsTurn, BySpent, Leads, NoneHolds, trades_of, count_ticket, living, tickets_of, total_of, members_of}
 use Rattle.cgm_turn.specs.Views.{account_with}
 use Rattle.cgm_turn.proofs.Keeping.{apart_new, apart_same, apart_without, bound_of, known_live, leads_kept, live_if, rests}
 use Rattle.cgm_turn.proofs.Ledgers.{each_after, each_more, terms_le, total-more, total-same, total-set, within}
@@ -27,7 +27,7 @@ later_next : (o : Option ℕ) (serving next : ℕ) → IfSome o (λ t. (serving 
 later_next None serving next h = tt
 later_next (Some t) serving next h = (h.0, omega (arith, h.1))
 
-other_knows : (t : Bool) (serving next : ℕ) (log : LogBook) (joined : List Joined) (j : ℕ) (u : View) → KnowsTurnBy t serving next log joined j u → KnowsTurnBy t serving (next + 1) log joined j u
+other_knows : (t : Bool) (serving next : ℕ) (log : LogBook) (joined : List Joined) (j : ℕ) (u : View) → BySpent t (IsSpent joined j u) (IsLive serving next log joined j u) → BySpent t (IsSpent joined j u) (IsLive serving (next + 1) log joined j u)
 other_knows true serving next log joined j u k = k
 other_knows false serving next log joined j u k = record {
   number = k.number;
@@ -36,7 +36,8 @@ other_knows false serving next log joined j u k = record {
   landed = k.landed;
   unjoined = k.unjoined;
   waits = later_next u.ticket serving next k.waits;
-  cheap = k.cheap;
+  bounded = k.bounded;
+  begun = k.begun;
   holds = k.holds;
 }
 
@@ -44,7 +45,7 @@ not_next : (o : Option ℕ) (serving next : ℕ) → IfSome o (λ t. (serving �
 not_next None serving next h e = absurd (cc)
 not_next (Some t) serving next h e = let same : t ≡ next = cc (e) in omega (arith, h.1, same)
 
-new_to : (t : Bool) (serving next : ℕ) (log : LogBook) (joined : List Joined) (j : ℕ) (u : View) → KnowsTurnBy t serving next log joined j u → ¬ (u.ticket ≡ Some next)
+new_to : (t : Bool) (serving next : ℕ) (log : LogBook) (joined : List Joined) (j : ℕ) (u : View) → BySpent t (IsSpent joined j u) (IsLive serving next log joined j u) → ¬ (u.ticket ≡ Some next)
 new_to true serving next log joined j u k e = let none = k.ticket in absurd (cc)
 new_to false serving next log joined j u k e = not_next u.ticket serving next k.waits e
 
@@ -54,12 +55,13 @@ draw_kept serving next homes views id v g at lives rest few_begun =
     let w : View = drawing v next in
     let live = live_if v.is_spent serving next g.log g.joined id v (g.each id v at) lives in
     let held : v.held ≡ None = rests v.held v.ticket serving g.log rest live.holds in
-    let costs = total-set cost views id v w at in
+    let trades = total-set trades_of views id v w at in
     let tickets = total-set tickets_of views id v w at in
     let none_before : tickets_of v ≡ 0 = ap count_ticket rest in
     let one_then : tickets_of w ≡ 1 = refl in
     record {
       log = g.log;
+      accepted = g.accepted;
       joined = g.joined;
       out = g.out;
       splits = g.splits;
@@ -83,22 +85,24 @@ draw_kept serving next homes views id v g at lives rest few_begun =
             landed = live.landed;
             unjoined = live.unjoined;
             waits = (g.order, omega arith);
-            cheap = live.cheap;
+            bounded = live.bounded;
+            begun = omega (arith, few_begun);
             holds = subst (λ (o : Option (List Entry)). IfSome o (λ entries. (w.ticket ≡ Some serving) × (entries ≡ g.log.entries))) (sym held) tt;
           }))
           (λ j u n there. other_knows u.is_spent serving next g.log g.joined j u (g.each j u there));
       apart = apart_new views id w next refl (λ j u there. new_to u.is_spent serving next g.log g.joined j u (g.each j u there)) g.apart;
       accounts = g.accounts;
       fronts = g.fronts;
+      distinct = g.distinct;
       later = λ x far. g.later x (omega (arith, length-set views id w, far));
       living = total-same living views id v w at refl ∙ g.living;
-      paid = record {
-        paid = omega (arith, costs, g.paid.paid);
-        weights = total-same view_weight views id v w at refl ∙ g.paid.weights ∙ sym (length-set views id w);
-        cheap =
-            each_after (λ (i : ℕ) (z : View). cost z ≤ z.weight * 2 ^ 59) views id w (omega (arith, live.cheap, few_begun))
-            (λ j u n there. g.paid.cheap j u there);
-        few = omega (arith, length-set views id w, g.paid.few);
+      trades = record {
+        counted = omega (arith, trades, g.trades.counted);
+        members = total-same members_of views id v w at refl ∙ g.trades.members ∙ sym (length-set views id w);
+        bounded =
+            each_after (λ (i : ℕ) (z : View). trades_of z ≤ z.members * 2 ^ 59) views id w (omega (arith, live.bounded, few_begun))
+            (λ j u n there. g.trades.bounded j u there);
+        few = omega (arith, length-set views id w, g.trades.few);
       };
     }
 
@@ -108,7 +112,7 @@ draws id v lives rest few_begun s g wide at small =
     let next : ℕ = slice_index s.words 1 in
     let kept = draw_kept serving next s.homes s.views id v g.served at lives rest few_begun in
     let n : ℕ = (next + 1) % 2 ^ 64 in
-    let no_wrap : (next + 1) % 2 ^ 64 ≡ next + 1 = mod-eq_of_lt (bound_of (set s.views id (drawing v next)) (next + 1) kept.paid) in
+    let no_wrap : (next + 1) % 2 ^ 64 ≡ next + 1 = mod-eq_of_lt (bound_of (set s.views id (drawing v next)) (next + 1) kept.trades) in
     let first : slice_index (slice_set s.words 1 n) 0 ≡ serving = get_or-set_other s.words 1 0 n 0 (λ e. omega arith) in
     let second : slice_index (slice_set s.words 1 n) 1 ≡ next + 1 = get_or-set_same s.words 1 n 0 (omega (arith, g.words)) ∙ no_wrap in (
       drawing v next,

@@ -19,7 +19,7 @@ use Rattle.cgm_turn.specs.declared.views.Joined.{Joined}
 use Rattle.cgm_turn.specs.declared.views.View.{View}
 use Rattle.cgm_turn.specs.Entries.{BeginsWith, made_by}
 use Rattle.cgm_turn.specs.Plays.{Draws, account, drawing, joining, longer, spent_view, split_off, splitting}
-use Rattle.cgm_turn.specs.Rule.{AreTicketsApart, IsAccountOf, IsAway, IsLive, IsPaid, IsServed, IsSpent, IsTurnTable, KnowsTurn, KnowsTurnBy, Leads, NoneHolds, cost, count_ticket, living, tickets_of, total_of, view_weight}
+use Rattle.cgm_turn.specs.Rule.{AreTicketsApart, IsAccountOf, IsAway, IsLive, AreTradesCounted, IsServed, IsSpent, IsTurnTable, KnowsTurn, BySpent, Leads, NoneHolds, trades_of, count_ticket, living, tickets_of, total_of, members_of}
 use Rattle.cgm_turn.specs.Views.{account_with}
 use Rattle.cgm_turn.proofs.Keeping.{apart_new, apart_same, apart_without, bound_of, held_none, known_live, leads_kept, live_if, rests}
 use Rattle.cgm_turn.proofs.Ledgers.{each_after, each_more, terms_le, total-more, total-same, total-set, within}
@@ -39,7 +39,7 @@ some_new r joined j same = rw (eq-eqb r.number j same) refl
 none_kept : (r : Joined) (joined : List Joined) (j : ℕ) → r.number ≢ j → account_with j joined ≡ None → account_with j (r ∷ joined) ≡ None
 none_kept r joined j other h = rw (ne_eqb r.number j other) h
 
-other_knows : (t : Bool) (serving next : ℕ) (log : LogBook) (joined : List Joined) (r : Joined) (j : ℕ) (u : View) → r.number ≢ j → KnowsTurnBy t serving next log joined j u → KnowsTurnBy t serving next log (r ∷ joined) j u
+other_knows : (t : Bool) (serving next : ℕ) (log : LogBook) (joined : List Joined) (r : Joined) (j : ℕ) (u : View) → r.number ≢ j → BySpent t (IsSpent joined j u) (IsLive serving next log joined j u) → BySpent t (IsSpent (r ∷ joined) j u) (IsLive serving next log (r ∷ joined) j u)
 other_knows true serving next log joined r j u other k = record {
   ticket = k.ticket;
   held = k.held;
@@ -52,7 +52,8 @@ other_knows false serving next log joined r j u other k = record {
   landed = k.landed;
   unjoined = none_kept r joined j other k.unjoined;
   waits = k.waits;
-  cheap = k.cheap;
+  bounded = k.bounded;
+  begun = k.begun;
   holds = k.holds;
 }
 
@@ -99,12 +100,13 @@ join_kept serving next homes views id v other w g at apart_ids at' lives number 
     let tickets_all = total-set tickets_of one other w spent_view at_one in
     let none_other : tickets_of w ≡ 0 = ap count_ticket rest' in
     let none_spent : tickets_of spent_view ≡ 0 = refl in
-    let cost_one = total-set cost views id v a at in
-    let cost_all = total-set cost one other w spent_view at_one in
-    let weight_one = total-set view_weight views id v a at in
-    let weight_all = total-set view_weight one other w spent_view at_one in
+    let trades_one = total-set trades_of views id v a at in
+    let trades_all = total-set trades_of one other w spent_view at_one in
+    let members_one = total-set members_of views id v a at in
+    let members_all = total-set members_of one other w spent_view at_one in
     record {
       log = log;
+      accepted = g.accepted;
       joined = r ∷ g.joined;
       out = g.out - 1;
       splits = g.splits;
@@ -149,7 +151,8 @@ join_kept serving next homes views id v other w g at apart_ids at' lives number 
             landed = live.landed;
             unjoined = none_kept r g.joined id (λ e. apart_ids (sym live'.number ∙ e)) live.unjoined;
             waits = live.waits;
-            cheap = omega (arith, live.cheap, g.paid.cheap other w at');
+            bounded = omega (arith, live.bounded, g.trades.bounded other w at');
+            begun = live.begun;
             holds = live.holds;
           }))))
           (λ n. other_knows u.is_spent serving next log g.joined r j u (λ e. n' (sym e ∙ live'.number)) (g.each j u (sym (set_else views id j a n) ∙ there))));
@@ -157,20 +160,21 @@ join_kept serving next homes views id v other w g at apart_ids at' lives number 
       accounts = λ x.
           accounted log r g.joined x (record { seen = live'.seen; landed = subst (λ (n : ℕ). made_by n log.entries ≡ w.landed) (sym live'.number) live'.landed }) (g.accounts x);
       fronts = ((live'.seen, live.seen), g.fronts);
+      distinct = (subst (λ (n : ℕ). account_with n g.joined ≡ None) (sym live'.number) live'.unjoined, g.distinct);
       later = λ x far.
           let past = g.later x (omega (arith, count, far)) in
           (past.0, none_kept r g.joined x (λ e. omega (arith, e, live'.number, count, far, within views other w at')) past.1);
       living = omega (arith, living_one, living_all, alive, alive', two, g.living);
-      paid = record {
-        paid = omega (arith, cost_one, cost_all, g.paid.paid);
-        weights = omega (arith, weight_one, weight_all, g.paid.weights, count);
-        cheap =
-            each_after (λ (i : ℕ) (z : View). cost z ≤ z.weight * 2 ^ 59) one other spent_view (omega arith)
+      trades = record {
+        counted = omega (arith, trades_one, trades_all, g.trades.counted);
+        members = omega (arith, members_one, members_all, g.trades.members, count);
+        bounded =
+            each_after (λ (i : ℕ) (z : View). trades_of z ≤ z.members * 2 ^ 59) one other spent_view (omega arith)
             (λ j u n' there.
-            each_after (λ (i : ℕ) (z : View). cost z ≤ z.weight * 2 ^ 59) views id a
-            (omega (arith, g.paid.cheap id v at, g.paid.cheap other w at'))
-            (λ i z n there'. g.paid.cheap i z there') j u there);
-        few = omega (arith, count, g.paid.few);
+            each_after (λ (i : ℕ) (z : View). trades_of z ≤ z.members * 2 ^ 59) views id a
+            (omega (arith, g.trades.bounded id v at, g.trades.bounded other w at'))
+            (λ i z n there'. g.trades.bounded i z there') j u there);
+        few = omega (arith, count, g.trades.few);
       };
     }
 

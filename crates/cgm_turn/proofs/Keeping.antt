@@ -20,33 +20,33 @@ use Rattle.cgm_turn.specs.declared.views.Joined.{Joined}
 use Rattle.cgm_turn.specs.declared.views.View.{View}
 use Rattle.cgm_turn.specs.Entries.{BeginsWith, made_by, maker}
 use Rattle.cgm_turn.specs.Plays.{HandsOn, count_held, gone_home, handed_on}
-use Rattle.cgm_turn.specs.Rule.{AreTicketsApart, IsAccountOf, IsLive, IsPaid, IsServed, IsSpent, IsTurnTable, KnowsTurn, KnowsTurnBy, Leads, NoneHolds, cost, living, total_of, view_weight}
+use Rattle.cgm_turn.specs.Rule.{AreTicketsApart, IsAccountOf, IsLive, AreTradesCounted, IsServed, IsSpent, IsTurnTable, KnowsTurn, BySpent, Leads, NoneHolds, trades_of, living, total_of, members_of}
 use Rattle.cgm_turn.specs.Views.{account_with}
 use Rattle.cgm_turn.proofs.Ledgers.{begins_longer, begins_self, each_after, others_add_none, own_add_all, total-same, within}
 
 -- ---- what a pass that has the log knows
 
-pub live_if_held : (t : Bool) (serving next : ℕ) (log : LogBook) (joined : List Joined) (j : ℕ) (v : View) (old : List Entry) → KnowsTurnBy t serving next log joined j v → v.held ≡ Some old → IsLive serving next log joined j v
+pub live_if_held : (t : Bool) (serving next : ℕ) (log : LogBook) (joined : List Joined) (j : ℕ) (v : View) (old : List Entry) → BySpent t (IsSpent joined j v) (IsLive serving next log joined j v) → v.held ≡ Some old → IsLive serving next log joined j v
 live_if_held true serving next log joined j v old k e = let none = k.held in absurd (cc)
 live_if_held false serving next log joined j v old k e = k
 
-pub known_again : (t : Bool) (s s' n n' : ℕ) (log log' : LogBook) (joined : List Joined) (j : ℕ) (v w : View) (old : List Entry) → KnowsTurnBy t s n log joined j v → v.held ≡ Some old → IsLive s' n' log' joined j w → KnowsTurnBy t s' n' log' joined j w
+pub known_again : (t : Bool) (s s' n n' : ℕ) (log log' : LogBook) (joined : List Joined) (j : ℕ) (v w : View) (old : List Entry) → BySpent t (IsSpent joined j v) (IsLive s n log joined j v) → v.held ≡ Some old → IsLive s' n' log' joined j w → BySpent t (IsSpent joined j w) (IsLive s' n' log' joined j w)
 known_again true s s' n n' log log' joined j v w old k e live = let none = k.held in absurd (cc)
 known_again false s s' n n' log log' joined j v w old k e live = live
 
-pub live_if_ticket : (t : Bool) (serving next : ℕ) (log : LogBook) (joined : List Joined) (j : ℕ) (v : View) (ticket : ℕ) → KnowsTurnBy t serving next log joined j v → v.ticket ≡ Some ticket → IsLive serving next log joined j v
+pub live_if_ticket : (t : Bool) (serving next : ℕ) (log : LogBook) (joined : List Joined) (j : ℕ) (v : View) (ticket : ℕ) → BySpent t (IsSpent joined j v) (IsLive serving next log joined j v) → v.ticket ≡ Some ticket → IsLive serving next log joined j v
 live_if_ticket true serving next log joined j v ticket k e = let none = k.ticket in absurd (cc)
 live_if_ticket false serving next log joined j v ticket k e = k
 
-pub known_with_ticket : (t : Bool) (s s' n n' : ℕ) (log log' : LogBook) (joined : List Joined) (j : ℕ) (v w : View) (ticket : ℕ) → KnowsTurnBy t s n log joined j v → v.ticket ≡ Some ticket → IsLive s' n' log' joined j w → KnowsTurnBy t s' n' log' joined j w
+pub known_with_ticket : (t : Bool) (s s' n n' : ℕ) (log log' : LogBook) (joined : List Joined) (j : ℕ) (v w : View) (ticket : ℕ) → BySpent t (IsSpent joined j v) (IsLive s n log joined j v) → v.ticket ≡ Some ticket → IsLive s' n' log' joined j w → BySpent t (IsSpent joined j w) (IsLive s' n' log' joined j w)
 known_with_ticket true s s' n n' log log' joined j v w ticket k e live = let none = k.ticket in absurd (cc)
 known_with_ticket false s s' n n' log log' joined j v w ticket k e live = live
 
-pub live_if : (t : Bool) (serving next : ℕ) (log : LogBook) (joined : List Joined) (j : ℕ) (v : View) → KnowsTurnBy t serving next log joined j v → t ≡ false → IsLive serving next log joined j v
+pub live_if : (t : Bool) (serving next : ℕ) (log : LogBook) (joined : List Joined) (j : ℕ) (v : View) → BySpent t (IsSpent joined j v) (IsLive serving next log joined j v) → t ≡ false → IsLive serving next log joined j v
 live_if true serving next log joined j v k e = absurd (cc)
 live_if false serving next log joined j v k e = k
 
-pub known_live : (t : Bool) (serving next : ℕ) (log : LogBook) (joined : List Joined) (j : ℕ) (v : View) → t ≡ false → IsLive serving next log joined j v → KnowsTurnBy t serving next log joined j v
+pub known_live : (t : Bool) (serving next : ℕ) (log : LogBook) (joined : List Joined) (j : ℕ) (v : View) → t ≡ false → IsLive serving next log joined j v → BySpent t (IsSpent joined j v) (IsLive serving next log joined j v)
 known_live true serving next log joined j v e live = absurd (cc)
 known_live false serving next log joined j v e live = live
 
@@ -71,7 +71,7 @@ holds_unserved : (o : Option (List Entry)) (ticket : Option ℕ) (serving : ℕ)
 holds_unserved None ticket serving log other h = refl
 holds_unserved (Some entries) ticket serving log other h = absurd (other h.0)
 
-pub other_holds_none : (t : Bool) (serving next : ℕ) (log : LogBook) (joined : List Joined) (j : ℕ) (u : View) → ¬ (u.ticket ≡ Some serving) → KnowsTurnBy t serving next log joined j u → u.held ≡ None
+pub other_holds_none : (t : Bool) (serving next : ℕ) (log : LogBook) (joined : List Joined) (j : ℕ) (u : View) → ¬ (u.ticket ≡ Some serving) → BySpent t (IsSpent joined j u) (IsLive serving next log joined j u) → u.held ≡ None
 other_holds_none true serving next log joined j u other k = k.held
 other_holds_none false serving next log joined j u other k = holds_unserved u.held u.ticket serving log other k.holds
 
@@ -86,7 +86,7 @@ holds_none None ticket serving log P other h = tt
 holds_none (Some entries) ticket serving log P other h = absurd (other h.0)
 
 pub other_knows : (t : Bool) (serving next by : ℕ) (log log' : LogBook) (added : List Entry) (joined : List Joined) (j : ℕ) (u : View) → j ≢ by → log'.entries ≡ log.entries ++ added → All (λ e. maker e ≡ by) added → log'.problem ≡ log.problem → ¬ (u.ticket ≡ Some serving)
-    → KnowsTurnBy t serving next log joined j u → KnowsTurnBy t (serving + 1) next log' joined j u
+    → BySpent t (IsSpent joined j u) (IsLive serving next log joined j u) → BySpent t (IsSpent joined j u) (IsLive (serving + 1) next log' joined j u)
 other_knows true serving next by log log' added joined j u n grown own same other k = k
 other_knows false serving next by log log' added joined j u n grown own same other k = record {
   number = k.number;
@@ -95,7 +95,8 @@ other_knows false serving next by log log' added joined j u n grown own same oth
   landed = ap (made_by j) grown ∙ others_add_none j by log.entries added n own ∙ k.landed;
   unjoined = k.unjoined;
   waits = waits_on u.ticket serving next (λ t e same_ticket. other (e ∙ ap Some same_ticket)) k.waits;
-  cheap = k.cheap;
+  bounded = k.bounded;
+  begun = k.begun;
   holds = holds_none u.held u.ticket serving log (λ entries. (u.ticket ≡ Some (serving + 1)) × (entries ≡ log'.entries)) other k.holds;
 }
 
@@ -157,14 +158,14 @@ apart_new views id w new drawn nobody apart j k x y t at at' e e' =
     (λ i' z' n' there' some_ticket'. apart i i' z z' t there there' some_ticket some_ticket') k y at' e')
     j x at e
 
-pub paid_kept : (next : ℕ) (views : List View) (id : ℕ) (v w : View) → get_elem? views id ≡ some v → cost w ≡ cost v → w.weight ≡ v.weight → IsPaid next views → IsPaid next (set views id w)
-paid_kept next views id v w at cost_same weight_same h = record {
-  paid = total-same cost views id v w at cost_same ∙ h.paid;
-  weights = total-same view_weight views id v w at weight_same ∙ h.weights ∙ sym (length-set views id w);
-  cheap =
-      each_after (λ (i : ℕ) (z : View). cost z ≤ z.weight * 2 ^ 59) views id w
-      (subst (λ (n : ℕ). cost w ≤ n * 2 ^ 59) (sym weight_same) (subst (λ (n : ℕ). n ≤ v.weight * 2 ^ 59) (sym cost_same) (h.cheap id v at)))
-      (λ j u n here. h.cheap j u here);
+pub counted_kept : (next : ℕ) (views : List View) (id : ℕ) (v w : View) → get_elem? views id ≡ some v → trades_of w ≡ trades_of v → w.members ≡ v.members → AreTradesCounted next views → AreTradesCounted next (set views id w)
+counted_kept next views id v w at trades_same members_same h = record {
+  counted = total-same trades_of views id v w at trades_same ∙ h.counted;
+  members = total-same members_of views id v w at members_same ∙ h.members ∙ sym (length-set views id w);
+  bounded =
+      each_after (λ (i : ℕ) (z : View). trades_of z ≤ z.members * 2 ^ 59) views id w
+      (subst (λ (n : ℕ). trades_of w ≤ n * 2 ^ 59) (sym members_same) (subst (λ (n : ℕ). n ≤ v.members * 2 ^ 59) (sym trades_same) (h.bounded id v at)))
+      (λ j u n here. h.bounded j u here);
   few = omega (arith, length-set views id w, h.few);
 }
 
@@ -184,6 +185,6 @@ total_at_most g h [] each = omega arith
 total_at_most g h (v ∷ views) each =
     omega (arith, each zero v refl, total_at_most g h views (λ j u e. each (suc j) u e))
 
-pub bound_of : (views : List View) (next : ℕ) → IsPaid next views → next < 2 ^ 64
+pub bound_of : (views : List View) (next : ℕ) → AreTradesCounted next views → next < 2 ^ 64
 bound_of views next h =
-    omega (arith, sym h.paid, total_at_most cost view_weight views h.cheap, h.weights, h.few)
+    omega (arith, sym h.counted, total_at_most trades_of members_of views h.bounded, h.members, h.few)

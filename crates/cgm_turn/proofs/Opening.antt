@@ -8,10 +8,12 @@ use mathlib.Core.Option as option
 use lib.ListN.{get_elem?}
 use Rattle.atomic_table.specs.Table.{opening}
 use Rattle.cgm_atom.specs.declared.entries.Entry.{Entry}
+use Rattle.cgm_atom.specs.Acceptance.{IsAccepted}
+use Rattle.cgm_atom.proofs.StateLemmas.{IsAccepted-nil}
 use Rattle.cgm_log.specs.LogBook.{LogBook}
 use Rattle.cgm_turn.specs.declared.views.View.{View}
 use Rattle.cgm_turn.specs.Entries.{made_by}
-use Rattle.cgm_turn.specs.Rule.{IsServed, IsTurnTable, KnowsTurn, cost}
+use Rattle.cgm_turn.specs.Rule.{IsServed, IsTurnTable, KnowsTurn, trades_of}
 use Rattle.cgm_turn.specs.Views.{newcomer}
 use Rattle.cgm_turn.proofs.Keeping.{held_none}
 
@@ -22,6 +24,7 @@ only_place a (suc j) b e = absurd (some-ne-none b (sym e))
 opens_served : (log : LogBook) → log.entries ≡ [] → IsServed 0 0 (some (Some log) ∷ []) (newcomer log.problem ∷ [])
 opens_served log none = let v : View = newcomer log.problem in let homes : List (option.Option (Option LogBook)) = some (Some log) ∷ [] in record {
   log = log;
+  accepted = subst (λ (xs : List Entry). IsAccepted log.problem xs) (sym none) (IsAccepted-nil log.problem);
   joined = [];
   out = 0;
   splits = 0;
@@ -45,18 +48,20 @@ opens_served log none = let v : View = newcomer log.problem in let homes : List 
         landed = ap (made_by 0) none;
         unjoined = refl;
         waits = tt;
-        cheap = omega arith;
+        bounded = omega arith;
+        begun = omega arith;
         holds = tt;
       }));
   apart = λ j k u w t e e' f f'. (only_place v j u e).0 ∙ sym (only_place v k w e').0;
   accounts = λ w. tt;
   fronts = tt;
+  distinct = tt;
   later = λ w far. (ap (made_by w) none, refl);
   living = refl;
-  paid = record {
-    paid = refl;
-    weights = refl;
-    cheap = λ j u e. subst (λ (x : View). cost x ≤ x.weight * 2 ^ 59) (only_place v j u e).1 (omega arith);
+  trades = record {
+    counted = refl;
+    members = refl;
+    bounded = λ j u e. subst (λ (x : View). trades_of x ≤ x.members * 2 ^ 59) (only_place v j u e).1 (omega arith);
     few = omega arith;
   };
 }

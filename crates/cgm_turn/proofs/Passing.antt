@@ -18,7 +18,7 @@ use Rattle.cgm_log.specs.Trading.{IsAnswer, news_of}
 use Rattle.cgm_turn.specs.declared.views.View.{View}
 use Rattle.cgm_turn.specs.Passes.{IsSamePass, IsTradeOf, PassState}
 use Rattle.cgm_turn.specs.Plays.{IsFoundBy, count_held, drawing, handed_on, holding, put_back}
-use Rattle.cgm_turn.specs.Turns.{IsInTurn, IsTurnTaken, IsWaiting}
+use Rattle.cgm_turn.specs.Turns.{IsInTurn, IsTurnTaken, TurnCame}
 
 abbrev pub state_at : TableId → View → PassState
 state_at table v =
@@ -36,7 +36,7 @@ state_at table v =
 
 -- ---- the turn came
 
-pub in_turn : (v : View) (ticket : ℕ) (me : Me (Option LogBook) View) → IsWaiting (drawing v ticket) me → IsInTurn me
+pub in_turn : (v : View) (ticket : ℕ) (me : Me (Option LogBook) View) → TurnCame (drawing v ticket) me → IsInTurn me
 in_turn v ticket me w =
     subst (λ (x : Me (Option LogBook) View). IsInTurn x) (sym w.after)
     (record { log = w.log; found = record { problem = w.found.problem; seen = w.found.seen; landed = w.found.landed }; held = refl; only = refl })
@@ -85,6 +85,6 @@ trade_by_result table table' v ticket entries b (Err x) me e taken =
     subst (λ (y : View). IsTradeOf (state_at table v) b (Err x) (state_at table' y)) (sym (ap (λ (m : Me (Option LogBook) View). m.0) taken.refund.1))
     (record { answer = tt; told = tt; own = tt; refund = (taken.refund.0, refl, refl); trades = refl; same = same_pass table table' v ticket entries v.seen v.landed e })
 
-pub pass_traded : (table table' : TableId) (v : View) (ticket : ℕ) (b : Batch) (r : Result Traded Refund) (me me' : Me (Option LogBook) View) → table' ≡ table → IsWaiting (drawing v ticket) me → IsTurnTaken me.0 b r me' → IsTradeOf (state_at table v) b r (state_at table' me'.0)
+pub pass_traded : (table table' : TableId) (v : View) (ticket : ℕ) (b : Batch) (r : Result Traded Refund) (me me' : Me (Option LogBook) View) → table' ≡ table → TurnCame (drawing v ticket) me → IsTurnTaken me.0 b r me' → IsTradeOf (state_at table v) b r (state_at table' me'.0)
 pass_traded table table' v ticket b r me me' e came taken =
     trade_by_result table table' v ticket came.log.entries b r me' e (subst (λ (x : View). IsTurnTaken x b r me') (ap (λ (x : Me (Option LogBook) View). x.0) came.after) taken)

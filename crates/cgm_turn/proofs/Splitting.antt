@@ -18,7 +18,7 @@ use Rattle.cgm_turn.specs.declared.views.Joined.{Joined}
 use Rattle.cgm_turn.specs.declared.views.View.{View}
 use Rattle.cgm_turn.specs.Entries.{BeginsWith, made_by}
 use Rattle.cgm_turn.specs.Plays.{Draws, account, drawing, joining, longer, spent_view, split_off, splitting}
-use Rattle.cgm_turn.specs.Rule.{AreTicketsApart, IsAccountOf, IsAway, IsLive, IsPaid, IsServed, IsSpent, IsTurnTable, KnowsTurn, KnowsTurnBy, Leads, NoneHolds, cost, living, tickets_of, total_of, view_weight}
+use Rattle.cgm_turn.specs.Rule.{AreTicketsApart, IsAccountOf, IsAway, IsLive, AreTradesCounted, IsServed, IsSpent, IsTurnTable, KnowsTurn, BySpent, Leads, NoneHolds, trades_of, living, tickets_of, total_of, members_of}
 use Rattle.cgm_turn.specs.Views.{account_with}
 use Rattle.cgm_turn.proofs.Keeping.{apart_new, apart_same, apart_without, bound_of, held_none, known_live, leads_kept, live_if, rests}
 use Rattle.cgm_turn.proofs.Ledgers.{each_after, each_more, terms_le, total-more, total-same, total-set, within}
@@ -49,6 +49,7 @@ split_kept serving next homes views id v g at lives number few_splits =
     let fresh = g.later (length (set views id a)) (omega (arith, length-set views id a)) in
     record {
       log = g.log;
+      accepted = g.accepted;
       joined = g.joined;
       out = g.out + 1;
       splits = g.splits + 1;
@@ -84,7 +85,8 @@ split_kept serving next homes views id v g at lives number few_splits =
             landed = fresh.0;
             unjoined = fresh.1;
             waits = tt;
-            cheap = omega arith;
+            bounded = omega arith;
+            begun = omega arith;
             holds = tt;
           })
           (each_after (λ (j : ℕ) (u : View). KnowsTurn serving next g.log g.joined j u) views id a
@@ -95,21 +97,23 @@ split_kept serving next homes views id v g at lives number few_splits =
             landed = live.landed;
             unjoined = live.unjoined;
             waits = live.waits;
-            cheap = live.cheap;
+            bounded = live.bounded;
+            begun = live.begun;
             holds = live.holds;
           }))
           (λ j u n there. g.each j u there));
       apart = longer_apart (set views id a) b refl (apart_same views id v a at refl g.apart);
       accounts = g.accounts;
       fronts = g.fronts;
+      distinct = g.distinct;
       later = λ x far. g.later x (omega (arith, count, far));
       living = total-more living (set views id a) b ∙ ap (λ (n : ℕ). n + 1) (total-same living views id v a at refl ∙ g.living);
-      paid = record {
-        paid = omega (arith, total-more cost (set views id a) b, total-same cost views id v a at refl, g.paid.paid);
-        weights = omega (arith, total-more view_weight (set views id a) b, total-same view_weight views id v a at refl, g.paid.weights, count);
-        cheap =
-            each_more (λ (i : ℕ) (z : View). cost z ≤ z.weight * 2 ^ 59) (set views id a) b (omega arith)
-            (each_after (λ (i : ℕ) (z : View). cost z ≤ z.weight * 2 ^ 59) views id a (g.paid.cheap id v at) (λ j u n there. g.paid.cheap j u there));
+      trades = record {
+        counted = omega (arith, total-more trades_of (set views id a) b, total-same trades_of views id v a at refl, g.trades.counted);
+        members = omega (arith, total-more members_of (set views id a) b, total-same members_of views id v a at refl, g.trades.members, count);
+        bounded =
+            each_more (λ (i : ℕ) (z : View). trades_of z ≤ z.members * 2 ^ 59) (set views id a) b (omega arith)
+            (each_after (λ (i : ℕ) (z : View). trades_of z ≤ z.members * 2 ^ 59) views id a (g.trades.bounded id v at) (λ j u n there. g.trades.bounded j u there));
         few = omega (arith, count, g.given, splits, few_splits);
       };
     }

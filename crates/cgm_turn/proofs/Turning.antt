@@ -24,12 +24,12 @@ use Rattle.cgm_log.specs.LogBook.{LogBook}
 use Rattle.cgm_turn.specs.declared.views.View.{View}
 use Rattle.cgm_turn.specs.Entries.{BeginsWith, maker}
 use Rattle.cgm_turn.specs.Plays.{TurnComes, TurnComesAt, IsFoundBy, holding, put_back}
-use Rattle.cgm_turn.specs.Turns.{IsInTurn, IsRested, IsWaiting}
+use Rattle.cgm_turn.specs.Turns.{IsInTurn, IsRested, TurnCame}
 use Rattle.cgm_turn.specs.Views.{HasTurn}
 
 -- ---- a look
 
-pub come_now : (st : Step (Option LogBook)) (o : Option ℕ) (t found : ℕ) (m m' : Me (Option LogBook) View) → o ≡ Some t → m.1 ≡ [] → TurnComesAt o st m found m' → t ≡ found → IsWaiting m.0 m'
+pub come_now : (st : Step (Option LogBook)) (o : Option ℕ) (t found : ℕ) (m m' : Me (Option LogBook) View) → o ≡ Some t → m.1 ≡ [] → TurnComesAt o st m found m' → t ≡ found → TurnCame m.0 m'
 come_now st o t found m m' e none told same =
     let now = (subst (λ (p : Option ℕ). TurnComesAt p st m found m') e told).0 same in
     record { log = now.0; found = now.1; after = now.2 ∙ ap (λ (xs : List (ℕ × Option LogBook)). (holding m.0 now.0.entries, (0, Some now.0) ∷ xs)) none }

@@ -17,9 +17,9 @@ use Rattle.cgm_turn.specs.declared.views.Joined.{Joined}
 use Rattle.cgm_turn.specs.declared.views.View.{View}
 use Rattle.cgm_turn.specs.Entries.{made_by}
 use Rattle.cgm_turn.specs.Plays.{TurnComes, TurnComesAt, IsFoundBy, Waits, holding}
-use Rattle.cgm_turn.specs.Rule.{AreTicketsApart, IsLive, IsServed, IsSpent, IsTurnTable, KnowsTurn, KnowsTurnBy, NoneHolds, living, tickets_of}
+use Rattle.cgm_turn.specs.Rule.{AreTicketsApart, IsLive, IsServed, IsSpent, IsTurnTable, KnowsTurn, BySpent, NoneHolds, living, tickets_of}
 use Rattle.cgm_turn.specs.Views.{account_with}
-use Rattle.cgm_turn.proofs.Keeping.{apart_same, at_some, known_with_ticket, leads_kept, live_if_ticket, other_holds_none, paid_kept}
+use Rattle.cgm_turn.proofs.Keeping.{apart_same, at_some, known_with_ticket, leads_kept, live_if_ticket, other_holds_none, counted_kept}
 use Rattle.cgm_turn.proofs.Ledgers.{each_after, total-same, within}
 
 none_holds : (serving next : ℕ) (homes : List (option.Option (Option LogBook))) (views : List View) (id : ℕ) (v : View) → IsServed serving next homes views → get_elem? views id ≡ some v → v.ticket ≡ Some serving → v.held ≡ None → NoneHolds views
@@ -35,6 +35,7 @@ take_kept serving next homes views id v g at mine =
     let live = live_if_ticket v.is_spent serving next g.log g.joined id v serving (g.each id v at) mine in
     record {
       log = g.log;
+      accepted = g.accepted;
       joined = g.joined;
       out = g.out;
       splits = g.splits;
@@ -54,16 +55,18 @@ take_kept serving next homes views id v g at mine =
             landed = live.landed;
             unjoined = live.unjoined;
             waits = live.waits;
-            cheap = live.cheap;
+            bounded = live.bounded;
+            begun = live.begun;
             holds = (mine, refl);
           }))
           (λ j u n there. g.each j u there);
       apart = apart_same views id v w at refl g.apart;
       accounts = g.accounts;
       fronts = g.fronts;
+      distinct = g.distinct;
       later = λ x far. g.later x (omega (arith, length-set views id w, far));
       living = total-same living views id v w at refl ∙ g.living;
-      paid = paid_kept next views id v w at refl refl g.paid;
+      trades = counted_kept next views id v w at refl refl g.trades;
     }
 
 same_words : (words : List ℕ) → slice_set words 0 (slice_index words 0) ≡ words

@@ -90,7 +90,7 @@ split_off v =
       landed = [];
       begun = 0;
       begun_by_joined = 0;
-      weight = 1;
+      members = 1;
       ticket = None;
       held = None;
       splits = 0;
@@ -110,7 +110,7 @@ joining v w =
     record v {
       seen = longer v.seen w.seen;
       begun_by_joined = v.begun_by_joined + (w.begun + w.begun_by_joined);
-      weight = v.weight + w.weight;
+      members = v.members + w.members;
       out = v.out - 1;
       joined = account v w ∷ v.joined;
     }
@@ -128,7 +128,7 @@ spent_view =
       landed = [];
       begun = 0;
       begun_by_joined = 0;
-      weight = 0;
+      members = 0;
       ticket = None;
       held = None;
       splits = 0;

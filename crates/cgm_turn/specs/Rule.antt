@@ -3,8 +3,10 @@ use Rattle.std.specs.Prelude.{◌≡◌, Bool, true, false, ℕ, ◌+◌, ◌*�
 use mathlib.Core.Option.{some}
 use mathlib.Core.Option as option
 use lib.ListN.{get_elem?}
+use Rattle.atomic_table.specs.Seated.{TableId}
 use Rattle.atomic_table.specs.Table.{State}
 use Rattle.cgm_atom.specs.declared.entries.Entry.{Entry}
+use Rattle.cgm_atom.specs.Acceptance.{IsAccepted}
 use Rattle.cgm_log.specs.LogBook.{LogBook}
 use Rattle.cgm_turn.specs.declared.views.Joined.{Joined}
 use Rattle.cgm_turn.specs.declared.views.View.{View}
@@ -26,7 +28,8 @@ pub record IsLive (serving next : ℕ) (log : LogBook) (joined : List Joined) (j
   pub landed : made_by j log.entries ≡ v.landed
   pub unjoined : account_with j joined ≡ None
   pub waits : IfSome v.ticket (λ t. (serving ≤ t) × (t < next))
-  pub cheap : v.begun_by_joined + 2 ^ 59 ≤ v.weight * 2 ^ 59
+  pub bounded : v.begun_by_joined + 2 ^ 59 ≤ v.members * 2 ^ 59
+  pub begun : v.begun ≤ 2 ^ 59
   pub holds : IfSome v.held (λ entries. (v.ticket ≡ Some serving) × (entries ≡ log.entries))
 
 -- one that was joined: the first pass keeps an account of it
@@ -35,12 +38,13 @@ pub record IsSpent (joined : List Joined) (j : ℕ) (v : View) : Type 0 where
   pub held : v.held ≡ None
   pub account : IsSome (account_with j joined)
 
-abbrev pub KnowsTurnBy : Bool → ℕ → ℕ → LogBook → List Joined → ℕ → View → Type 0
-KnowsTurnBy true serving next log joined j v = IsSpent joined j v
-KnowsTurnBy false serving next log joined j v = IsLive serving next log joined j v
+-- what holds of a spent view, or of one that isn't
+abbrev pub BySpent : Bool → Type 0 → Type 0 → Type 0
+BySpent true spent live = spent
+BySpent false spent live = live
 
 abbrev pub KnowsTurn : ℕ → ℕ → LogBook → List Joined → ℕ → View → Type 0
-KnowsTurn serving next log joined j v = KnowsTurnBy v.is_spent serving next log joined j v
+KnowsTurn serving next log joined j v = BySpent v.is_spent (IsSpent joined j v) (IsLive serving next log joined j v)
 
 -- what is kept of a joined pass is what the log has of it
 pub record IsAccountOf (log : LogBook) (w : ℕ) (r : Joined) : Type 0 where
@@ -50,11 +54,13 @@ pub record IsAccountOf (log : LogBook) (w : ℕ) (r : Joined) : Type 0 where
 abbrev pub living : View → ℕ
 living v = cond v.is_spent 0 1
 
-abbrev pub cost : View → ℕ
-cost v = v.begun + v.begun_by_joined
+-- the trades that a pass and those joined to it began
+abbrev pub trades_of : View → ℕ
+trades_of v = v.begun + v.begun_by_joined
 
-abbrev pub view_weight : View → ℕ
-view_weight v = v.weight
+-- how many a pass and those joined to it are
+abbrev pub members_of : View → ℕ
+members_of v = v.members
 
 -- the first pass, with what it keeps of the joined ones and how many are out
 pub record Leads (views : List View) (joined : List Joined) (out splits : ℕ) : Type 0 where
@@ -64,6 +70,11 @@ pub record Leads (views : List View) (joined : List Joined) (out splits : ℕ) :
   pub joined_is : first.joined ≡ joined
   pub out_is : first.out ≡ out
   pub splits_is : first.splits ≡ splits
+
+-- no two joined passes have one number
+abbrev pub AreNumbersApart : List Joined → Type 0
+AreNumbersApart [] = Unit {0}
+AreNumbersApart (r ∷ others) = (account_with r.number others ≡ None) × AreNumbersApart others
 
 -- how many tickets a pass has
 abbrev pub count_ticket : Option ℕ → ℕ
@@ -84,12 +95,13 @@ NoneHolds views = (j : ℕ) (v : View) → get_elem? views j ≡ some v → v.he
 abbrev pub AreTicketsApart : List View → Type 0
 AreTicketsApart views = (j k : ℕ) (v w : View) (t : ℕ) → get_elem? views j ≡ some v → get_elem? views k ≡ some w → v.ticket ≡ Some t → w.ticket ≡ Some t → j ≡ k
 
--- no word wraps: the next ticket counts the trades that were begun, each pass began at most 2^59, and there are at most 16
--- passes. A joined pass is one view that tells nothing, so a view carries the trades and the number of those joined to it
-pub record IsPaid (next : ℕ) (views : List View) : Type 0 where
-  pub paid : total_of cost views ≡ next
-  pub weights : total_of view_weight views ≡ length views
-  pub cheap : (j : ℕ) (v : View) → get_elem? views j ≡ some v → cost v ≤ v.weight * 2 ^ 59
+-- no word wraps: the next ticket counts the trades that were begun, a pass and those joined to it began at most 2^59 for
+-- each of them, and there are at most 16 passes. A spent view tells nothing, so a view carries the trades of those joined
+-- to it, and how many they are with it
+pub record AreTradesCounted (next : ℕ) (views : List View) : Type 0 where
+  pub counted : total_of trades_of views ≡ next
+  pub members : total_of members_of views ≡ length views
+  pub bounded : (j : ℕ) (v : View) → get_elem? views j ≡ some v → trades_of v ≤ v.members * 2 ^ 59
   pub few : length views ≤ 16
 
 -- the rule, of the ticket that is served, the next ticket, the slot and the views
@@ -106,17 +118,23 @@ pub record IsServed (serving next : ℕ) (homes : List (option.Option (Option Lo
   -- the log is in the slot exactly where no pass holds it
   pub home : NoneHolds views → get_elem? homes 0 ≡ some (some (Some log))
   pub away : (j : ℕ) (v : View) → get_elem? views j ≡ some v → IsAway homes v
+  pub accepted : IsAccepted log.problem log.entries
   pub order : serving ≤ next
-  -- each ticket from the one that is served on is a pass's
+  -- the ticket that is served and the number of passes with a ticket add up to the next one
   pub drawn : serving + total_of tickets_of views ≡ next
   pub each : (j : ℕ) (v : View) → get_elem? views j ≡ some v → KnowsTurn serving next log joined j v
   pub apart : AreTicketsApart views
   pub accounts : (w : ℕ) → IfSome (account_with w joined) (IsAccountOf log w)
   pub fronts : AreOfLog log.entries joined
+  pub distinct : AreNumbersApart joined
   -- numbers that weren't given out yet
   pub later : (w : ℕ) → length views ≤ w → (made_by w log.entries ≡ []) × (account_with w joined ≡ None)
   pub living : total_of living views ≡ out + 1
-  pub paid : IsPaid next views
+  pub trades : AreTradesCounted next views
+
+-- the size of a turn's table: two words and one slot
+abbrev pub HasTurnSize : TableId → Type 0
+HasTurnSize table = (table.words ≡ 2) × (table.slots ≡ 1)
 
 -- the rule, of a table with two words
 pub record IsTurnTable (s : State (Option LogBook) View) : Type 0 where

@@ -12,7 +12,7 @@ use Rattle.cgm_turn.specs.declared.views.View.{View}
 use Rattle.cgm_turn.specs.Plays.{IsFoundBy, handed_back, handed_on, holding}
 
 -- the turn came: the log is in the slot that the seat has
-pub record IsWaiting (v : View) (me : Me (Option LogBook) View) : Type 0 where
+pub record TurnCame (v : View) (me : Me (Option LogBook) View) : Type 0 where
   pub log : LogBook
   pub found : IsFoundBy v log
   pub after : me ≡ (holding v log.entries, (0, Some log) ∷ [])

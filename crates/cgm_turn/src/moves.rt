@@ -3,8 +3,9 @@ ghost use Rattle.std.specs.Prelude.{◌≡◌, ◌∷◌, ◌<◌, ◌^◌, [], 
 ghost use Rattle.cgm_atom.specs.Acceptance.{IsAccepted};
 ghost use Rattle.cgm_log.specs.LogBook.{LogBook};
 ghost use Rattle.cgm_log.specs.Landing.{IsProperBatch};
+ghost use Rattle.cgm_turn.specs.Rule.{HasTurnSize};
 ghost use Rattle.cgm_turn.specs.Views.{HasTurn, HasTurnUnused};
-ghost use Rattle.cgm_turn.specs.Turns.{IsInTurn, IsRested, IsTurnTaken, IsWaiting};
+ghost use Rattle.cgm_turn.specs.Turns.{IsInTurn, IsRested, IsTurnTaken, TurnCame};
 ghost use Rattle.cgm_turn.specs.Plays.{drawing, handed_back, handed_on, joining, split_off, splitting};
 
 use crate::views::{Served, View};
@@ -28,9 +29,9 @@ impl Play<Option<Log>, View> for Draw {
 }
 
 /// The ticket that is served is read; whose turn it is takes the slot.
-struct Look;
+struct AskTurn;
 
-impl Play<Option<Log>, View> for Look {
+impl Play<Option<Log>, View> for AskTurn {
     ghost use Rattle.cgm_turn.specs.Plays.{Waits};
 
     ghost then = { Waits };
@@ -79,7 +80,7 @@ impl Join<View> for JoinIn {
 /// Draws the next ticket.
 pub(crate) fn draw_ticket(board: &Board, seat: &mut Place) -> u64
     requires own { seat.old.table_id ≡ board.now.table_id }
-    requires sized { (board.now.table_id.words ≡ 2) × (board.now.table_id.slots ≡ 1) }
+    requires sized { HasTurnSize board.now.table_id }
     requires rest { (seat.old.me.1 ≡ []) × (seat.old.me.0.is_spent ≡ false)
         × (seat.old.me.0.ticket ≡ None) }
     requires few { seat.old.me.0.begun < 2 ^ 59 }
@@ -92,11 +93,11 @@ pub(crate) fn draw_ticket(board: &Board, seat: &mut Place) -> u64
 /// Waits until the ticket is served, and takes the log's slot.
 pub(crate) fn wait<R: Wait>(rt: &R, board: &Board, seat: &mut Place, ticket: u64)
     requires own { seat.old.table_id ≡ board.now.table_id }
-    requires sized { (board.now.table_id.words ≡ 2) × (board.now.table_id.slots ≡ 1) }
+    requires sized { HasTurnSize board.now.table_id }
     requires drawn { (seat.old.me.1 ≡ []) × (seat.old.me.0.ticket ≡ Some ticket)
         × (seat.old.me.0.held ≡ None) }
     ensures same { (seat.new.table_id ≡ seat.old.table_id) × (seat.new.id ≡ seat.old.id) }
-    ensures came { IsWaiting seat.old.me.0 seat.new.me }
+    ensures came { TurnCame seat.old.me.0 seat.new.me }
 {
     for _ in rt.forever() {
         if is_served(board, seat, ticket) {
@@ -110,14 +111,14 @@ pub(crate) fn wait<R: Wait>(rt: &R, board: &Board, seat: &mut Place, ticket: u64
 /// One look: whether it is this ticket's turn.
 fn is_served(board: &Board, seat: &mut Place, ticket: u64) -> bool
     requires own { seat.old.table_id ≡ board.now.table_id }
-    requires sized { (board.now.table_id.words ≡ 2) × (board.now.table_id.slots ≡ 1) }
+    requires sized { HasTurnSize board.now.table_id }
     requires drawn { (seat.old.me.1 ≡ []) × (seat.old.me.0.ticket ≡ Some ticket)
         × (seat.old.me.0.held ≡ None) }
     ensures same { (seat.new.table_id ≡ seat.old.table_id) × (seat.new.id ≡ seat.old.id) }
-    ensures came { result ≡ true → IsWaiting seat.old.me.0 seat.new.me }
+    ensures came { result ≡ true → TurnCame seat.old.me.0 seat.new.me }
     ensures not_yet { result ≡ false → seat.new.me ≡ seat.old.me }
 {
-    let served = board.load::<Look>(seat, 0);
+    let served = board.load::<AskTurn>(seat, 0);
     if served == ticket {
         return true;
     }
@@ -143,7 +144,7 @@ pub(crate) fn trade_in_turn(
     batch: Batch,
 ) -> (Result<Traded, Refund>, u64)
     requires own { seat.old.table_id ≡ board.now.table_id }
-    requires sized { (board.now.table_id.words ≡ 2) × (board.now.table_id.slots ≡ 1) }
+    requires sized { HasTurnSize board.now.table_id }
     requires turn { IsInTurn seat.old.me }
     requires seen { seen ≡ length seat.old.me.0.seen }
     requires proper { IsProperBatch seat.old.me.0.problem seat.old.me.0.seen batch }
@@ -173,7 +174,7 @@ pub(crate) fn trade_in_turn(
 /// Gives a part of the first pass's view to a new one.
 pub(crate) fn split_seat(board: &Board, seat: &mut Place) -> Place
     requires own { seat.old.table_id ≡ board.now.table_id }
-    requires sized { (board.now.table_id.words ≡ 2) × (board.now.table_id.slots ≡ 1) }
+    requires sized { HasTurnSize board.now.table_id }
     requires first { (seat.old.me.0.is_spent ≡ false) × (seat.old.me.0.number ≡ 0)
         × (seat.old.me.0.splits < 15) }
     ensures same { (seat.new.table_id ≡ seat.old.table_id) × (seat.new.id ≡ seat.old.id) }
@@ -188,7 +189,7 @@ pub(crate) fn split_seat(board: &Board, seat: &mut Place) -> Place
 pub(crate) fn join_seat(board: &Board, seat: &mut Place, other: Place)
     requires own { (seat.old.table_id ≡ board.now.table_id)
         × (other.table_id ≡ board.now.table_id) }
-    requires sized { (board.now.table_id.words ≡ 2) × (board.now.table_id.slots ≡ 1) }
+    requires sized { HasTurnSize board.now.table_id }
     requires first { (seat.old.me.0.is_spent ≡ false) × (seat.old.me.0.number ≡ 0)
         × (seat.old.me.0.ticket ≡ None) }
     requires other { (other.me.1 ≡ []) × (other.me.0.is_spent ≡ false)
@@ -200,13 +201,14 @@ pub(crate) fn join_seat(board: &Board, seat: &mut Place, other: Place)
 }
 
 /// Puts the log, which has entries of this pass more, back into the slot, and passes the turn on.
-pub(crate) fn hand_on(board: &Board, seat: &mut Place, log: Log)
+fn hand_on(board: &Board, seat: &mut Place, log: Log)
     requires own { seat.old.table_id ≡ board.now.table_id }
-    requires sized { (board.now.table_id.words ≡ 2) × (board.now.table_id.slots ≡ 1) }
+    requires sized { HasTurnSize board.now.table_id }
     requires turn { HasTurn seat.old.me log }
     ensures same { (seat.new.table_id ≡ seat.old.table_id) × (seat.new.id ≡ seat.old.id) }
     ensures after { seat.new.me ≡ (handed_on seat.old.me.0 log, []) }
 {
+    log.recall_log();
     drop(board.exchange(seat, 0, Some(log)));
     board.fetch_add::<HandOn>(seat, 0, 1);
 }
@@ -214,11 +216,12 @@ pub(crate) fn hand_on(board: &Board, seat: &mut Place, log: Log)
 /// Puts the log back as it was found, and passes the turn on.
 fn hand_back(board: &Board, seat: &mut Place, log: Log)
     requires own { seat.old.table_id ≡ board.now.table_id }
-    requires sized { (board.now.table_id.words ≡ 2) × (board.now.table_id.slots ≡ 1) }
+    requires sized { HasTurnSize board.now.table_id }
     requires turn { HasTurnUnused seat.old.me log }
     ensures same { (seat.new.table_id ≡ seat.old.table_id) × (seat.new.id ≡ seat.old.id) }
     ensures after { seat.new.me ≡ (handed_back seat.old.me.0, []) }
 {
+    log.recall_log();
     drop(board.exchange(seat, 0, Some(log)));
     board.fetch_add::<HandBack>(seat, 0, 1);
 }

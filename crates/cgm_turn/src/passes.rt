@@ -126,8 +126,8 @@ impl Turn {
 
     /// Splits a new pass off from the first. It has the next number, and has seen what the first has.
     /// Takes no memory.
-    /// Conditions: the first is of this turn, and fewer passes were split from it than there are
-    /// workers beside it.
+    /// Conditions: the first is of this turn and has number 0, and fewer passes were split from it than
+    /// there are workers beside it.
     pub fn split(&self, first: &mut Pass) -> Pass
         requires own { IsPassOf self.now first.old }
         requires first { first.old.number ≡ 0 }
@@ -150,7 +150,7 @@ impl Turn {
 
     /// Joins a pass that was split off to the first, which has then seen the longer of both.
     /// Takes no memory.
-    /// Condition: both are of this turn.
+    /// Conditions: both are of this turn, and the first has number 0.
     pub fn join(&self, first: &mut Pass, other: Pass)
         requires own { IsPassOf self.now first.old }
         requires other { IsPassOf self.now other }
@@ -165,7 +165,7 @@ impl Turn {
 
     /// The log at the end: it has exactly what each pass landed, in its order, each once, and begins
     /// with all that was told. Takes no memory.
-    /// Conditions: the first is of this turn, and all others were joined to it.
+    /// Conditions: the first is of this turn and has number 0, and all others were joined to it.
     pub fn close(self, first: Pass) -> Log
         requires own { IsPassOf self first }
         requires first { first.number ≡ 0 }

@@ -28,7 +28,7 @@ pub struct View {
     pub begun: u64,
     pub begun_by_joined: u64,
     /// It, and the passes joined to it.
-    pub weight: u64,
+    pub members: u64,
     pub ticket: Option<u64>,
     /// While it has the turn, the log as it found it.
     pub held: Option<Seq<Entry>>,

@@ -21,5 +21,5 @@ fetch_add-requires c =
       search rules,
       subst (λ (n : ℕ). Allows IsTurnTable n seat.id seat.me 0 (λ k. (k + 1) % 2 ^ 64) (HandsOn (step n 0 1 0 option.none) seat.me)) (sym c.requires.sized.1)
           (subst (λ (x : Me (Option LogBook) View). Allows IsTurnTable 1 seat.id x 0 (λ k. (k + 1) % 2 ^ 64) (HandsOn (step 1 0 1 0 option.none) x)) (sym me)
-          (hands_on seat.id v log turn.old turn.added turn.held turn.grown turn.own turn.problem)),
+          (hands_on seat.id v log turn.old turn.added turn.held turn.grown turn.own turn.problem c.recall_log.ensures.accepted)),
     )

@@ -18,7 +18,7 @@ invariant_of-self-in-Ok c =
     let log : List Entry = c.trade.new.self.entries in
     let count : length c.entries-in-Ok.result.now ≡ length log = ap length c.entries-in-Ok.ensures.entries in
     record {
-      seats = length-set c.self.inside.seats.items c.args.worker (Some (length c.entries-in-Ok.result.now)) ∙ c.self.invariant.seats;
+      fronts_seen = length-set c.self.inside.fronts_seen.items c.args.worker (Some (length c.entries-in-Ok.result.now)) ∙ c.self.invariant.fronts_seen;
       fronts =
           fronts_set (core_state c.self.inside) log c.args.worker (Some (length c.entries-in-Ok.result.now))
           (omega (arith, ap length c.in-Ok.ensures.landed, length-append c.self.inside.log.entries (landed c.self.inside.log.problem c.self.inside.log.entries c.args.batch)))

@@ -12,11 +12,9 @@ use Rattle.cgm_atom.specs.Instance.{Instance}
 use Rattle.cgm_atom.specs.LogState.{last_best, state_of}
 use Rattle.cgm_atom.specs.Ranges.{IsPrintable}
 use Rattle.cgm_check.specs.Verdicts.{IsRefusedAt}
-use Rattle.cgm_trail.specs.Rank.{slack}
-use Rattle.cgm_trail.specs.Steps.{AreReasoned}
 use Rattle.cgm_trail.specs.TrailState.{TrailState}
 use Rattle.cgm_search.specs.declared.plans.Plan.{Plan}
-use Rattle.cgm_search.specs.Storing.{IsSeenName}
+use Rattle.cgm_search.specs.Spending.{IsSpentTrail}
 use Rattle.cgm_encode.specs.declared.answer.Answer.{Answer}
 use Rattle.cgm_encode.specs.declared.answer.Answer.TheVariants.{Exhausted, Open, Realized, Unrealizable}
 use Rattle.cgm_encode.specs.declared.answer.Encoded.{Encoded}
@@ -94,19 +92,6 @@ IsVerifyAnswer m pairs entries (Err (Row rule)) = IsPastLimit m pairs rule
 IsVerifyAnswer m pairs entries (Err Memory) = Unit {0}
 
 -- ---- solving
-
--- the trail of a worker that spent the plan's budget on the problem, and left these entries
-pub record IsSpentTrail (p : Instance) (plan : Plan) (entries : List Entry) (t : TrailState) : Type 0 where
-  -- it is a trail of the problem
-  pub problem : t.problem ≡ p
-  -- it made as many moves as the plan says
-  pub moves : t.moves ≡ plan.budget
-  -- it made no more restarts than the plan says
-  pub restarts : t.restarts ≤ plan.restarts
-  -- each change that isn't a decision is one that a clause, a row, a lemma of the entries or a cut of one of their bests gives
-  pub reasons : AreReasoned (IsSeenName p (state_of entries)) p.bounds t.changes
-  -- a budget of so many moves can be spent
-  pub few : plan.budget < (plan.restarts + 1) * 2 ^ (slack p.bounds + 1)
 
 -- one worker spent its budget, left these entries, and its trail was added to the trails before
 pub record IsSpentWork (p : Instance) (plan : Plan) (entries : List Entry) (before after : List TrailState) (spent : List ℕ) : Type 0 where

@@ -11,6 +11,7 @@ invariant-loop-stopped g l = record {
   few : need l.self + (g.T.Trader.seat l.fn.trader).trades ≤ need l.fn.self + (g.T.Trader.seat l.trader).trades;
   kept : IsKeptSearch l.fn.self l.self;
   kept_seat : KeepsSeat (need l.fn.self) (g.T.Trader.seat l.fn.trader) (g.T.Trader.seat l.trader);
+  home : g.T.Trader.home l.trader ≡ g.T.Trader.home l.fn.trader;
 }
 
 abbrev pub decreases-loop-stopped : goal.decreases-loop-stopped

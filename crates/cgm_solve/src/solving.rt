@@ -71,7 +71,7 @@ pub fn solve<R: Threads + Wait + Sync, G: Gate>(
 {
     let encoded = encode(alloc, model, earlier)?;
     match search_by_crew(rt, alloc, &encoded, crew, gate, work) {
-        Ok(answer) => Ok(answer),
+        Ok(told) => Ok(told),
         Err(_) => Err(SolveStop::Memory),
     }
 }

@@ -5,6 +5,8 @@
 #[cfg(test)]
 mod count_rows;
 #[cfg(test)]
+mod crew_rows;
+#[cfg(test)]
 mod limit_rows;
 #[cfg(test)]
 mod runs;

@@ -2,7 +2,7 @@
 ghost use Rattle.std.specs.Prelude.{◌≡◌, ◌+◌, ◌-◌, ◌<◌, ◌≤◌, [], vec_len, IfOk};
 ghost use Rattle.std.specs.List.{All};
 ghost use Rattle.cgm_search.specs.Searching.{IsPlan};
-ghost use Rattle.cgm_crew.specs.Crews.{IsCrew, plan_of};
+ghost use Rattle.cgm_crew.specs.Crews.{IsCrew};
 ghost use Rattle.cgm_crew.specs.Workers.{IsLead, IsOnPass, IsOther, first_after};
 ghost use Rattle.cgm_turn.specs.Passes.{IsPassOf};
 

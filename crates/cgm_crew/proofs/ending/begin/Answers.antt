@@ -1,7 +1,6 @@
 use Rattle.std.proofs.Common.{◌≡◌, List, sym, ap, subst, ◌∙◌, arith}
 use Rattle.cgm_crew.specs.Crews.{plan_of}
 use Rattle.cgm_crew.specs.Ends.{AreBelow}
-use Rattle.cgm_crew.specs.Workers.{first_after}
 use Rattle.cgm_crew.proofs.Endings.{ends_begun}
 use Rattle.cgm_turn.specs.declared.views.Joined.{Joined}
 use Rattle.cgm_turn.specs.Passes.{PassState}

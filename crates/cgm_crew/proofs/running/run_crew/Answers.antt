@@ -1,4 +1,4 @@
-use Rattle.cgm_crew.proofs.Runs.{lead_ran, others_ran}
+use Rattle.cgm_crew.proofs.Runs.{others_ran}
 use Rattle.cgm_crew.proofs.running.run_crew.Goals as goal
 
 pub returns-clause-others : goal.returns-clause-others

@@ -1,4 +1,4 @@
-use Rattle.std.proofs.Common.{◌+◌, ◌-◌, ◌≤◌}
+use Rattle.std.proofs.Common.{◌≡◌, ◌+◌, ◌-◌, ◌≤◌}
 use Rattle.cgm_search.specs.Searching.{IsKeptSearch, IsReady, Sits, need}
 use Rattle.cgm_log.specs.Seats.{KeepsSeat}
 use Rattle.cgm_search.proofs.searches.Search.step_all.Given as goal

@@ -38,6 +38,7 @@ pub(crate) trait Solver {
 }
 
 /// One worker, which waits for nobody.
+#[derive(Drop)]
 pub(crate) struct ByOne {
     pub(crate) alloc: Global,
 }
@@ -66,6 +67,7 @@ impl Solver for ByOne {
 }
 
 /// As many workers as are asked for, each of which this gate may hold.
+#[derive(Drop)]
 pub(crate) struct ByCrew<'a, R: Threads + Wait + Sync, G: Gate> {
     pub(crate) rt: &'a R,
     pub(crate) alloc: Global,

@@ -85,7 +85,7 @@ fn push_line(text: &mut String, line: &str) -> Result<(), Fail> {
 /// Whether a worker has seen so many entries, or is out.
 fn has_seen(core: &Core, words: &str) -> Result<bool, Fail> {
     let (worker, wanted) = parted(words);
-    match core.seen(place(worker)?) {
+    match core.seen(place(worker)) {
         None => Ok(wanted == "out"),
         Some(seen) => Ok(is_count(wanted, seen)),
     }
@@ -102,39 +102,39 @@ fn events_of(alloc: Global, text: &str) -> Result<Vec<Event>, Fail> {
 /// Adds the event of a statement, if it is one's.
 fn push_event(alloc: Global, events: &mut Vec<Event>, statement: &str) -> Result<(), Fail> {
     match parted(statement) {
-        ("enter", worker) => events.push(enter(worker)?)?,
+        ("enter", worker) => events.push(enter(worker))?,
         ("trade", words) => events.push(trade(alloc, words)?)?,
-        ("look", words) => events.push(look(words)?)?,
-        ("leave", worker) => events.push(leave(worker)?)?,
+        ("look", words) => events.push(look(words))?,
+        ("leave", worker) => events.push(leave(worker))?,
         _ => {}
     }
     Ok(())
 }
 
-fn enter(worker: &str) -> Result<Event, Fail> {
-    Ok(Event::Enter {
-        worker: place(worker)?,
-    })
+fn enter(worker: &str) -> Event {
+    Event::Enter {
+        worker: place(worker),
+    }
 }
 
-fn leave(worker: &str) -> Result<Event, Fail> {
-    Ok(Event::Leave {
-        worker: place(worker)?,
-    })
+fn leave(worker: &str) -> Event {
+    Event::Leave {
+        worker: place(worker),
+    }
 }
 
-fn look(words: &str) -> Result<Event, Fail> {
+fn look(words: &str) -> Event {
     let (worker, length) = parted(words);
-    Ok(Event::Look {
-        worker: place(worker)?,
-        length: count(length)?,
-    })
+    Event::Look {
+        worker: place(worker),
+        length: count(length),
+    }
 }
 
 fn trade(alloc: Global, words: &str) -> Result<Event, Fail> {
     let (worker, parts) = parted(words);
-    let worker = place(worker)?;
-    let by = maker(worker, parts)?;
+    let worker = place(worker);
+    let by = maker(worker, parts);
     Ok(Event::Trade {
         worker,
         batch: Batch {
@@ -146,14 +146,14 @@ fn trade(alloc: Global, words: &str) -> Result<Event, Fail> {
 }
 
 /// The number that a batch has: the worker's, unless another is given.
-fn maker(worker: u32, parts: &str) -> Result<u32, Fail> {
+fn maker(worker: u32, parts: &str) -> u32 {
     for part in parts.split('/') {
         let (head, number) = parted(part);
         if head == "by" {
             return place(number);
         }
     }
-    Ok(worker)
+    worker
 }
 
 fn lemmas(alloc: Global, by: u32, parts: &str) -> Result<Vec<Entry>, Fail> {

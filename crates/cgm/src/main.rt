@@ -12,5 +12,5 @@ fn main(rt: HostRuntime) -> ExitCode {
     let mut out = OutSink::new(&rt);
     let mut work = Work::new(rt.alloc());
     let args = env::args(&rt);
-    exit_code(run_program(rt.alloc(), args, &mut shelf, &mut out, &mut work))
+    exit_code(run_program(&rt, rt.alloc(), args, &mut shelf, &mut out, &mut work))
 }

@@ -1,15 +1,23 @@
-//! The program that the cases are of.
-use cgm_base::Status;
-use cgm_cli::run_quiet;
+//! The programs that the cases are of.
+use cgm_base::{OutOfMemory, Status};
+use cgm_cli::{run, run_quiet};
+use cgm_search::IdleGate;
 use cgm_shelf::{MemShelf, MemSink};
 use cgm_trail::Work;
 use cgm_transcripts::Program;
 use std::alloc::Global;
+use std::marker::Sync;
+use std::sync::Wait;
+use std::thread::Threads;
 
 /// The commands, with one worker that waits for nobody.
-pub(crate) struct Commands;
+pub(crate) struct Alone;
 
-impl Program for Commands {
+impl Program for Alone {
+    fn is_alone(&self) -> bool {
+        true
+    }
+
     fn run(
         &self,
         alloc: Global,
@@ -20,4 +28,66 @@ impl Program for Commands {
         let mut work = Work::new(alloc);
         run_quiet(alloc, words, shelf, sink, &mut work)
     }
+}
+
+/// The commands, with this option where a search names no number of workers.
+pub(crate) struct Together<'a, R: Threads + Wait + Sync> {
+    pub(crate) rt: &'a R,
+    pub(crate) workers: &'static str,
+}
+
+impl<'a, R: Threads + Wait + Sync> Program for Together<'a, R> {
+    fn is_alone(&self) -> bool {
+        false
+    }
+
+    fn run(
+        &self,
+        alloc: Global,
+        words: &[String],
+        shelf: &mut MemShelf,
+        sink: &mut MemSink,
+    ) -> Status {
+        let mut work = Work::new(alloc);
+        match with_option(alloc, words, self.workers) {
+            Ok(words) => run(
+                self.rt,
+                alloc,
+                words.as_slice(),
+                shelf,
+                sink,
+                &IdleGate,
+                &mut work,
+            ),
+            Err(_) => Status::Memory,
+        }
+    }
+}
+
+/// The words, with the option behind them where they ask for a search and name no number of workers.
+fn with_option(alloc: Global, words: &[String], option: &str) -> Result<Vec<String>, OutOfMemory> {
+    let mut given = Vec::new(alloc);
+    for word in words {
+        given.push(String::from_str(alloc, word.as_str())?)?;
+    }
+    if searches(words) && !names_workers(words) {
+        given.push(String::from_str(alloc, option)?)?;
+    }
+    Ok(given)
+}
+
+fn searches(words: &[String]) -> bool {
+    match words {
+        [word, _, ..] => word.as_str() == "solve",
+        _ => false,
+    }
+}
+
+fn names_workers(words: &[String]) -> bool {
+    for word in words {
+        if word.as_str().starts_with("--workers") {
+            return true;
+        }
+    }
+    false
 }

@@ -274,19 +274,19 @@ given_again answer A gives (inr found) = gives found
 
 pub certificates_are_accepted : CertificatesAreAccepted
 certificates_are_accepted first second workers plan found left later last statuses.Done answer outcome is checked =
-    let own = answered (HasSolveOutcome (wanted plan (Some first.cert)) found left) (outside_of found) (outside_of left) first.model first.earlier statuses.Done tt outcome in
+    let own = answered (HasSolveOutcome (wanted workers plan (Some first.cert)) found left) (outside_of found) (outside_of left) first.model first.earlier statuses.Done tt outcome in
     let printed = own.outcome in
     given_again answer (Agrees statuses.Done (printed_between found left) answer (printed_between later last))
     (realized_again own.m own.earlier printed.entries printed.found (printed_between found left) later.sink last.sink answer printed.shown printed.printed)
     (later_entries first second found.shelf left.shelf (outside_of later) (outside_of last) own.m own.lines own.earlier printed.entries answer is own.input own.encodable printed.certified checked)
 certificates_are_accepted first second workers plan found left later last statuses.Unrealizable answer outcome is checked =
-    let own = answered (HasSolveOutcome (wanted plan (Some first.cert)) found left) (outside_of found) (outside_of left) first.model first.earlier statuses.Unrealizable tt outcome in
+    let own = answered (HasSolveOutcome (wanted workers plan (Some first.cert)) found left) (outside_of found) (outside_of left) first.model first.earlier statuses.Unrealizable tt outcome in
     let printed = own.outcome in
     given_again answer (Agrees statuses.Unrealizable (printed_between found left) answer (printed_between later last))
     (unrealizable_again own.m own.earlier printed.entries (printed_between found left) later.sink last.sink answer printed.shown printed.printed)
     (later_entries first second found.shelf left.shelf (outside_of later) (outside_of last) own.m own.lines own.earlier printed.entries answer is own.input own.encodable printed.certified checked)
 certificates_are_accepted first second workers plan found left later last statuses.Open answer outcome is checked =
-    let own = answered (HasSolveOutcome (wanted plan (Some first.cert)) found left) (outside_of found) (outside_of left) first.model first.earlier statuses.Open tt outcome in
+    let own = answered (HasSolveOutcome (wanted workers plan (Some first.cert)) found left) (outside_of found) (outside_of left) first.model first.earlier statuses.Open tt outcome in
     let printed = own.outcome in
     given_again answer (Agrees statuses.Open (printed_between found left) answer (printed_between later last))
     (open_again own.m own.earlier printed.entries printed.best printed.spent (printed_between found left) later.sink last.sink answer printed.solved.0 printed.printed)

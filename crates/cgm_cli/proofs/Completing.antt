@@ -1,6 +1,8 @@
 -- Which statuses come where the files have a model with its problem and nothing fails.
-use Rattle.std.proofs.Common.{◌≡◌, ◌≢◌, ℕ, ◌⊎◌, List, [], ◌∷◌, IsSome, IsSomeAnd, Option, Some, None, refl, sym, ◌∙◌, subst, inl, inr, ⊎_elim, arith, lt_irrefl, lt_of_lt_of_le}
+use Rattle.std.proofs.Common.{◌≡◌, ◌≢◌, ℕ, ◌+◌, ◌*◌, ◌^◌, ◌<◌, ◌≤◌, length, ◌⊎◌, List, [], ◌∷◌, IsSome, IsSomeAnd, Option, Some, None, refl, sym, ◌∙◌, subst, inl, inr, ⊎_elim, arith, lt_irrefl, lt_of_lt_of_le}
 use Rattle.std.proofs.lemmas.Bool.{false≢true}
+use Rattle.std.proofs.lemmas.List.Elements.{All-head}
+use Rattle.std.specs.List.{All}
 use Rattle.cgm_base.specs.declared.status.Status.{Status}
 use Rattle.cgm_base.specs.declared.status.Status.TheVariants as statuses
 use Rattle.cgm_shelf.specs.Faults.{Rose}
@@ -12,6 +14,11 @@ use Rattle.cgm_evolve.specs.Pairs.{Pair}
 use Rattle.cgm_atom.specs.declared.entries.Entry.{Entry}
 use Rattle.cgm_encode.specs.Problem.{problem_of}
 use Rattle.cgm_encode.specs.ProblemText.{problem_text}
+use Rattle.cgm_atom.specs.Instance.{Instance}
+use Rattle.cgm_search.specs.declared.plans.Plan.{Plan}
+use Rattle.cgm_search.specs.Spending.{IsSpentTrail}
+use Rattle.cgm_trail.specs.Rank.{slack}
+use Rattle.cgm_trail.specs.TrailState.{TrailState}
 use Rattle.cgm_cli.specs.Answers.{entries_of}
 use Rattle.cgm_cli.specs.CheckOutcome.{HasCertificateOutcome, HasCheckOutcome, HasEntriesOutcome, HasNoEntries}
 use Rattle.cgm_cli.specs.Effects.{Outside, World, outside_of}
@@ -140,11 +147,18 @@ solve_ends want found left m earlier statuses.Write nothing outcome =
     absurd (not_lost want found left m earlier nothing outcome)
 solve_ends want found left m earlier status nothing outcome = absurd outcome
 
+-- where some worker spent its budget, it can be spent
+spent_few : (p : Instance) (plan : Plan) (entries : List Entry) (trails : List TrailState) (workers : ℕ) → 1 ≤ workers → length trails ≡ workers → All (IsSpentTrail p plan entries) trails → plan.budget < (plan.restarts + 1) * 2 ^ (slack p.bounds + 1)
+spent_few p plan entries [] workers some count spent = absurd (omega (arith, some, count))
+spent_few p plan entries (t ∷ trails) workers some count spent =
+    (All-head (IsSpentTrail p plan entries) t trails spent).few
+
 -- a spent budget is too small to be enough
 not_spent : (want : Wanted) (found left : World) (m : Lists) (earlier : List Pair) (status : Status) → HasSolveOutcome want found left m earlier status → IsEnough want.plan m earlier → status ≢ statuses.Open
 not_spent want found left m earlier status outcome enough is =
     let exhausted : HasSolveOutcome want found left m earlier statuses.Open = subst (λ s. HasSolveOutcome want found left m earlier s) is outcome in
-    lt_irrefl want.plan.budget (lt_of_lt_of_le exhausted.solved.2.is_spent.few enough)
+    let work = exhausted.solved.2 in
+    lt_irrefl want.plan.budget (lt_of_lt_of_le (spent_few (problem_of m earlier) want.plan exhausted.entries work.trails want.workers work.some work.count work.are_spent) enough)
 
 memory_not_open : (status : Status) → status ≡ statuses.Memory → status ≢ statuses.Open
 memory_not_open status memory is = let same : statuses.Memory ≡ statuses.Open = sym memory ∙ is in absurd (cc)
@@ -160,5 +174,5 @@ solved want found left m earlier status nothing (inr outcome) = (
 
 pub solve_completes : SolveCompletes
 solve_completes name file cert workers plan found left status m earlier good nothing outcome =
-    solved (wanted plan cert) found left m earlier status nothing
-    (of_input (HasSolveOutcome (wanted plan cert) found left) (outside_of found) (outside_of left) name file m earlier status good outcome)
+    solved (wanted workers plan cert) found left m earlier status nothing
+    (of_input (HasSolveOutcome (wanted workers plan cert) found left) (outside_of found) (outside_of left) name file m earlier status good outcome)

@@ -1,5 +1,5 @@
 -- How a command ends after its files were read: it goes on from there, or there is no input.
-use Rattle.std.proofs.Common.{◌≡◌, ℕ, List, [], ◌↔◌, IfOk, IfErr, Option, Some, None, Ok, Err, false, true, refl, sym, subst, inl, inr}
+use Rattle.std.proofs.Common.{◌≡◌, ℕ, List, [], ◌↔◌, IfOk, IfErr, Option, Some, None, option_map, Ok, Err, false, true, refl, sym, subst, inl, inr}
 use Rattle.std.proofs.lemmas.Bool.{false≢true}
 use Rattle.std.specs.declared.result.Result.{Result}
 use Rattle.cgm_base.specs.declared.status.Status.{Status}
@@ -9,9 +9,9 @@ use Rattle.cgm_shelf.specs.Shelf.{OnlyReads, ShelfState}
 use Rattle.cgm_shelf.specs.Sink.{SinkState}
 use Rattle.cgm_trail.specs.TrailState.{TrailState}
 use Rattle.cgm_evolve.specs.Pairs.{Pair}
-use Rattle.cgm_cli.specs.CommandLine.{Command, solve, check, show, encode, earlier_file, model_file}
+use Rattle.cgm_cli.specs.CommandLine.{Command, solve, check, show, encode, command_for, command_line, earlier_file, model_file, with_workers}
 use Rattle.cgm_cli.specs.Effects.{IsTold, IsUntouched, World, outside, world}
-use Rattle.cgm_cli.specs.FaultLines.{memory_fault}
+use Rattle.cgm_cli.specs.FaultLines.{memory_fault, usage_fault}
 use Rattle.cgm_cli.specs.Inputs.{HasNoInput, IsInputOf}
 use Rattle.cgm_cli.specs.Outcome.{AreFilesOf, AreFilesOfSearch, Ends, HasOwnOutcome, HasWordsOutcome, IsWorkOf, LeavesFiles, LeavesWork, OnlyTouches, Runs}
 use Rattle.cgm_cli.proofs.Shelves.{own_from, untouched_from}
@@ -78,7 +78,33 @@ ends_early command old new sink said work name file status named other only gone
       work = kept_work command work status;
     }
 
+-- ---- the number of workers changes no file name
+
+pub model_kept : (workers_for : ℕ → ℕ) (command : Command) → model_file (with_workers workers_for command) ≡ model_file command
+model_kept workers_for (solve name file cert workers plan) = refl
+model_kept workers_for (check name cert file) = refl
+model_kept workers_for (show name) = refl
+model_kept workers_for (encode name file) = refl
+
+pub earlier_kept : (workers_for : ℕ → ℕ) (command : Command) → earlier_file (with_workers workers_for command) ≡ earlier_file command
+earlier_kept workers_for (solve name file cert workers plan) = refl
+earlier_kept workers_for (check name cert file) = refl
+earlier_kept workers_for (show name) = refl
+earlier_kept workers_for (encode name file) = refl
+
 -- ---- the program
+
+-- the command of the words was done
+pub runs_command : (workers_for : ℕ → ℕ) (words : List (List ℕ)) (command : Command) (found left : World) (status : Status) → Some command ≡ command_line words → Ends (with_workers workers_for command) found left status → Runs (command_for workers_for words) found left status
+runs_command workers_for words command found left status is ends =
+    subst (λ (line : Option Command). Runs (option_map (with_workers workers_for) line) found left status) is
+    (record { outcome = ends.outcome; files = ends.files; work = ends.work })
+
+-- the words are no command line, as was told
+pub runs_nothing : (workers_for : ℕ → ℕ) (words : List (List ℕ)) (shelf : ShelfState) (sink said : SinkState) (work : List TrailState) → None ≡ command_line words → IsTold usage_fault sink said → Runs (command_for workers_for words) (world shelf sink work) (world shelf said work) statuses.Usage
+runs_nothing workers_for words shelf sink said work is told =
+    subst (λ (line : Option Command). Runs (option_map (with_workers workers_for) line) (world shelf sink work) (world shelf said work) statuses.Usage) is
+    (record { outcome = told; files = record { same = refl; counted = refl }; work = refl })
 
 memory_wanted : (line : Option Command) (found left : World) → IsTold memory_fault found.sink left.sink → HasWordsOutcome line found left statuses.Memory
 memory_wanted None found left told = told

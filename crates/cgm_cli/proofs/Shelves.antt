@@ -137,8 +137,8 @@ problem_from P Q sink said m lines pairs status next (inr some) = inr (some.0, n
 -- a command's own outcome, from the world before its input was read
 pub own_from : (command : Command) (old mid new : ShelfState) (sink said : SinkState) (work done : List TrailState) (m : Lists) (lines : List ℕ) (pairs : List Pair) (status : Status) → OnlyReads old mid → HasOwnOutcome command (world mid sink work) (world new said done) m lines pairs status → HasOwnOutcome command (world old sink work) (world new said done) m lines pairs status
 own_from (solve name file cert workers plan) old mid new sink said work done m lines pairs status only own =
-    problem_from (HasSolveOutcome (wanted plan cert) (world mid sink work) (world new said done)) (HasSolveOutcome (wanted plan cert) (world old sink work) (world new said done)) sink said m lines pairs status
-    (λ solved. solved_from (wanted plan cert) old mid new sink said work done m pairs status only solved) own
+    problem_from (HasSolveOutcome (wanted workers plan cert) (world mid sink work) (world new said done)) (HasSolveOutcome (wanted workers plan cert) (world old sink work) (world new said done)) sink said m lines pairs status
+    (λ solved. solved_from (wanted workers plan cert) old mid new sink said work done m pairs status only solved) own
 own_from (check name cert file) old mid new sink said work done m lines pairs status only own =
     problem_from (HasCheckOutcome cert (outside mid sink) (outside new said)) (HasCheckOutcome cert (outside old sink) (outside new said)) sink said m lines pairs status
     (λ checked. checked_from cert old mid new sink said m pairs status only checked) own

@@ -46,17 +46,17 @@ pub vector_is : (m : Lists) (pairs : List Pair) (best : Option (List ℤ)) (foun
 vector_is m pairs None found reading = absurd reading
 vector_is m pairs (Some values) found reading = reading.vector
 
-pub reportable : (m : Lists) (pairs : List Pair) (plan : Plan) (old new : List TrailState) (answer : Answer) → IsSolved m pairs plan old new answer → IsReportable m answer
-reportable m pairs plan old new (Realized found entries) solved =
+pub reportable : (m : Lists) (pairs : List Pair) (workers : ℕ) (plan : Plan) (old new : List TrailState) (answer : Answer) → IsSolved m pairs workers plan old new answer → IsReportable m answer
+reportable m pairs workers plan old new (Realized found entries) solved =
     showable m pairs (last_best (state_of entries)) (Some found) solved.0.best
-reportable m pairs plan old new (Unrealizable entries) solved = tt
-reportable m pairs plan old new (Exhausted best spent entries) solved =
+reportable m pairs workers plan old new (Unrealizable entries) solved = tt
+reportable m pairs workers plan old new (Exhausted best spent entries) solved =
     showable m pairs (last_best (state_of entries)) best solved.0.best_is
-reportable m pairs plan old new (Open best) solved = absurd solved
+reportable m pairs workers plan old new (Open best) solved = absurd solved
 
 -- ---- what is printed
 
-printed : (m : Lists) (pairs : List Pair) (want : Wanted) (found left : World) (answer : Answer) → IsSolved m pairs want.plan found.work left.work answer → IsCertified want.cert (entries_of answer) found.shelf left.shelf → IsPrinted (report_of m answer) found.sink left.sink → HasSolveOutcome want found left m pairs (answer_status answer)
+printed : (m : Lists) (pairs : List Pair) (want : Wanted) (found left : World) (answer : Answer) → IsSolved m pairs want.workers want.plan found.work left.work answer → IsCertified want.cert (entries_of answer) found.shelf left.shelf → IsPrinted (report_of m answer) found.sink left.sink → HasSolveOutcome want found left m pairs (answer_status answer)
 printed m pairs want found left (Realized best entries) solved certified bytes = record {
   found = best;
   entries = entries;
@@ -71,7 +71,7 @@ printed m pairs want found left (Exhausted best spent entries) solved certified 
     record { best = best; spent = spent; entries = entries; solved = solved; certified = certified; printed = bytes }
 printed m pairs want found left (Open best) solved certified bytes = absurd solved
 
-pub outcome : (m : Lists) (pairs : List Pair) (want : Wanted) (found left : World) (answer : Answer) (status : Status) → IsSolved m pairs want.plan found.work left.work answer → IsDelivered want.cert (entries_of answer) (report_of m answer) (answer_status answer) (outside_of found) (outside_of left) status → HasSolveOutcome want found left m pairs status
+pub outcome : (m : Lists) (pairs : List Pair) (want : Wanted) (found left : World) (answer : Answer) (status : Status) → IsSolved m pairs want.workers want.plan found.work left.work answer → IsDelivered want.cert (entries_of answer) (report_of m answer) (answer_status answer) (outside_of found) (outside_of left) status → HasSolveOutcome want found left m pairs status
 outcome m pairs want found left answer status solved (inl (certified, inl whole)) =
     subst (λ s. HasSolveOutcome want found left m pairs s) (sym whole.0) (printed m pairs want found left answer solved certified whole.1)
 outcome m pairs want found left answer status solved (inl (certified, inr cut)) =
@@ -164,31 +164,31 @@ unchanged old new statuses.Limit same = same
 unchanged old new statuses.Certificate same = same
 unchanged old new statuses.Read same = same
 
-extended : (m : Lists) (pairs : List Pair) (plan : Plan) (old new : List TrailState) (answer : Answer) → IsSolved m pairs plan old new answer → AreTrailsExtended old new
-extended m pairs plan old new (Realized found entries) solved = none_gained old new solved.2
-extended m pairs plan old new (Unrealizable entries) solved = none_gained old new solved.2
-extended m pairs plan old new (Exhausted best spent entries) solved = (solved.2.trail ∷ [], solved.2.added)
-extended m pairs plan old new (Open best) solved = absurd solved
+extended : (m : Lists) (pairs : List Pair) (workers : ℕ) (plan : Plan) (old new : List TrailState) (answer : Answer) → IsSolved m pairs workers plan old new answer → AreTrailsExtended old new
+extended m pairs workers plan old new (Realized found entries) solved = none_gained old new solved.2
+extended m pairs workers plan old new (Unrealizable entries) solved = none_gained old new solved.2
+extended m pairs workers plan old new (Exhausted best spent entries) solved = (solved.2.trails, solved.2.added)
+extended m pairs workers plan old new (Open best) solved = absurd solved
 
-work_of_answer : (m : Lists) (pairs : List Pair) (plan : Plan) (old new : List TrailState) (answer : Answer) → IsSolved m pairs plan old new answer → IsWorkOfSearch old new (answer_status answer)
-work_of_answer m pairs plan old new (Realized found entries) solved = solved.2
-work_of_answer m pairs plan old new (Unrealizable entries) solved = solved.2
-work_of_answer m pairs plan old new (Exhausted best spent entries) solved = (solved.2.trail ∷ [], solved.2.added)
-work_of_answer m pairs plan old new (Open best) solved = absurd solved
+work_of_answer : (m : Lists) (pairs : List Pair) (workers : ℕ) (plan : Plan) (old new : List TrailState) (answer : Answer) → IsSolved m pairs workers plan old new answer → IsWorkOfSearch old new (answer_status answer)
+work_of_answer m pairs workers plan old new (Realized found entries) solved = solved.2
+work_of_answer m pairs workers plan old new (Unrealizable entries) solved = solved.2
+work_of_answer m pairs workers plan old new (Exhausted best spent entries) solved = (solved.2.trails, solved.2.added)
+work_of_answer m pairs workers plan old new (Open best) solved = absurd solved
 
-pub work_left : (m : Lists) (pairs : List Pair) (want : Wanted) (old new : List TrailState) (found left : Outside) (answer : Answer) (status : Status) → IsSolved m pairs want.plan old new answer → IsDelivered want.cert (entries_of answer) (report_of m answer) (answer_status answer) found left status → IsWorkOfSearch old new status
+pub work_left : (m : Lists) (pairs : List Pair) (want : Wanted) (old new : List TrailState) (found left : Outside) (answer : Answer) (status : Status) → IsSolved m pairs want.workers want.plan old new answer → IsDelivered want.cert (entries_of answer) (report_of m answer) (answer_status answer) found left status → IsWorkOfSearch old new status
 work_left m pairs want old new found left answer status solved (inl (certified, inl whole)) =
-    subst (λ s. IsWorkOfSearch old new s) (sym whole.0) (work_of_answer m pairs want.plan old new answer solved)
+    subst (λ s. IsWorkOfSearch old new s) (sym whole.0) (work_of_answer m pairs want.workers want.plan old new answer solved)
 work_left m pairs want old new found left answer status solved (inl (certified, inr cut)) =
-    subst (λ s. IsWorkOfSearch old new s) (sym cut.0) (extended m pairs want.plan old new answer solved)
+    subst (λ s. IsWorkOfSearch old new s) (sym cut.0) (extended m pairs want.workers want.plan old new answer solved)
 work_left m pairs want old new found left answer status solved (inr (inl lost)) =
-    subst (λ s. IsWorkOfSearch old new s) (sym lost.0) (extended m pairs want.plan old new answer solved)
+    subst (λ s. IsWorkOfSearch old new s) (sym lost.0) (extended m pairs want.workers want.plan old new answer solved)
 work_left m pairs want old new found left answer status solved (inr (inr memory)) =
-    subst (λ s. IsWorkOfSearch old new s) (sym memory.0) (extended m pairs want.plan old new answer solved)
+    subst (λ s. IsWorkOfSearch old new s) (sym memory.0) (extended m pairs want.workers want.plan old new answer solved)
 
 -- a certificate can write the entries of each answer
-pub printable : (m : Lists) (pairs : List Pair) (plan : Plan) (old new : List TrailState) (answer : Answer) → IsSolved m pairs plan old new answer → All IsPrintable (entries_of answer)
-printable m pairs plan old new (Realized found entries) solved = solved.1
-printable m pairs plan old new (Unrealizable entries) solved = solved.1
-printable m pairs plan old new (Exhausted best spent entries) solved = solved.1
-printable m pairs plan old new (Open best) solved = absurd solved
+pub printable : (m : Lists) (pairs : List Pair) (workers : ℕ) (plan : Plan) (old new : List TrailState) (answer : Answer) → IsSolved m pairs workers plan old new answer → All IsPrintable (entries_of answer)
+printable m pairs workers plan old new (Realized found entries) solved = solved.1
+printable m pairs workers plan old new (Unrealizable entries) solved = solved.1
+printable m pairs workers plan old new (Exhausted best spent entries) solved = solved.1
+printable m pairs workers plan old new (Open best) solved = absurd solved

@@ -147,3 +147,25 @@ command_of word words =
 abbrev pub command_line : List Text → Option Command
 command_line [] = None
 command_line (word ∷ words) = command_of word (word ∷ words)
+
+-- ---- by how many workers
+
+-- one worker, however many are asked for
+abbrev pub one : ℕ → ℕ
+one asked = 1
+
+-- as many workers as are asked for
+abbrev pub as_asked : ℕ → ℕ
+as_asked asked = asked
+
+-- the command, where so many workers search as are said for those that are asked for
+abbrev pub with_workers : (ℕ → ℕ) → Command → Command
+with_workers workers_for (solve name file cert workers plan) =
+    solve name file cert (workers_for workers) plan
+with_workers workers_for (check name cert file) = check name cert file
+with_workers workers_for (show name) = show name
+with_workers workers_for (encode name file) = encode name file
+
+-- the command line of the words; none where they are none
+abbrev pub command_for : (ℕ → ℕ) → List Text → Option Command
+command_for workers_for words = option_map (with_workers workers_for) (command_line words)

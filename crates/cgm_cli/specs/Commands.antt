@@ -1,5 +1,6 @@
 -- The command that the program's words were read as.
-use Rattle.std.specs.Prelude.{option_map}
+use Rattle.std.specs.Prelude.{◌≤◌, option_map}
+use Rattle.cgm_atom.specs.Limits.{max_workers}
 use Rattle.cgm_search.specs.Searching.{IsPlan}
 use Rattle.cgm_cli.specs.declared.command.Command.{Command as CommandRead}
 use Rattle.cgm_cli.specs.declared.command.Command.TheVariants as read
@@ -27,9 +28,10 @@ told_by (read.Check request) = checking request
 told_by (read.Show model) = show model.now
 told_by (read.Encode request) = encoding request
 
--- the numbers of the plan are within their limits
+-- the number of workers and the numbers of the plan are within their limits
 abbrev pub HasPlan : CommandRead → Type 0
-HasPlan (read.Solve request) = IsPlan request.plan
+HasPlan (read.Solve request) =
+    IsPlan request.plan × (1 ≤ request.workers) × (request.workers ≤ max_workers)
 HasPlan (read.Check request) = Unit {0}
 HasPlan (read.Show model) = Unit {0}
 HasPlan (read.Encode request) = Unit {0}

@@ -11,7 +11,7 @@ use Rattle.cgm_trail.specs.TrailState.{TrailState}
 use Rattle.cgm_encode.specs.Problem.{problem_of}
 use Rattle.cgm_encode.specs.ProblemText.{problem_text}
 use Rattle.cgm_cli.specs.CheckOutcome.{HasCheckOutcome}
-use Rattle.cgm_cli.specs.CommandLine.{Command, solve, check, show, encode, command_line, earlier_file, model_file}
+use Rattle.cgm_cli.specs.CommandLine.{Command, solve, check, show, encode, command_for, earlier_file, model_file}
 use Rattle.cgm_cli.specs.Effects.{World, IsCutOff, AreTrailsExtended, IsPrinted, IsTold, IsUnchanged, IsUntouched, outside_of}
 use Rattle.cgm_cli.specs.FaultLines.{memory_fault, usage_fault}
 use Rattle.cgm_cli.specs.Inputs.{HasInputOutcome, HasProblemOutcome}
@@ -38,7 +38,7 @@ HasEncodeOutcome old new m earlier status =
 -- the outcome of a command for what its files gave: a model with the lines of its rules, and what is known of an earlier realization
 abbrev pub HasOwnOutcome : Command → World → World → Lists → List ℕ → List Pair → Status → Type 0
 HasOwnOutcome (solve name file cert workers plan) found left m rule_lines earlier status =
-    HasProblemOutcome (HasSolveOutcome (wanted plan cert) found left)
+    HasProblemOutcome (HasSolveOutcome (wanted workers plan cert) found left)
     found.sink left.sink m rule_lines earlier status
 HasOwnOutcome (check name cert file) found left m rule_lines earlier status =
     HasProblemOutcome (HasCheckOutcome cert (outside_of found) (outside_of left))
@@ -68,8 +68,10 @@ abbrev pub HasWordsOutcome : Option Command → World → World → Status → T
 HasWordsOutcome None found left status = HasUsageOutcome found.sink left.sink status
 HasWordsOutcome (Some command) found left status = HasCommandOutcome command found left status
 
-abbrev pub HasOutcome : List (List ℕ) → World → World → Status → Type 0
-HasOutcome words found left status = HasWordsOutcome (command_line words) found left status
+-- the outcome for the words, where workers_for says how many workers search where so many are asked for
+abbrev pub HasOutcome : (ℕ → ℕ) → List (List ℕ) → World → World → Status → Type 0
+HasOutcome workers_for words found left status =
+    HasWordsOutcome (command_for workers_for words) found left status
 
 -- ---- what is left of the files
 

@@ -49,13 +49,14 @@ IsDelivered cert entries report answer found left status =
 
 -- ---- the outcome
 
--- what `solve` is asked for, beside the model: by which plan a worker searches, and the file of the certificate if one is wanted
+-- what `solve` is asked for, beside the model: how many workers search and by which plan each does, and the file of the certificate if one is wanted
 pub record Wanted : Type 0 where
+  pub workers : ℕ
   pub plan : Plan
   pub cert : Option (List ℕ)
 
-abbrev pub wanted : Plan → Option (List ℕ) → Wanted
-wanted plan cert = record { plan = plan; cert = cert }
+abbrev pub wanted : ℕ → Plan → Option (List ℕ) → Wanted
+wanted workers plan cert = record { workers = workers; plan = plan; cert = cert }
 
 -- the report of a least realization was printed, and entries show that it is one
 pub record PrintsRealized (cert : Option (List ℕ)) (before after : World) (m : Lists)
@@ -74,13 +75,13 @@ pub record PrintsUnrealizable (cert : Option (List ℕ)) (before after : World) 
   pub certified : IsCertified cert entries before.shelf after.shelf
   pub printed : IsPrinted unrealizable before.sink after.sink
 
--- the budget is spent, on one trail that came behind those before; the last best of the entries was printed, and what the trail rests on is among them
+-- the budgets are spent, on a trail for each worker, which came behind those before; the last best of the entries was printed, and what the trails rest on is among them
 pub record PrintsExhausted (want : Wanted) (before after : World) (m : Lists)
     (earlier : List Pair) : Type 0 where
   pub best : Option Found
   pub spent : List ℕ
   pub entries : List Entry
-  pub solved : IsSolved m earlier want.plan before.work after.work
+  pub solved : IsSolved m earlier want.workers want.plan before.work after.work
       (answers.Exhausted best spent entries)
   pub certified : IsCertified want.cert entries before.shelf after.shelf
   pub printed : IsPrinted (exhausted m best spent) before.sink after.sink
@@ -89,13 +90,13 @@ pub record PrintsExhausted (want : Wanted) (before after : World) (m : Lists)
 pub record IsLost (want : Wanted) (before after : World) (m : Lists)
     (earlier : List Pair) : Type 0 where
   pub answer : Answer
-  pub solved : IsSolved m earlier want.plan before.work after.work answer
+  pub solved : IsSolved m earlier want.workers want.plan before.work after.work answer
   pub lost : (IsCertificateCut want.cert (entries_of answer) before.shelf after.shelf
       × IsTold write_fault before.sink after.sink)
       ⊎ (IsCertified want.cert (entries_of answer) before.shelf after.shelf
       × IsCutOff (report_of m answer) before.sink after.sink)
 
--- `solve` by one worker, with what is known of an earlier realization
+-- `solve` by so many workers, with what is known of an earlier realization
 abbrev pub HasSolveOutcome : Wanted → World → World → Lists → List Pair → Status → Type 0
 HasSolveOutcome want found left m earlier Done = PrintsRealized want.cert found left m earlier
 HasSolveOutcome want found left m earlier Unrealizable =

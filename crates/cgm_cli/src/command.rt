@@ -2,6 +2,8 @@
 ghost use Rattle.std.specs.Prelude.{◌≡◌, ◌≤◌, IfOk, IfSome, map, option_and_then, option_map};
 ghost use Rattle.std.specs.String.{string_bytes};
 ghost use Rattle.clap.specs.Words.{found_of, rows_of};
+ghost use Rattle.cgm_atom.specs.Limits.{max_workers};
+ghost use Rattle.cgm_crew.specs.Crews.{plan_of};
 ghost use Rattle.cgm_search.specs.Searching.{IsPlan};
 ghost use Rattle.cgm_cli.specs.CommandLine.{check_options, check_with, command_line, command_of, earlier_file, encode_options, encode_with, given, model_file, number_given, plan_given, show_options, show_with, solve_options, solve_with, workers_given};
 ghost use Rattle.cgm_cli.specs.Commands.{HasPlan, told_by};
@@ -12,6 +14,7 @@ use crate::options::{
 };
 use cgm_base::OutOfMemory;
 use cgm_search::{MAX_BUDGET, MAX_RESTARTS, Plan};
+use cgm_solve::Crew;
 use clap::ArgMatches;
 use std::alloc::Global;
 
@@ -64,6 +67,22 @@ pub(crate) enum Command<'w> {
     /// `show MODEL`
     Show { model: &'w str },
     Encode(EncodeRequest<'w>),
+}
+
+impl<'w> SolveRequest<'w> {
+    /// The workers that are asked for, and how each of them searches.
+    pub(crate) fn crew(self) -> Crew
+        requires { self.workers ≤ max_workers }
+        ensures workers { result.workers ≡ self.entry.workers }
+        ensures plan { plan_of result ≡ self.entry.plan }
+    {
+        Crew {
+            workers: self.workers as u32,
+            budget: self.plan.budget,
+            restarts: self.plan.restarts,
+            seed: self.plan.seed,
+        }
+    }
 }
 
 impl<'w> Command<'w> {
@@ -167,16 +186,18 @@ fn number_given(
     greatest: u64,
     default: u64,
 ) -> Option<u64>
-    requires { default ≤ greatest }
+    requires default { (least ≤ default) × (default ≤ greatest) }
     ensures number { result
         ≡ number_given name.now least greatest default (rows_of (found_of matches.now)) }
     ensures within { IfSome result (λ number. number ≤ greatest) }
+    ensures at_least { IfSome result (λ number. least ≤ number) }
 {
     number_or(least, greatest, default, text_given(matches, name))
 }
 
 fn workers_given(matches: &ArgMatches<'_>) -> Option<u64>
-    ensures { result ≡ workers_given (rows_of (found_of matches.now)) }
+    ensures number { result ≡ workers_given (rows_of (found_of matches.now)) }
+    ensures within { IfSome result (λ workers. (1 ≤ workers) × (workers ≤ max_workers)) }
 {
     number_given(matches, "workers", 1, MAX_WORKERS, WORKERS)
 }

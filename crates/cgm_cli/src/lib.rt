@@ -16,6 +16,7 @@ mod program;
 mod run;
 mod show;
 mod solve;
+mod solvers;
 
 pub use program::{exit_code, run_program, words_after_name};
-pub use run::run_quiet;
+pub use run::{run, run_quiet};

@@ -31,6 +31,7 @@ fn is_between(least: u64, greatest: u64, number: u64) -> bool
 fn numeral_in(least: u64, greatest: u64, text: &str) -> Option<u64>
     ensures number { result ≡ numeral_in least greatest text.now }
     ensures within { IfSome result (λ number. number ≤ greatest) }
+    ensures at_least { IfSome result (λ number. least ≤ number) }
 {
     if !is_numeral(text) {
         return None;
@@ -49,10 +50,11 @@ fn numeral_in(least: u64, greatest: u64, text: &str) -> Option<u64>
 
 /// The same of a text that may be left out, which then stands for the default.
 pub(crate) fn number_or(least: u64, greatest: u64, default: u64, text: Option<&str>) -> Option<u64>
-    requires { default ≤ greatest }
+    requires default { (least ≤ default) × (default ≤ greatest) }
     ensures number { result
         ≡ number_or least greatest default (option_map (λ t. t.now) text.entry) }
     ensures within { IfSome result (λ number. number ≤ greatest) }
+    ensures at_least { IfSome result (λ number. least ≤ number) }
 {
     match text {
         None => Some(default),

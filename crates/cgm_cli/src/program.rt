@@ -7,24 +7,29 @@ ghost use Rattle.std.specs.Vec.Iter.{into_iter_items};
 ghost use Rattle.std.specs.String.{string_bytes};
 ghost use Rattle.cgm_base.specs.Status.{code_of};
 ghost use Rattle.cgm_base.specs.declared.status.Status.TheVariants as statuses;
-ghost use Rattle.cgm_cli.specs.CommandLine.{command_line};
+ghost use Rattle.cgm_cli.specs.CommandLine.{as_asked, command_for};
 ghost use Rattle.cgm_cli.specs.Effects.{world};
 ghost use Rattle.cgm_cli.specs.Outcome.{Runs};
 
 use crate::print::tell_memory;
-use crate::run::run_quiet;
+use crate::run::run;
 use cgm_base::{OutOfMemory, Status};
+use cgm_search::IdleGate;
 use cgm_shelf::{Shelf, Sink};
 use cgm_trail::Work;
 use std::alloc::Global;
 use std::env::Args;
 use std::io;
+use std::marker::Sync;
 use std::process::ExitCode;
+use std::sync::Wait;
+use std::thread::Threads;
 
-/// Does what the program does for its arguments: what `run_quiet` does for the words after the
+/// Does what the program does for its arguments: what `run` does for the words after the
 /// program's own name. Arguments that can't be had because they aren't text are no command line; where
 /// there is no memory for them, the answer is `Memory`.
-pub fn run_program<F: Shelf, O: Sink>(
+pub fn run_program<R: Threads + Wait + Sync, F: Shelf, O: Sink>(
+    rt: &R,
     alloc: Global,
     args: io::Result<Args>,
     shelf: &mut F,
@@ -32,7 +37,7 @@ pub fn run_program<F: Shelf, O: Sink>(
     work: &mut Work,
 ) -> Status
     ensures given { IfOk args
-        (λ args. Runs (command_line (map string_bytes (drop 1 (into_iter_items args))))
+        (λ args. Runs (command_for as_asked (map string_bytes (drop 1 (into_iter_items args))))
         (world (F.state shelf.old) (O.state out.old) work.old)
         (world (F.state shelf.new) (O.state out.new) work.new) result) }
     ensures refused { IfErr args
@@ -42,7 +47,7 @@ pub fn run_program<F: Shelf, O: Sink>(
         × (error_kind error ≡ kinds.OutOfMemory → result ≡ statuses.Memory)) }
 {
     match words_after_name(alloc, args) {
-        Ok(words) => run_quiet(alloc, words.as_slice(), shelf, out, work),
+        Ok(words) => run(rt, alloc, words.as_slice(), shelf, out, &IdleGate, work),
         Err(_) => tell_memory(out),
     }
 }

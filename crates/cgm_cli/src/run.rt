@@ -2,11 +2,11 @@
 ghost use Rattle.std.specs.Prelude.{◌≡◌, length, map};
 ghost use Rattle.std.specs.String.{string_bytes};
 ghost use Rattle.cgm_model.specs.Model.{lists_of};
-ghost use Rattle.cgm_cli.specs.CommandLine.{command_line};
+ghost use Rattle.cgm_cli.specs.CommandLine.{as_asked, command_for, one, with_workers};
 ghost use Rattle.cgm_cli.specs.Commands.{HasPlan, told_by};
 ghost use Rattle.cgm_cli.specs.Effects.{world};
 ghost use Rattle.cgm_cli.specs.Inputs.{HasProblemOutcome};
-ghost use Rattle.cgm_cli.specs.Outcome.{AreFilesOf, Ends, HasEncodeOutcome, HasOutcome, HasOwnOutcome, IsWorkOf, LeavesFiles, LeavesWork};
+ghost use Rattle.cgm_cli.specs.Outcome.{AreFilesOf, Ends, HasEncodeOutcome, HasOutcome, HasOwnOutcome, IsWorkOf, LeavesFiles, LeavesWork, Runs};
 
 use crate::check::check;
 use crate::command::{Command, command_in};
@@ -15,21 +15,27 @@ use crate::input::{Input, discard, input_of_files};
 use crate::print::{tell, tell_memory};
 use crate::show::show;
 use crate::solve::solve;
+use crate::solvers::{ByCrew, ByOne, Solver};
 use cgm_base::Status;
+use cgm_search::Gate;
 use cgm_shelf::{Shelf, Sink};
 use cgm_trail::Work;
 use std::alloc::Global;
+use std::marker::Sync;
+use std::sync::Wait;
+use std::thread::Threads;
 
-/// Does what the program does for the words after its own name, with one worker, and answers its
-/// status. It waits for nobody and always returns.
+/// Does all that the program does for the words after its own name, and answers its status.
+/// With several workers it waits for turns and for its workers, so what follows holds if it returns.
+/// The gate may hold a worker at some points, and touches no result.
 ///
 /// `solve MODEL --earlier=FILE --cert=FILE --workers=N --budget=N --restarts=N --seed=N` prints a
 /// realization of the model than whose vector no realization's is less (`Done`), or that there is none
-/// (`Unrealizable`). It runs one worker, whatever number of workers is given. `Open` comes only where
-/// this worker made as many moves as its budget says, and no more restarts than it may. Then `work`
-/// gains its trail, and the last best of an accepted log that isn't closed is printed, if any. Every
-/// lemma and every best on which a change of the trail rests stands in this log. So a budget that no
-/// trail can spend leaves nothing open. With `--cert` the named file holds exactly a certificate of
+/// (`Unrealizable`). It runs as many workers as are given, over one log, and four where no number is.
+/// `Open` comes only where each of them made as many moves as its budget says, and no more restarts
+/// than it may. Then `work` gains a trail for each, by number, and the last best of an accepted log
+/// that isn't closed is printed, if any. Every lemma and every best on which a change of a trail rests
+/// stands in this log. So a budget that no trail can spend leaves nothing open. With `--cert` the named file holds exactly a certificate of
 /// entries that show the answer by themselves, for `Open` of that log; it is written before the
 /// report, and no other file changes.
 /// `check MODEL CERT --earlier=FILE` reads such a certificate, whoever made it, and prints what it
@@ -48,6 +54,28 @@ use std::alloc::Global;
 /// changes only where `solve` writes a certificate, with the statuses `Done`, `Unrealizable`, `Open`
 /// and `Write`. `work` stays, but for `solve` with the statuses `Open`, `Write` and `Memory`: there it
 /// may have gained trails.
+pub fn run<R: Threads + Wait + Sync, F: Shelf, O: Sink, G: Gate>(
+    rt: &R,
+    alloc: Global,
+    words: &[String],
+    shelf: &mut F,
+    out: &mut O,
+    gate: &G,
+    work: &mut Work,
+) -> Status
+    ensures outcome { HasOutcome as_asked (map string_bytes words.now)
+        (world (F.state shelf.old) (O.state out.old) work.old)
+        (world (F.state shelf.new) (O.state out.new) work.new) result }
+    ensures files { AreFilesOf (command_for as_asked (map string_bytes words.now))
+        (F.state shelf.old) (F.state shelf.new) result }
+    ensures work { IsWorkOf (command_for as_asked (map string_bytes words.now)) work.old work.new
+        result }
+{
+    run_words(&ByCrew { rt, alloc, gate }, words, shelf, out, work)
+}
+
+/// Does what `run` does, with one worker, whatever number of workers is given. It waits for nobody and
+/// always returns.
 pub fn run_quiet<F: Shelf, O: Sink>(
     alloc: Global,
     words: &[String],
@@ -55,15 +83,31 @@ pub fn run_quiet<F: Shelf, O: Sink>(
     out: &mut O,
     work: &mut Work,
 ) -> Status
-    ensures outcome { HasOutcome (map string_bytes words.now)
+    ensures outcome { HasOutcome one (map string_bytes words.now)
         (world (F.state shelf.old) (O.state out.old) work.old)
         (world (F.state shelf.new) (O.state out.new) work.new) result }
-    ensures files { AreFilesOf (command_line (map string_bytes words.now))
+    ensures files { AreFilesOf (command_for one (map string_bytes words.now))
         (F.state shelf.old) (F.state shelf.new) result }
-    ensures work { IsWorkOf (command_line (map string_bytes words.now)) work.old work.new result }
+    ensures work { IsWorkOf (command_for one (map string_bytes words.now)) work.old work.new
+        result }
 {
-    match command_in(alloc, words) {
-        Ok(Some(command)) => run_command(alloc, command, shelf, out, work),
+    run_words(&ByOne { alloc }, words, shelf, out, work)
+}
+
+/// Does what the words ask for.
+fn run_words<S: Solver, F: Shelf, O: Sink>(
+    solver: &S,
+    words: &[String],
+    shelf: &mut F,
+    out: &mut O,
+    work: &mut Work,
+) -> Status
+    ensures { Runs (command_for (S.workers solver.now) (map string_bytes words.now))
+        (world (F.state shelf.old) (O.state out.old) work.old)
+        (world (F.state shelf.new) (O.state out.new) work.new) result }
+{
+    match command_in(solver.alloc(), words) {
+        Ok(Some(command)) => run_command(solver, command, shelf, out, work),
         Ok(None) => {
             tell(out, b"fault usage\n");
             Status::Usage
@@ -73,21 +117,27 @@ pub fn run_quiet<F: Shelf, O: Sink>(
 }
 
 /// Does what a command asks for: takes what its files give, else the status.
-fn run_command<F: Shelf, O: Sink>(
-    alloc: Global,
+fn run_command<S: Solver, F: Shelf, O: Sink>(
+    solver: &S,
     command: Command<'_>,
     shelf: &mut F,
     out: &mut O,
     work: &mut Work,
 ) -> Status
     requires { HasPlan command }
-    ensures { Ends (told_by command.entry)
+    ensures { Ends (with_workers (S.workers solver.now) (told_by command.entry))
         (world (F.state shelf.old) (O.state out.old) work.old)
         (world (F.state shelf.new) (O.state out.new) work.new) result }
 {
-    match input_of_files(alloc, command.model(), command.earlier(), shelf, out) {
+    match input_of_files(
+        solver.alloc(),
+        command.model(),
+        command.earlier(),
+        shelf,
+        out,
+    ) {
         Ok(input) => {
-            let status = run_on(alloc, command, &input, shelf, out, work);
+            let status = run_on(solver, command, &input, shelf, out, work);
             discard(input);
             status
         }
@@ -96,8 +146,8 @@ fn run_command<F: Shelf, O: Sink>(
 }
 
 /// Does what a command asks for with what its files gave.
-fn run_on<F: Shelf, O: Sink>(
-    alloc: Global,
+fn run_on<S: Solver, F: Shelf, O: Sink>(
+    solver: &S,
     command: Command<'_>,
     input: &Input,
     shelf: &mut F,
@@ -107,17 +157,19 @@ fn run_on<F: Shelf, O: Sink>(
     requires lines { length input.now.reading.rule_lines.items
         ≡ length input.now.reading.model.rules }
     requires plan { HasPlan command }
-    ensures outcome { HasOwnOutcome (told_by command.entry)
+    ensures outcome { HasOwnOutcome (with_workers (S.workers solver.now) (told_by command.entry))
         (world (F.state shelf.old) (O.state out.old) work.old)
         (world (F.state shelf.new) (O.state out.new) work.new)
         (lists_of input.now.reading.model) input.now.reading.rule_lines.items
         input.now.earlier.pairs result }
-    ensures files { LeavesFiles (told_by command.entry) (F.state shelf.old) (F.state shelf.new)
-        result }
-    ensures work { LeavesWork (told_by command.entry) work.old work.new result }
+    ensures files { LeavesFiles (with_workers (S.workers solver.now) (told_by command.entry))
+        (F.state shelf.old) (F.state shelf.new) result }
+    ensures work { LeavesWork (with_workers (S.workers solver.now) (told_by command.entry))
+        work.old work.new result }
 {
+    let alloc = solver.alloc();
     match command {
-        Command::Solve(request) => solve(alloc, request, input, shelf, out, work),
+        Command::Solve(request) => solve(solver, request, input, shelf, out, work),
         Command::Check(request) => check(alloc, input, request.cert, shelf, out),
         Command::Show { .. } => show(alloc, &input.reading.model, out),
         Command::Encode(_) => encode_input(alloc, input, out),

@@ -1,12 +1,13 @@
-//! A model solved by one worker, the certificate written, and the answer printed.
+//! A model solved, the certificate written, and the answer printed.
 ghost use Rattle.std.specs.Prelude.{◌≡◌, Some, length, option_map};
 ghost use Rattle.std.specs.List.{All};
 ghost use Rattle.cgm_atom.specs.Ranges.{IsPrintable};
 ghost use Rattle.cgm_model.specs.Model.{lists_of};
 ghost use Rattle.cgm_report.specs.Answers.{IsReportable, report_of};
-ghost use Rattle.cgm_search.specs.Searching.{IsPlan};
 ghost use Rattle.cgm_cli.specs.Answers.{answer_status, entries_of};
-ghost use Rattle.cgm_cli.specs.Commands.{solving};
+ghost use Rattle.cgm_cli.specs.CommandLine.{with_workers};
+ghost use Rattle.cgm_cli.specs.Commands.{HasPlan, solving};
+ghost use Rattle.cgm_cli.specs.declared.command.Command.TheVariants as read;
 ghost use Rattle.cgm_cli.specs.Effects.{outside, world};
 ghost use Rattle.cgm_cli.specs.Outcome.{HasOwnOutcome, LeavesFiles, LeavesWork};
 ghost use Rattle.cgm_cli.specs.SolveOutcome.{IsDelivered};
@@ -16,20 +17,20 @@ use crate::command::SolveRequest;
 use crate::encoding::tell_row_limit;
 use crate::input::Input;
 use crate::print::{print_report, tell, tell_memory};
+use crate::solvers::Solver;
 use cgm_base::Status;
 use cgm_cert::print_cert;
 use cgm_model::Model;
 use cgm_report::report;
 use cgm_shelf::{Shelf, Sink, write_file};
-use cgm_solve::{Answer, SolveStop, solve_alone};
+use cgm_solve::{Answer, SolveStop};
 use cgm_trail::Work;
 use std::alloc::Global;
 
-/// Solves a model by one worker with the plan of the request, with what is known of an earlier
-/// realization. Writes the certificate where a file is named for it, and prints the answer, or why
+/// Solves a model as the request asks, with what is known of an earlier realization. Writes the certificate where a file is named for it, and prints the answer, or why
 /// there is none.
-pub(crate) fn solve<F: Shelf, O: Sink>(
-    alloc: Global,
+pub(crate) fn solve<S: Solver, F: Shelf, O: Sink>(
+    solver: &S,
     request: SolveRequest<'_>,
     input: &Input,
     shelf: &mut F,
@@ -38,19 +39,20 @@ pub(crate) fn solve<F: Shelf, O: Sink>(
 ) -> Status
     requires lines { length input.now.reading.rule_lines.items
         ≡ length input.now.reading.model.rules }
-    requires plan { IsPlan request.plan }
-    ensures outcome { HasOwnOutcome (solving request.entry)
+    requires plan { HasPlan (read.Solve request) }
+    ensures outcome { HasOwnOutcome (with_workers (S.workers solver.now) (solving request.entry))
         (world (F.state shelf.old) (O.state out.old) work.old)
         (world (F.state shelf.new) (O.state out.new) work.new)
         (lists_of input.now.reading.model) input.now.reading.rule_lines.items
         input.now.earlier.pairs result }
-    ensures files { LeavesFiles (solving request.entry) (F.state shelf.old) (F.state shelf.new)
+    ensures files { LeavesFiles (with_workers (S.workers solver.now) (solving request.entry)) (F.state shelf.old) (F.state shelf.new)
         result }
-    ensures work { LeavesWork (solving request.entry) work.old work.new result }
+    ensures work { LeavesWork (with_workers (S.workers solver.now) (solving request.entry)) work.old work.new result }
     ensures reads { (F.state shelf.new).read_faults ≡ (F.state shelf.old).read_faults }
 {
+    let alloc = solver.alloc();
     let m = &input.reading.model;
-    match solve_alone(alloc, m, &input.earlier, request.plan, work) {
+    match solver.solve(m, &input.earlier, request.crew(), work) {
         Ok(answer) => deliver(alloc, m, &answer, request.cert, shelf, out),
         Err(SolveStop::Row { rule }) => tell_row_limit(alloc, input, rule, out),
         Err(SolveStop::Memory) => tell_memory(out),

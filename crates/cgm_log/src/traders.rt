@@ -13,9 +13,15 @@ pub const MAX_TRADES: u64 = 1 << 59;
 
 /// What a worker trades with: it has seen a front of a log, and hands the worker's batches to it.
 pub trait Trader {
+    /// Of this type is what its owner knows of it. No value of it is made.
+    type Home;
+
     /// The problem of the log, the entries that were seen, the worker's number, and how many trades
     /// may still be made.
     ghost seat: { Self → Seat };
+
+    /// What its owner knows of it and no trade changes.
+    ghost home: { Self → Self.Home };
 
     /// How many entries were seen.
     fn seen(&self) -> u64
@@ -40,6 +46,7 @@ pub trait Trader {
             (λ r. ((seat self.new).told ≡ (seat self.old).told) × (r.batch ≡ batch)) }
         ensures problem { (seat self.new).problem ≡ (seat self.old).problem }
         ensures number { (seat self.new).number ≡ (seat self.old).number }
+        ensures home { Self.home self.new ≡ Self.home self.old }
         ensures left { (seat self.new).trades + 1 ≡ (seat self.old).trades };
 
     /// The log, if nobody else adds to it. It is the problem's, with the entries that were seen.
@@ -71,12 +78,16 @@ impl Alone {
 }
 
 impl Trader for Alone {
+    type Home = u64;
+
     ghost seat = { λ a. record {
       problem = a.log.problem;
       told = a.log.entries;
       number = None;
       trades = a.left;
     } };
+
+    ghost home = { λ _. 0 };
 
     fn seen(&self) -> u64 {
         self.log.entries().len() as u64

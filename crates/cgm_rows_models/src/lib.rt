@@ -1,7 +1,7 @@
 //! Worked examples over models and by the whole program, as tests: assignments and the rules that they
 //! break, encoding and back, what entries show, lines of reports, earlier texts that are printed, and
 //! small calls; limits that only long texts meet, counts that no text tells, how runs over transcripts
-//! end, and the shelves and sinks by themselves.
+//! end, crews held at their gates, and the shelves and sinks by themselves.
 #![tactic(auto)]
 
 #[cfg(test)]
@@ -10,6 +10,8 @@ mod assignments;
 mod call_rows;
 #[cfg(test)]
 mod count_rows;
+#[cfg(test)]
+mod crew_rows;
 #[cfg(test)]
 mod earlier_rows;
 #[cfg(test)]

@@ -12,6 +12,10 @@ use std::test::Fail;
 struct Commands;
 
 impl Program for Commands {
+    fn is_alone(&self) -> bool {
+        true
+    }
+
     fn run(
         &self,
         alloc: Global,

@@ -1,5 +1,5 @@
 //! Worked examples over problems: values, boxes, the checker, certificates, trails, propagation, orders,
-//! what conflicts teach, trades, histories of several workers, turns and whole runs, as tests.
+//! what conflicts teach, trades, histories of several workers, turns, crews and whole runs, as tests.
 #![tactic(auto)]
 
 #[cfg(test)]
@@ -8,6 +8,8 @@ mod cert_rows;
 mod chain_rows;
 #[cfg(test)]
 mod choices;
+#[cfg(test)]
+mod crew_rows;
 #[cfg(test)]
 mod drivers;
 #[cfg(test)]

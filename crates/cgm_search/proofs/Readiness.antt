@@ -27,7 +27,7 @@ use Rattle.cgm_search.specs.declared.plans.Plan.{Plan}
 use Rattle.cgm_search.specs.declared.plans.Stopped.{Stopped}
 use Rattle.cgm_search.specs.declared.plans.Stopped.TheVariants as stopped
 use Rattle.cgm_search.specs.declared.searches.Search.{Search}
-use Rattle.cgm_search.specs.Choosing.{IsChoiceOf}
+use Rattle.cgm_search.specs.Choosing.{IsChoiceOf, IsOwnOrder}
 use Rattle.cgm_search.specs.Knowing.{IsKnowledge, seen, seen_state}
 use Rattle.cgm_search.specs.Searching.{AreSeenReasons, IsKeptSearch, IsSearchOutcome, IsPlan, IsReady, IsTradedIn, IsTrailOf, IsUnit, Sits, need}
 use Rattle.cgm_search.specs.Settling.{IsRoundName, IsSettled}
@@ -65,6 +65,7 @@ ready_moved old new h same trail reasons =
       trail = rw (same.known, same.plan) trail;
       reasons = rw same.known reasons;
       choice = rw (same.known, same.choice) h.choice;
+      own_order = rw (same.known, same.plan, same.worker, same.choice) h.own_order;
       plan = rw same.plan h.plan;
       worker = rw same.worker h.worker;
     }
@@ -80,14 +81,15 @@ pub kept_same : (old new : Search) → IsReady old → IsMoved old new → new.t
 kept_same old new h same trail = kept_moved old new same (rw trail h.trail)
 
 -- the weights of variables have changed
-pub ready_raised : (s : Search) (choice : Choice) → IsReady s → choice.order ≡ s.choice.order → length choice.activity.weights ≡ length s.choice.activity.weights → IsReady (record s { choice = choice })
-ready_raised s choice h order weights =
+pub ready_raised : (s : Search) (choice : Choice) → IsReady s → choice.order ≡ s.choice.order → length choice.activity.weights ≡ length s.choice.activity.weights → choice.activity.variables ≡ s.choice.activity.variables → IsReady (record s { choice = choice })
+ready_raised s choice h order weights variables =
     record {
       known = h.known;
       still_open = h.still_open;
       trail = h.trail;
       reasons = h.reasons;
       choice = record { order = ap (λ o. length o.variables) order ∙ h.choice.order; activity = weights ∙ h.choice.activity };
+      own_order = record { first = ap (λ o. o.variables) order ∙ h.own_order.first; later = variables ∙ h.own_order.later };
       plan = h.plan;
       worker = h.worker;
     }
@@ -333,6 +335,7 @@ ready_traded old new h same known still_open longer =
       trail = rw (same.problem, same.trail, same.plan) h.trail;
       reasons = reasons_traded old new h same longer;
       choice = rw (same.problem, same.choice) h.choice;
+      own_order = rw (same.problem, same.plan, same.worker, same.choice) h.own_order;
       plan = rw same.plan h.plan;
       worker = rw same.worker h.worker;
     }
@@ -381,14 +384,15 @@ nothing_open : (log : List Entry) → log ≡ [] → (state_of log).closed ≡ f
 unfolding state_of
 nothing_open log e = rw e refl
 
-pub ready_new : (p : Instance) (s : Search) → IsKnowledge s.known → s.known.problem ≡ p → seen s.known ≡ [] → s.trail ≡ trail_started p → IsChoiceOf (var_count p) s.choice → IsPlan s.plan → s.worker < max_workers → IsReady s
-ready_new p s known problem nothing trail choice plan worker =
+pub ready_new : (p : Instance) (s : Search) → IsKnowledge s.known → s.known.problem ≡ p → seen s.known ≡ [] → s.trail ≡ trail_started p → IsChoiceOf (var_count p) s.choice → IsOwnOrder (var_count p) s.plan.seed s.worker s.choice → IsPlan s.plan → s.worker < max_workers → IsReady s
+ready_new p s known problem nothing trail choice own_order plan worker =
     record {
       known = known;
       still_open = nothing_open (seen s.known) nothing;
       trail = rw (problem, trail) (record { problem = refl; moves = omega arith; restarts = omega arith });
       reasons = rw trail tt;
       choice = rw problem choice;
+      own_order = rw problem own_order;
       plan = plan;
       worker = worker;
     }

@@ -1,8 +1,14 @@
 -- The two orders of decisions that a worker goes by.
 use Rattle.std.specs.Prelude.{◌≡◌, ℕ, length}
 use Rattle.cgm_search.specs.declared.decisions.Choice.{Choice}
+use Rattle.cgm_split.specs.Drawing.{order_of}
 
 -- both orders are of so many variables
 pub record IsChoiceOf (count : ℕ) (c : Choice) : Type 0 where
   pub order : length c.order.variables ≡ count
   pub activity : length c.activity.weights ≡ count
+
+-- before the first restart and, for equal weights, after it the variables go in the order of this seed and this worker
+pub record IsOwnOrder (count seed worker : ℕ) (c : Choice) : Type 0 where
+  pub first : c.order.variables ≡ order_of count seed worker
+  pub later : c.activity.variables ≡ order_of count seed worker

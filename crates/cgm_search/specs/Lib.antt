@@ -4,6 +4,7 @@ pub mod Knowing
 pub mod Resolving
 pub mod Searching
 pub mod Settling
+pub mod Spending
 pub mod Stepping
 pub mod Storing
 pub mod Trading

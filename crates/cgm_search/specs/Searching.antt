@@ -10,7 +10,7 @@ use Rattle.cgm_search.specs.declared.plans.Plan.{Plan}
 use Rattle.cgm_search.specs.declared.plans.Stopped.{Stopped}
 use Rattle.cgm_search.specs.declared.plans.Stopped.TheVariants as stopped
 use Rattle.cgm_search.specs.declared.searches.Search.{Search}
-use Rattle.cgm_search.specs.Choosing.{IsChoiceOf}
+use Rattle.cgm_search.specs.Choosing.{IsChoiceOf, IsOwnOrder}
 use Rattle.cgm_search.specs.Knowing.{IsKnowledge, seen, seen_state}
 use Rattle.cgm_search.specs.Storing.{IsSeenName}
 use Rattle.cgm_trail.specs.declared.changes.Swept.{Swept}
@@ -46,6 +46,7 @@ pub record IsReady (s : Search) : Type 0 where
   pub trail : IsTrailOf s.known.problem s.plan s.trail
   pub reasons : AreSeenReasons s
   pub choice : IsChoiceOf (var_count s.known.problem) s.choice
+  pub own_order : IsOwnOrder (var_count s.known.problem) s.plan.seed s.worker s.choice
   pub plan : IsPlan s.plan
   pub worker : s.worker < max_workers
 

@@ -9,14 +9,17 @@ use Rattle.cgm_search.specs.Searching.{IsPlan, IsReady, IsTrailOf, Sits}
 use Rattle.cgm_search.specs.Working.{WorkerState}
 use Rattle.cgm_trail.specs.TrailState.{trail_started}
 
-abbrev pub worker_state : Seat → Search → Option Stopped → WorkerState
-worker_state seat s ended =
+abbrev pub worker_state : {H : Type 0} → Seat → H → Search → Option Stopped → WorkerState H
+worker_state seat home s ended =
     record {
       seat = seat;
+      home = home;
       worker = s.worker;
       plan = s.plan;
       trail = s.trail;
       store = s.known.store;
+      order = s.choice.order.variables;
+      later_order = s.choice.activity.variables;
       ended = ended;
     }
 

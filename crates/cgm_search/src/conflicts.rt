@@ -37,6 +37,7 @@ impl Search {
             (IsUnit self.old self.new (before_trade (T.seat trader.old)) (T.seat trader.new)) }
         ensures kept { IsKeptSearch self.old self.new }
         ensures seat { KeepsSeat 1 (T.seat trader.old) (T.seat trader.new) }
+        ensures home { T.home trader.new ≡ T.home trader.old }
         ensures unspent { self.old.trail.moves ≡ self.old.plan.budget
             → (T.seat trader.new).trades ≡ (T.seat trader.old).trades }
     {
@@ -62,6 +63,7 @@ impl Search {
             (IsUnit self.old self.new (before_trade (T.seat trader.old)) (T.seat trader.new)) }
         ensures kept { IsKeptSearch self.old self.new }
         ensures seat { KeepsSeat 1 (T.seat trader.old) (T.seat trader.new) }
+        ensures home { T.home trader.new ≡ T.home trader.old }
     {
         let lemma = self.learn(conflict)?;
         let level = lemma.level;
@@ -120,6 +122,7 @@ impl Search {
         ensures once { OnOk result ((T.seat trader.new).trades + 1 ≡ (T.seat trader.old).trades) }
         ensures traded { IsTradedIn self.old self.new }
         ensures seat { KeepsSeat 1 (T.seat trader.old) (T.seat trader.new) }
+        ensures home { T.home trader.new ≡ T.home trader.old }
     {
         let batch = lemma_batch(self.alloc, self.worker, lemma)?;
         self.exchange(trader, gate, batch)

@@ -1,7 +1,7 @@
 //! What to decide next.
 ghost use Rattle.std.specs.Prelude.{◌≡◌, ◌+◌, ◌<◌, ◌≤◌, ◌↔◌, length, IsNone, IfOk, IfSome};
 ghost use Rattle.cgm_atom.specs.Instance.{var_count};
-ghost use Rattle.cgm_search.specs.Choosing.{IsChoiceOf};
+ghost use Rattle.cgm_search.specs.Choosing.{IsChoiceOf, IsOwnOrder};
 ghost use Rattle.cgm_split.specs.Halving.{IsLowerHalf, IsPoint};
 ghost use Rattle.cgm_trail.specs.TrailState.{IsOpenIn, box_of};
 
@@ -26,7 +26,8 @@ impl Choice {
         plan: Plan,
         worker: u32,
     ) -> Result<Choice, OutOfMemory>
-        ensures { IfOk result (IsChoiceOf (var_count problem.now)) }
+        ensures choice { IfOk result (IsChoiceOf (var_count problem.now)) }
+        ensures own_order { IfOk result (IsOwnOrder (var_count problem.now) plan.seed worker) }
     {
         let order = Order::new(alloc, problem, plan.seed, worker)?;
         let activity = Activity::new(alloc, problem, plan.seed, worker)?;
@@ -65,6 +66,7 @@ impl Choice {
         requires { length self.old.activity.weights ≡ var_count trail.now.problem }
         ensures order { self.new.order ≡ self.old.order }
         ensures count { length self.new.activity.weights ≡ length self.old.activity.weights }
+        ensures variables { self.new.activity.variables ≡ self.old.activity.variables }
     {
         let mut left = all_but_last(hints);
         let mut place = trail.changes();
@@ -83,6 +85,7 @@ impl Choice {
         requires count { length self.old.activity.weights ≡ var_count trail.now.problem }
         ensures order { self.new.order ≡ self.old.order }
         ensures count { length self.new.activity.weights ≡ length self.old.activity.weights }
+        ensures variables { self.new.activity.variables ≡ self.old.activity.variables }
     {
         let change = trail.change(place);
         self.activity.raise(change.atom.var);

@@ -36,6 +36,7 @@ impl Search {
         ensures once { OnOk result ((T.seat trader.new).trades + 1 ≡ (T.seat trader.old).trades) }
         ensures traded { IsTradedIn self.old self.new }
         ensures seat { KeepsSeat 1 (T.seat trader.old) (T.seat trader.new) }
+        ensures home { T.home trader.new ≡ T.home trader.old }
     {
         let copy = copy_batch(self.alloc, &batch)?;
         gate.arrive(self.worker, BEFORE_TRADE);

@@ -34,6 +34,7 @@ impl Search {
             (IsUnit self.old self.new (T.seat trader.old) (T.seat trader.new)) }
         ensures kept { IsKeptSearch self.old self.new }
         ensures seat { KeepsSeat (need self.old) (T.seat trader.old) (T.seat trader.new) }
+        ensures home { T.home trader.new ≡ T.home trader.old }
     {
         if self.is_restart_due() {
             self.restart();
@@ -91,6 +92,7 @@ impl Search {
             (IsUnit self.old self.new (T.seat trader.old) (T.seat trader.new)) }
         ensures kept { IsKeptSearch self.old self.new }
         ensures seat { KeepsSeat (need self.old) (T.seat trader.old) (T.seat trader.new) }
+        ensures home { T.home trader.new ≡ T.home trader.old }
     {
         self.trail.recall_trail();
         match self.choice.choose(&self.trail) {
@@ -131,6 +133,7 @@ impl Search {
             (IsUnit self.old self.new (T.seat trader.old) (T.seat trader.new)) }
         ensures kept { IsKeptSearch self.old self.new }
         ensures seat { KeepsSeat (need self.old) (T.seat trader.old) (T.seat trader.new) }
+        ensures home { T.home trader.new ≡ T.home trader.old }
     {
         self.offer(trader, gate)?;
         if self.known.is_closed() {
@@ -171,6 +174,7 @@ impl Search {
         ensures once { OnOk result ((T.seat trader.new).trades + 1 ≡ (T.seat trader.old).trades) }
         ensures traded { IsTradedIn self.old self.new }
         ensures seat { KeepsSeat 1 (T.seat trader.old) (T.seat trader.new) }
+        ensures home { T.home trader.new ≡ T.home trader.old }
     {
         self.trail.recall_trail();
         let values = least_values(self.alloc, &self.known.problem, self.trail.state())?;
@@ -191,6 +195,7 @@ impl Search {
         ensures once { OnOk result ((T.seat trader.new).trades + 1 ≡ (T.seat trader.old).trades) }
         ensures traded { IsTradedIn self.old self.new }
         ensures seat { KeepsSeat 1 (T.seat trader.old) (T.seat trader.new) }
+        ensures home { T.home trader.new ≡ T.home trader.old }
     {
         let batch = empty_batch(self.alloc, self.worker);
         self.exchange(trader, gate, batch)?;

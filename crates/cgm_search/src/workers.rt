@@ -4,6 +4,7 @@ ghost use Rattle.cgm_atom.specs.Acceptance.{IsClosed};
 ghost use Rattle.cgm_atom.specs.Limits.{max_workers};
 ghost use Rattle.cgm_log.specs.Seats.{KeepsSeat};
 ghost use Rattle.cgm_search.specs.Searching.{IsKeptSearch, IsPlan, IsReady, Sits, need};
+ghost use Rattle.cgm_search.specs.Spending.{IsSpentTrail};
 ghost use Rattle.cgm_search.specs.WorkerParts.{IsFresh, IsWhole};
 ghost use Rattle.cgm_search.specs.Working.{IsWorker};
 ghost use Rattle.cgm_trail.specs.Rank.{slack};
@@ -24,7 +25,8 @@ use std::marker::Model;
 /// that isn't a decision is one that narrowing by its hint makes from the box before it, and the hint
 /// names what it has seen. Its store has the problem's clauses, the cut of the last best that it has
 /// seen, and every lemma of at most eight atoms that it has seen. No lemma that it uses has a bound
-/// above the ordinal of that best.
+/// above the ordinal of that best. Its decisions go in the order that its own number and the seed draw,
+/// and each batch that it trades has its own number.
 #[derive(Drop)]
 pub struct Worker<T: Trader> {
     trader: T,
@@ -35,11 +37,11 @@ pub struct Worker<T: Trader> {
 impl<T: Trader> Model for Worker<T> {
     ghost use Rattle.cgm_search.specs.Working.{WorkerState};
 
-    ghost Value = { WorkerState };
+    ghost Value = { WorkerState T.Home };
 
     ghost use Rattle.cgm_search.specs.WorkerParts.{IsWhole, worker_state};
 
-    ghost view = { λ w. worker_state (T.seat w.trader) w.search w.ended };
+    ghost view = { λ w. worker_state (T.seat w.trader) (T.home w.trader) w.search w.ended };
 
     ghost invariant = { λ w. IsWhole w.search (T.seat w.trader) w.ended };
 }
@@ -69,6 +71,7 @@ impl<T: Trader> Worker<T> {
         ensures ended { IfOk result (λ w. w.ended ≡ None) }
         ensures trades { IfOk result (λ w. w.seat.trades ≡ (T.seat trader).trades) }
         ensures number { IfOk result (λ w. w.seat.number ≡ (T.seat trader).number) }
+        ensures home { IfOk result (λ w. w.home ≡ T.home trader) }
         ensures trail { IfOk result (λ w. w.trail ≡ trail_started problem.now) }
         ensures trader { IfErr result (λ n. n.trader ≡ trader) }
     {
@@ -112,6 +115,7 @@ impl<T: Trader> Worker<T> {
         ensures few { self.old.seat.trades ≤ self.new.seat.trades + self.old.plan.budget + 2 }
         ensures problem { self.new.seat.problem ≡ self.old.seat.problem }
         ensures number { self.new.seat.number ≡ self.old.seat.number }
+        ensures home { self.new.home ≡ self.old.home }
         ensures plan { self.new.plan ≡ self.old.plan }
         ensures worker { self.new.worker ≡ self.old.worker }
     {
@@ -127,6 +131,7 @@ impl<T: Trader> Worker<T> {
         ensures first { self.old.ended ≡ None → result ≢ Stopped.Memory
             → self.new.seat.trades + 1 ≤ self.old.seat.trades }
         ensures seat { KeepsSeat (self.old.plan.budget + 2) self.old.seat self.new.seat }
+        ensures home { self.new.home ≡ self.old.home }
         ensures plan { self.new.plan ≡ self.old.plan }
         ensures worker { self.new.worker ≡ self.old.worker }
     {
@@ -140,6 +145,13 @@ impl<T: Trader> Worker<T> {
         }
     }
 
+    /// How its run ended; None before it. Takes no memory.
+    pub fn stopped(&self) -> Option<Stopped>
+        ensures { result ≡ self.now.ended }
+    {
+        self.ended
+    }
+
     /// How many moves of its trail it has made. Takes no memory.
     pub fn spent(&self) -> u64
         ensures moves { result ≡ self.now.trail.moves }
@@ -149,16 +161,20 @@ impl<T: Trader> Worker<T> {
         self.search.trail.moves()
     }
 
-    /// The trader and the trail. Takes no memory.
+    /// The trader and the trail. Takes no memory. Where the budget is spent, it is spent on this trail.
     pub fn into_parts(self) -> (T, Trail)
         ensures problem { (T.seat result.0).problem ≡ self.seat.problem }
         ensures told { (T.seat result.0).told ≡ self.seat.told }
         ensures number { (T.seat result.0).number ≡ self.seat.number }
+        ensures home { T.home result.0 ≡ self.home }
         ensures trades { (T.seat result.0).trades ≡ self.seat.trades }
         ensures trail { result.1 ≡ self.trail }
         ensures valid { IsWorker self }
+        ensures spent { self.ended ≡ Some Stopped.Spent
+            → IsSpentTrail self.seat.problem self.plan self.seat.told self.trail }
     {
         self.recall_worker();
+        self.search.trail.recall_trail();
         let Worker {
             trader,
             search,
@@ -185,6 +201,7 @@ impl Search {
         ensures kept { IsKeptSearch self.old self.new }
         ensures seat { KeepsSeat (self.old.plan.budget + 2)
             (T.seat trader.old) (T.seat trader.new) }
+        ensures home { T.home trader.new ≡ T.home trader.old }
     {
         gate.arrive(self.worker, RUN_STARTS);
         let stopped = self.run_from_start(trader, gate);
@@ -201,6 +218,7 @@ impl Search {
         ensures kept { IsKeptSearch self.old self.new }
         ensures seat { KeepsSeat (self.old.plan.budget + 2)
             (T.seat trader.old) (T.seat trader.new) }
+        ensures home { T.home trader.new ≡ T.home trader.old }
     {
         match self.look(trader, gate) {
             Err(_) => Stopped::Memory,
@@ -217,6 +235,7 @@ impl Search {
         ensures whole { IsWhole self.new (T.seat trader.new) (Some result) }
         ensures kept { IsKeptSearch self.old self.new }
         ensures seat { KeepsSeat (need self.old) (T.seat trader.old) (T.seat trader.new) }
+        ensures home { T.home trader.new ≡ T.home trader.old }
     {
         loop {
             match self.step(trader, gate) {

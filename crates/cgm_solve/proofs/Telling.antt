@@ -1,7 +1,8 @@
 -- What is told of an ended run solves the model, whatever model the problem is the encoding of.
-use Rattle.std.proofs.Common.{◌≡◌, List, sym, subst, ◌∙◌}
+use Rattle.std.proofs.Common.{◌≡◌, ℕ, suc, List, [], ◌∷◌, length, refl, sym, ap, subst, ◌∙◌}
 use Rattle.std.specs.Prelude.{Result, Ok, Err}
 use Rattle.std.specs.List.{All}
+use Rattle.std.proofs.lemmas.List.Elements.{All-cons, All-head, All-nil, All-tail}
 use Rattle.cgm_model.specs.declared.lists.Lists.{Lists}
 use Rattle.cgm_evolve.specs.Pairs.{Pair}
 use Rattle.cgm_atom.specs.declared.entries.Entry.{Entry}
@@ -9,6 +10,8 @@ use Rattle.cgm_atom.specs.Acceptance.{IsAccepted, IsClosed}
 use Rattle.cgm_atom.specs.Bounds.{AreProperBounds}
 use Rattle.cgm_atom.specs.Instance.{Instance}
 use Rattle.cgm_atom.specs.Ranges.{IsPrintable}
+use Rattle.cgm_crew.specs.Crews.{AreEndsOver, IsEndOver}
+use Rattle.cgm_crew.specs.declared.crews.CrewEnd.{CrewEnd}
 use Rattle.cgm_encode.specs.declared.answer.Answer.{Answer}
 use Rattle.cgm_encode.specs.declared.answer.Answer.TheVariants.{Exhausted, Open, Realized, Unrealizable}
 use Rattle.cgm_encode.specs.declared.answer.Encoded.{Encoded}
@@ -18,10 +21,10 @@ use Rattle.cgm_log.specs.LogBook.{IsLog, LogBook}
 use Rattle.cgm_search.specs.declared.plans.Plan.{Plan}
 use Rattle.cgm_search.specs.declared.plans.Stopped.{Stopped}
 use Rattle.cgm_search.specs.declared.plans.Stopped.TheVariants as stopped
+use Rattle.cgm_search.specs.Spending.{IsSpentTrail}
 use Rattle.cgm_trail.specs.TrailState.{TrailState}
-use Rattle.cgm_solve.specs.declared.running.Ended.{Ended}
-use Rattle.cgm_solve.specs.Answers.{IsSolved, IsSpentTrail, LeavesOpen}
-use Rattle.cgm_solve.specs.Runs.{IsEnded, IsRunEndedAs, IsAnswerTold, IsToldOf}
+use Rattle.cgm_solve.specs.Answers.{IsSolved, LeavesOpen}
+use Rattle.cgm_solve.specs.Runs.{IsEnded, IsAnswerTold, IsToldOf}
 use Rattle.cgm_solve.specs.Searches.{IsSearchAnswer}
 use Rattle.cgm_solve.proofs.Showing.{shows_realized, shows_unrealizable}
 
@@ -38,34 +41,57 @@ model_log m pairs book entries problem same log = record {
   printable = subst (λ (es : List Entry). All IsPrintable es) (sym same) log.printable;
 }
 
-told_of : (encoded : Encoded) (plan : Plan) (e : Ended) (before after : List TrailState) (answer : Answer) → IsEnded encoded.problem plan e → IsToldOf encoded e before after answer → ForEncoded encoded (λ m pairs. IsSolved m pairs plan before after answer)
-told_of encoded plan e before after (Realized found entries) ended told = λ m pairs well_formed encoding.
+-- ---- ended workers
+
+abbrev IsSpentEnd : Stopped → Type 0
+IsSpentEnd s = s ≡ stopped.Spent
+
+same_count : (p : Instance) (plan : Plan) (log : List Entry) (ss : List Stopped) (ts : List TrailState) → AreEndsOver p plan log ss ts → length ss ≡ length ts
+same_count p plan log [] [] h = refl
+same_count p plan log [] (t ∷ ts) h = absurd h
+same_count p plan log (s ∷ ss) [] h = absurd h
+same_count p plan log (s ∷ ss) (t ∷ ts) h = ap (λ (n : ℕ). suc n) (same_count p plan log ss ts h.1)
+
+-- where each worker spent its budget, each trail shows it
+all_spent : (p : Instance) (plan : Plan) (log : List Entry) (ss : List Stopped) (ts : List TrailState) → All IsSpentEnd ss → AreEndsOver p plan log ss ts → All (IsSpentTrail p plan log) ts
+all_spent p plan log [] [] spent h = All-nil (IsSpentTrail p plan log)
+all_spent p plan log [] (t ∷ ts) spent h = absurd h
+all_spent p plan log (s ∷ ss) [] spent h = absurd h
+all_spent p plan log (s ∷ ss) (t ∷ ts) spent h =
+    All-cons (IsSpentTrail p plan log) t ts
+    (subst (λ (how : Stopped). IsEndOver p plan log how t) (All-head IsSpentEnd s ss spent) h.0)
+    (all_spent p plan log ss ts (All-tail IsSpentEnd s ss spent) h.1)
+
+told_of : (encoded : Encoded) (workers : ℕ) (plan : Plan) (e : CrewEnd) (before after : List TrailState) (answer : Answer) → IsEnded encoded.problem workers plan e → IsToldOf encoded e before after answer → ForEncoded encoded (λ m pairs. IsSolved m pairs workers plan before after answer)
+told_of encoded workers plan e before after (Realized found entries) ended told = λ m pairs well_formed encoding.
     let log = model_log m pairs e.log entries (ended.problem ∙ encoding.problem) told.0 ended.log in
     (shows_realized m pairs entries found well_formed log.proper log.accepted told.1 (told.2 m pairs well_formed encoding), log.printable, told.3)
-told_of encoded plan e before after (Unrealizable entries) ended told = λ m pairs well_formed encoding.
+told_of encoded workers plan e before after (Unrealizable entries) ended told = λ m pairs well_formed encoding.
     let log = model_log m pairs e.log entries (ended.problem ∙ encoding.problem) told.0 ended.log in
     (shows_unrealizable m pairs entries well_formed log.proper log.accepted told.1 (told.2 m pairs well_formed encoding), log.printable, told.3)
-told_of encoded plan e before after (Exhausted best spent entries) ended told = λ m pairs well_formed encoding.
+told_of encoded workers plan e before after (Exhausted best spent entries) ended told = λ m pairs well_formed encoding.
     let log = model_log m pairs e.log entries (ended.problem ∙ encoding.problem) told.0 ended.log in
-    let at : IsRunEndedAs encoded.problem plan e.log.entries e.trail stopped.Spent =
-    subst (λ (s : Stopped). IsRunEndedAs encoded.problem plan e.log.entries e.trail s) told.1 ended.ended_as in
     let left : LeavesOpen m pairs entries best = record {
       accepted = log.accepted;
-      not_closed = subst (λ (es : List Entry). ¬ IsClosed es) (sym told.0) at.0;
-      best_is = told.2 m pairs well_formed encoding;
-    } in (
+      not_closed = subst (λ (es : List Entry). ¬ IsClosed es) (sym told.0) told.1;
+      best_is = told.3 m pairs well_formed encoding;
+    } in
+    let all : All (IsSpentTrail encoded.problem plan e.log.entries) e.trails.items =
+    all_spent encoded.problem plan e.log.entries e.stopped.items e.trails.items told.2 ended.ends in (
       left,
       log.printable,
       record {
-        trail = e.trail;
-        is_spent = subst (λ (es : List Entry). IsSpentTrail (problem_of m pairs) plan es e.trail) (sym told.0)
-            (subst (λ (p : Instance). IsSpentTrail p plan e.log.entries e.trail) encoding.problem at.1);
-        added = told.4;
-        moves = told.3;
+        trails = e.trails.items;
+        some = ended.some;
+        count = sym (same_count encoded.problem plan e.log.entries e.stopped.items e.trails.items ended.ends) ∙ sym e.stopped.ok.0 ∙ ended.count;
+        are_spent = subst (λ (es : List Entry). All (IsSpentTrail (problem_of m pairs) plan es) e.trails.items) (sym told.0)
+            (subst (λ (p : Instance). All (IsSpentTrail p plan e.log.entries) e.trails.items) encoding.problem all);
+        added = told.5;
+        moves = told.4;
       },
     )
-told_of encoded plan e before after (Open best) ended told = absurd told
+told_of encoded workers plan e before after (Open best) ended told = absurd told
 
-pub told_solves : {E : Type 0} (encoded : Encoded) (plan : Plan) (e : Ended) (before after : List TrailState) (result : Result Answer E) → IsEnded encoded.problem plan e → IsAnswerTold encoded e before after result → ForEncoded encoded (λ m pairs. IsSearchAnswer m pairs plan before after result)
-told_solves encoded plan e before after (Ok answer) ended told = told_of encoded plan e before after answer ended told
-told_solves encoded plan e before after (Err error) ended told = λ m pairs well_formed encoding. told
+pub told_solves : {E : Type 0} (encoded : Encoded) (workers : ℕ) (plan : Plan) (e : CrewEnd) (before after : List TrailState) (result : Result Answer E) → IsEnded encoded.problem workers plan e → IsAnswerTold encoded e before after result → ForEncoded encoded (λ m pairs. IsSearchAnswer m pairs workers plan before after result)
+told_solves encoded workers plan e before after (Ok answer) ended told = told_of encoded workers plan e before after answer ended told
+told_solves encoded workers plan e before after (Err error) ended told = λ m pairs well_formed encoding. told

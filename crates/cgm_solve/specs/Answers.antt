@@ -1,5 +1,5 @@
 -- What it is to solve a model with a plan, and what entries show of a model: answers over the model itself, beside the entries that show them.
-use Rattle.std.specs.Prelude.{◌≡◌, ℕ, ◌+◌, ◌*◌, ◌^◌, ◌<◌, ◌≤◌, ℤ, List, [], ◌∷◌, ◌++◌, IsSomeAnd, Option, Some, None, Result, Ok, Err}
+use Rattle.std.specs.Prelude.{◌≡◌, ℕ, ◌≤◌, ℤ, List, [], ◌++◌, length, map, IsSomeAnd, Option, Some, None, Result, Ok, Err}
 use Rattle.std.specs.List.{All}
 use Rattle.cgm_formula.specs.declared.assignment.Assignment.{Assignment}
 use Rattle.cgm_model.specs.declared.lists.Lists.{Lists}
@@ -12,11 +12,9 @@ use Rattle.cgm_atom.specs.Instance.{Instance}
 use Rattle.cgm_atom.specs.LogState.{last_best, state_of}
 use Rattle.cgm_atom.specs.Ranges.{IsPrintable}
 use Rattle.cgm_check.specs.Verdicts.{IsRefusedAt}
-use Rattle.cgm_trail.specs.Rank.{slack}
-use Rattle.cgm_trail.specs.Steps.{AreReasoned}
 use Rattle.cgm_trail.specs.TrailState.{TrailState}
 use Rattle.cgm_search.specs.declared.plans.Plan.{Plan}
-use Rattle.cgm_search.specs.Storing.{IsSeenName}
+use Rattle.cgm_search.specs.Spending.{IsSpentTrail}
 use Rattle.cgm_encode.specs.declared.answer.Answer.{Answer}
 use Rattle.cgm_encode.specs.declared.answer.Answer.TheVariants.{Exhausted, Open, Realized, Unrealizable}
 use Rattle.cgm_encode.specs.declared.answer.Encoded.{Encoded}
@@ -95,37 +93,26 @@ IsVerifyAnswer m pairs entries (Err Memory) = Unit {0}
 
 -- ---- solving
 
--- the trail of a worker that spent the plan's budget on the problem, and left these entries
-pub record IsSpentTrail (p : Instance) (plan : Plan) (entries : List Entry) (t : TrailState) : Type 0 where
-  -- it is a trail of the problem
-  pub problem : t.problem ≡ p
-  -- it made as many moves as the plan says
-  pub moves : t.moves ≡ plan.budget
-  -- it made no more restarts than the plan says
-  pub restarts : t.restarts ≤ plan.restarts
-  -- each change that isn't a decision is one that a clause, a row, a lemma of the entries or a cut of one of their bests gives
-  pub reasons : AreReasoned (IsSeenName p (state_of entries)) p.bounds t.changes
-  -- a budget of so many moves can be spent
-  pub few : plan.budget < (plan.restarts + 1) * 2 ^ (slack p.bounds + 1)
+-- each of so many workers spent its budget, they left these entries, and their trails, by number, were added to the trails before
+pub record IsSpentWork (p : Instance) (workers : ℕ) (plan : Plan) (entries : List Entry) (before after : List TrailState) (spent : List ℕ) : Type 0 where
+  pub trails : List TrailState
+  pub some : 1 ≤ workers
+  pub count : length trails ≡ workers
+  pub are_spent : All (IsSpentTrail p plan entries) trails
+  pub added : after ≡ before ++ trails
+  pub moves : spent ≡ map (λ t. t.moves) trails
 
--- one worker spent its budget, left these entries, and its trail was added to the trails before
-pub record IsSpentWork (p : Instance) (plan : Plan) (entries : List Entry) (before after : List TrailState) (spent : List ℕ) : Type 0 where
-  pub trail : TrailState
-  pub is_spent : IsSpentTrail p plan entries trail
-  pub added : after ≡ before ++ trail ∷ []
-  pub moves : spent ≡ trail.moves ∷ []
-
--- a certificate can write the entries of each answer
-abbrev pub IsSolved : Lists → List Pair → Plan → List TrailState → List TrailState → Answer → Type 0
-IsSolved m pairs plan before after (Realized found entries) =
+-- the answer of so many workers, each with this plan; a certificate can write the entries of each answer
+abbrev pub IsSolved : Lists → List Pair → ℕ → Plan → List TrailState → List TrailState → Answer → Type 0
+IsSolved m pairs workers plan before after (Realized found entries) =
     ShowsRealized m pairs entries found × All IsPrintable entries × (after ≡ before)
-IsSolved m pairs plan before after (Unrealizable entries) =
+IsSolved m pairs workers plan before after (Unrealizable entries) =
     ShowsUnrealizable m pairs entries × All IsPrintable entries × (after ≡ before)
-IsSolved m pairs plan before after (Exhausted best spent entries) =
-    LeavesOpen m pairs entries best × All IsPrintable entries × IsSpentWork (problem_of m pairs) plan entries before after spent
-IsSolved m pairs plan before after (Open best) = ⊥
+IsSolved m pairs workers plan before after (Exhausted best spent entries) =
+    LeavesOpen m pairs entries best × All IsPrintable entries × IsSpentWork (problem_of m pairs) workers plan entries before after spent
+IsSolved m pairs workers plan before after (Open best) = ⊥
 
-abbrev pub IsSolveAnswer : Lists → List Pair → Plan → List TrailState → List TrailState → Result Answer SolveStop → Type 0
-IsSolveAnswer m pairs plan before after (Ok answer) = IsEncodable m × IsSolved m pairs plan before after answer
-IsSolveAnswer m pairs plan before after (Err (Row rule)) = IsPastLimit m pairs rule × (after ≡ before)
-IsSolveAnswer m pairs plan before after (Err Memory) = after ≡ before
+abbrev pub IsSolveAnswer : Lists → List Pair → ℕ → Plan → List TrailState → List TrailState → Result Answer SolveStop → Type 0
+IsSolveAnswer m pairs workers plan before after (Ok answer) = IsEncodable m × IsSolved m pairs workers plan before after answer
+IsSolveAnswer m pairs workers plan before after (Err (Row rule)) = IsPastLimit m pairs rule × (after ≡ before)
+IsSolveAnswer m pairs workers plan before after (Err Memory) = after ≡ before

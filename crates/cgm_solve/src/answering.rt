@@ -1,12 +1,11 @@
-//! What is told of an ended run.
-ghost use Rattle.std.specs.Prelude.{◌≡◌, IfOk};
-ghost use Rattle.cgm_atom.specs.Acceptance.{IsClosed};
+//! What is told of ended runs.
+ghost use Rattle.std.specs.Prelude.{◌≡◌, ◌↔◌, IfOk, IsTrue};
 ghost use Rattle.cgm_solve.specs.Answers.{IsLastBestOf};
-ghost use Rattle.cgm_solve.specs.Runs.{IsAnswerTold, IsExhausted, IsTrailKept, closed_answer};
+ghost use Rattle.cgm_solve.specs.Runs.{AreSpent, AreTrailsKept, IsAnswerTold, IsExhausted, closed_answer, moves_of};
 
-use crate::running::Ended;
 use cgm_atom::{Entry, Seq};
 use cgm_base::OutOfMemory;
+use cgm_crew::CrewEnd;
 use cgm_encode::{Answer, Encoded, Found, decoded};
 use cgm_log::Log;
 use cgm_search::Stopped;
@@ -14,16 +13,15 @@ use cgm_trail::{Trail, Work};
 use std::alloc::Global;
 use std::mem::drop;
 
-/// The answer of a closed log, or of one that isn't closed where the worker's budget is spent. Then the
-/// work gains its trail. Its entries are those of the log.
+/// The answer of a closed log, or of one that isn't closed where every worker's budget is spent. Then
+/// the work gains their trails. Its entries are those of the log.
 pub(crate) fn tell(
     alloc: Global,
     encoded: &Encoded,
-    ended: Ended,
+    ended: CrewEnd,
     work: &mut Work,
 ) -> Result<Answer, OutOfMemory>
-    requires problem { ended.log.problem ≡ encoded.now.problem }
-    requires closed { ended.stopped ≡ Stopped.Final → IsClosed ended.log.entries }
+    requires { ended.log.problem ≡ encoded.now.problem }
     ensures { IsAnswerTold encoded.now ended work.old work.new result }
 {
     let best = match decoded_last_best(alloc, encoded, &ended.log) {
@@ -33,28 +31,38 @@ pub(crate) fn tell(
             return Err(OutOfMemory);
         }
     };
-    let Ended {
+    let CrewEnd {
         log,
-        trail,
         stopped,
+        trails,
     } = ended;
     let is_closed = log.closed();
     let entries = log.into_entries();
     if is_closed {
-        drop(trail);
+        drop(trails);
         return Ok(closed_answer(best, entries));
     }
-    match stopped {
-        Stopped::Spent => exhausted(alloc, best, entries, trail, work),
-        // A worker ends so only where the log is closed.
-        Stopped::Final => unreachable!(),
-        Stopped::Memory => {
-            drop(best);
-            drop(entries);
-            drop(trail);
-            Err(OutOfMemory)
-        }
+    if !are_spent(stopped.as_slice()) {
+        // A worker without memory: what the others reached leaves the log open.
+        drop(best);
+        drop(entries);
+        drop(trails);
+        return Err(OutOfMemory);
     }
+    exhausted(alloc, best, entries, trails, work)
+}
+
+/// Whether each worker spent its budget.
+fn are_spent(stopped: &[Stopped]) -> bool
+    ensures { IsTrue result ↔ AreSpent stopped.now }
+{
+    stopped.iter().all(|how| is_spent(*how))
+}
+
+fn is_spent(how: Stopped) -> bool
+    ensures { IsTrue result ↔ how ≡ Stopped.Spent }
+{
+    how == Stopped::Spent
 }
 
 /// The realization that the last best of the log stands for, if there is one.
@@ -88,12 +96,12 @@ fn exhausted(
     alloc: Global,
     best: Option<Found>,
     entries: Seq<Entry>,
-    trail: Trail,
+    trails: Vec<Trail>,
     work: &mut Work,
 ) -> Result<Answer, OutOfMemory>
-    ensures { IsExhausted best entries trail work.old work.new result }
+    ensures { IsExhausted best entries trails.items work.old work.new result }
 {
-    match keep_trail(alloc, trail, work) {
+    match keep_trails(alloc, trails, work) {
         Ok(spent) => Ok(Answer::Exhausted {
             best,
             spent,
@@ -107,13 +115,22 @@ fn exhausted(
     }
 }
 
-/// Adds the trail to the work, and answers the list of what its worker spent.
-fn keep_trail(alloc: Global, trail: Trail, work: &mut Work) -> Result<Seq<u64>, OutOfMemory>
-    ensures { IsTrailKept trail work.old work.new result }
+/// Adds the trails to the work, and answers the list of what their workers spent.
+fn keep_trails(alloc: Global, trails: Vec<Trail>, work: &mut Work) -> Result<Seq<u64>, OutOfMemory>
+    ensures { AreTrailsKept trails.items work.old work.new result }
 {
-    let moves = trail.moves();
-    let trails = vec![in alloc; trail]?;
-    let spent = vec![in alloc; moves]?;
+    let spent = moves_of(alloc, trails.as_slice())?;
     work.keep(trails)?;
     Ok(Seq::of(spent))
+}
+
+/// How many moves were made on each trail.
+fn moves_of(alloc: Global, trails: &[Trail]) -> Result<Vec<u64>, OutOfMemory>
+    ensures { IfOk result (λ moves. moves.items ≡ moves_of trails.now) }
+{
+    let mut moves = Vec::with_capacity(alloc, trails.len())?;
+    for trail in trails {
+        moves.push_reserved(trail.moves());
+    }
+    Ok(moves)
 }

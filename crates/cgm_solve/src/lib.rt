@@ -1,4 +1,4 @@
-//! A model solved by one worker, and what entries show of a model.
+//! A model solved by one worker or by a crew, and what entries show of a model.
 #![tactic(auto)]
 
 mod answering;
@@ -6,7 +6,8 @@ mod running;
 mod solving;
 mod verifying;
 
+pub use cgm_crew::Crew;
 pub use cgm_encode::{Answer, Found, SolveStop};
 pub use cgm_search::Plan;
-pub use solving::solve_alone;
+pub use solving::{solve, solve_alone};
 pub use verifying::{Verified, verify, verify_encoded};

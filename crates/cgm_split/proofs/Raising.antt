@@ -55,6 +55,13 @@ raised_count w v = raised_by (nat_lt weight_limit (max (weight_of w.weights v + 
     raised_by true = length-map (lifted w v).weights (λ (k : ℕ). k / 2 ^ 32) ∙ lifted_count
     raised_by false = lifted_count
 
+pub raised_variables : (w : Weighing) (v : ℕ) → (weight_raised w v).variables ≡ w.variables
+raised_variables w v = raised_by (nat_lt weight_limit (max (weight_of w.weights v + w.increment) (increment_grown w.increment)))
+  where
+    raised_by : (t : Bool) → (if t then rescaled (lifted w v) else lifted w v).variables ≡ w.variables
+    raised_by true = refl
+    raised_by false = refl
+
 -- ---- the limits
 
 pub weighing_rescaled : (vs : List Var) (ws us : List ℕ) (x weight increment more : ℕ) → IsWeighing (record { variables = vs; weights = ws; increment = increment }) → weight < 2 ^ 64 → us ≡ map (λ w. w / 2 ^ 32) (slice_set ws x weight) → more ≡ increment_grown increment → IsWeighing (record { variables = vs; weights = us; increment = more / 2 ^ 32 + 1 })

@@ -74,6 +74,7 @@ impl Activity {
             self.old.weights y
             → weight_of self.new.weights x ≤ weight_of self.new.weights y }
         ensures count { length self.new.weights ≡ length self.old.weights }
+        ensures variables { self.new.variables ≡ self.old.variables }
     {
         self.lift(variable);
     }

@@ -8,6 +8,20 @@ pub(crate) struct Case<'a> {
     pub(crate) steps: Vec<Step<'a>>,
 }
 
+impl<'a> Case<'a> {
+    /// Whether the case holds for a program that runs one worker alone, or for one that runs several.
+    pub(crate) fn holds_for(&self, is_alone: bool) -> bool {
+        for step in self.steps.as_slice() {
+            match step {
+                Step::Alone if !is_alone => return false,
+                Step::Together if is_alone => return false,
+                _ => {}
+            }
+        }
+        true
+    }
+}
+
 /// A step of a case.
 #[derive(Drop)]
 pub(crate) enum Step<'a> {
@@ -19,6 +33,8 @@ pub(crate) enum Step<'a> {
     Fail(FailingCall),
     /// The case holds for one worker alone.
     Alone,
+    /// The case holds for as many workers as its words say, and not for one that is run in their place.
+    Together,
     /// The program is run.
     Run(Run),
 }

@@ -199,7 +199,8 @@ fn lone_step<'a>(alloc: Global, directive: &Directive<'a>) -> Result<Step<'a>, F
     match directive.keyword {
         Keyword::File => file_step(alloc, directive),
         Keyword::Piece => piece_step(directive),
-        Keyword::Alone => alone_step(directive),
+        Keyword::Alone => bare_step(directive, Step::Alone),
+        Keyword::Together => bare_step(directive, Step::Together),
         keyword => match call_of(keyword) {
             Some(call) => call_step(call, directive),
             None => Err(Flaw::Form {
@@ -221,10 +222,11 @@ fn piece_step<'a>(directive: &Directive<'a>) -> Result<Step<'a>, Flaw> {
     Ok(Step::Piece(Piece { size }))
 }
 
-fn alone_step<'a>(directive: &Directive<'a>) -> Result<Step<'a>, Flaw> {
+/// This step, where nothing follows its word.
+fn bare_step<'a>(directive: &Directive<'a>, step: Step<'a>) -> Result<Step<'a>, Flaw> {
     no_content(directive)?;
     no_text(directive)?;
-    Ok(Step::Alone)
+    Ok(step)
 }
 
 /// The kind of call that a directive has fail.

@@ -5,6 +5,9 @@ use std::alloc::Global;
 
 /// A program over files and output in memory.
 pub trait Program {
+    /// Whether it runs one worker, which waits for nobody, whatever the words say.
+    fn is_alone(&self) -> bool;
+
     /// Runs the program with these words, and says how it ends.
     fn run(
         &self,

@@ -83,7 +83,7 @@ impl Scene {
             Step::File(file) => self.folder.set(file.name, file.bytes.as_slice())?,
             Step::Piece(piece) => self.piece = *piece,
             Step::Fail(call) => self.fail(*call)?,
-            Step::Alone => {}
+            Step::Alone | Step::Together => {}
         }
         Ok(None)
     }

@@ -247,6 +247,9 @@ fn tell_case<P: Program, O: Sink>(
     case: &Case<'_>,
     out: &mut O,
 ) -> Result<bool, Stop> {
+    if !case.holds_for(program.is_alone()) {
+        return Ok(false);
+    }
     match run_case(alloc, program, case) {
         Ok(Some(told)) => print_told(alloc, file, case.name, told, out),
         Ok(None) => Ok(false),

@@ -45,6 +45,10 @@ IsPassOf turn pass = (pass.table ≡ turn.table) × (pass.problem ≡ turn.probl
 abbrev pub seat_of : PassState → Seat
 seat_of pass = record { problem = pass.problem; told = pass.told; number = Some pass.number; trades = 2 ^ 59 - pass.trades }
 
+-- what a trader of a pass keeps through its trades
+abbrev pub home_of : PassState → PassState
+home_of pass = record pass { told = []; own = []; trades = 0 }
+
 -- all but what it was told, what it landed and how often it traded
 pub record IsSamePass (old new : PassState) : Type 0 where
   pub table : new.table ≡ old.table

@@ -1,6 +1,6 @@
 //! A pass as a trader.
 ghost use Rattle.std.specs.Prelude.{◌≡◌, IsNone, IfSome};
-ghost use Rattle.cgm_turn.specs.Passes.{IsPassOf, seat_of};
+ghost use Rattle.cgm_turn.specs.Passes.{IsPassOf, home_of, seat_of};
 
 use crate::passes::{Pass, Turn};
 use cgm_log::{Batch, Log, Refund, Traded, Trader};
@@ -34,7 +34,11 @@ impl<'t, R: Wait> Seated<'t, R> {
 }
 
 impl<'t, R: Wait> Trader for Seated<'t, R> {
+    type Home = Pass;
+
     ghost seat = { λ s. seat_of s.pass };
+
+    ghost home = { λ s. home_of s.pass };
 
     fn seen(&self) -> u64 {
         self.pass.seen()

@@ -5,6 +5,7 @@ abbrev pub invariant-loop-place : goal.invariant-loop-place
 invariant-loop-place l = record {
   order : l.self.order ≡ l.fn.self.order;
   count : length l.self.activity.weights ≡ length l.fn.self.activity.weights;
+  variables : l.self.activity.variables ≡ l.fn.self.activity.variables;
   place : l.place ≤ length l.fn.trail.changes;
 }
 

@@ -9,12 +9,12 @@ use Rattle.cgm_trail.specs.TrailState.{IsOpenIn, TrailState, box_of, cut_trail, 
 
 pub trade_lemma-requires-clause-ready : goal.trade_lemma-requires-clause-ready
 trade_lemma-requires-clause-ready g c = λ _ _.
-    ready_raised c.args.self.now c.raise_resolved.new.self c.requires.ready c.raise_resolved.ensures.order c.raise_resolved.ensures.count
+    ready_raised c.args.self.now c.raise_resolved.new.self c.requires.ready c.raise_resolved.ensures.order c.raise_resolved.ensures.count c.raise_resolved.ensures.variables
 
 pub jump-requires-clause-ready : goal.jump-requires-clause-ready
 jump-requires-clause-ready g c =
     let raised : Search = record c.args.self.now { choice = c.raise_resolved.new.self } in
-    let ready : IsReady raised = ready_raised c.args.self.now c.raise_resolved.new.self c.requires.ready c.raise_resolved.ensures.order c.raise_resolved.ensures.count in
+    let ready : IsReady raised = ready_raised c.args.self.now c.raise_resolved.new.self c.requires.ready c.raise_resolved.ensures.order c.raise_resolved.ensures.count c.raise_resolved.ensures.variables in
     ready_traded raised c.trade_lemma.new.self ready c.trade_lemma.ensures.traded
     c.in_ok-trade_lemma.ensures.known (sym c.is_closed.ensures ∙ c.if-is_closed.false) c.in_ok-trade_lemma.ensures.longer
 

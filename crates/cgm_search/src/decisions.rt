@@ -1,7 +1,7 @@
 //! What to decide next.
 ghost use Rattle.std.specs.Prelude.{◌≡◌, ◌+◌, ◌<◌, ◌≤◌, ◌↔◌, length, IsNone, IfOk, IfSome};
 ghost use Rattle.cgm_atom.specs.Instance.{var_count};
-ghost use Rattle.cgm_search.specs.Choosing.{IsChoiceOf, IsOwnOrder};
+ghost use Rattle.cgm_search.specs.Choosing.{IsChoiceOf, IsOwnHalf, IsOwnOrder};
 ghost use Rattle.cgm_split.specs.Halving.{IsLowerHalf, IsPoint};
 ghost use Rattle.cgm_trail.specs.TrailState.{IsOpenIn, box_of};
 
@@ -40,6 +40,7 @@ impl Choice {
         requires { IsChoiceOf (length (box_of trail.now).lower) self.old }
         ensures none { IsNone result ↔ IsPoint (box_of trail.now) }
         ensures undecided { IfSome result (IsOpenIn (box_of trail.now)) }
+        ensures own { IfSome result (IsOwnHalf trail.now.restarts (box_of trail.now) self.old) }
         ensures same { self.new ≡ self.old }
     {
         let half = self.half_of(trail.restarts(), trail.state());
@@ -51,6 +52,7 @@ impl Choice {
         requires { IsChoiceOf (length state.now.lower) self.old }
         ensures none { IsNone result ↔ IsPoint state.now }
         ensures half { IfSome result (λ a. IsLowerHalf state.now a.var a) }
+        ensures own { IfSome result (IsOwnHalf restarts state.now self.old) }
         ensures same { self.new ≡ self.old }
     {
         if restarts == 0 {

@@ -8,17 +8,29 @@ use crate::flaw::{Fault, Flaw};
 use crate::run_reader::run_of;
 use crate::values::{name_of, no_content, no_text, positive_of};
 use std::alloc::Global;
+use std::mem::drop;
 
 /// The cases of a text, in their order.
 pub(crate) fn cases_of<'a>(alloc: Global, text: &'a [u8]) -> Result<Vec<Case<'a>>, Flaw> {
-    let directives = directives_of(alloc, text)?;
-    cases_in(alloc, directives.as_slice())
+    match directives_of(alloc, text) {
+        Ok(directives) => {
+            let cases = cases_in(alloc, directives.as_slice());
+            drop(directives);
+            cases
+        }
+        Err(flaw) => Err(flaw),
+    }
 }
 
 fn cases_in<'a>(alloc: Global, directives: &[Directive<'a>]) -> Result<Vec<Case<'a>>, Flaw> {
     let mut cases = Vec::new(alloc);
-    add_cases(alloc, directives, &mut cases)?;
-    Ok(cases)
+    match add_cases(alloc, directives, &mut cases) {
+        Ok(()) => Ok(cases),
+        Err(flaw) => {
+            drop(cases);
+            Err(flaw)
+        }
+    }
 }
 
 fn add_cases<'a>(
@@ -45,9 +57,31 @@ fn add_case<'a>(
 {
     let name = case_name(&directives[first], cases.as_slice())?;
     let mut steps = Vec::new(alloc);
-    let after = add_steps(alloc, directives, first + 1, &mut steps)?;
+    match add_own_steps(alloc, directives, first, &mut steps) {
+        Ok(after) => {
+            cases.push(Case { name, steps })?;
+            Ok(after)
+        }
+        Err(flaw) => {
+            drop(steps);
+            Err(flaw)
+        }
+    }
+}
+
+/// Adds the steps of the case that begins at a place, the last of which is a run. The place after
+/// them is answered.
+fn add_own_steps<'a>(
+    alloc: Global,
+    directives: &[Directive<'a>],
+    first: usize,
+    steps: &mut Vec<Step<'a>>,
+) -> Result<usize, Flaw>
+    requires { first < length directives.now }
+    ensures { IfOk result (λ after. (first < after) × (after ≤ length directives.now)) }
+{
+    let after = add_steps(alloc, directives, first + 1, steps)?;
     end_with_run(directives[first].line, steps.as_slice())?;
-    cases.push(Case { name, steps })?;
     Ok(after)
 }
 
@@ -82,7 +116,12 @@ fn end_with_run(line: u64, steps: &[Step<'_>]) -> Result<(), Flaw> {
 }
 
 fn is_taken(name: &str, cases: &[Case<'_>]) -> bool {
-    cases.iter().any(|case| case.name == name)
+    for case in cases {
+        if case.name == name {
+            return true;
+        }
+    }
+    false
 }
 
 /// Adds the steps from a place on up to the next case. The place of that case or of the end is
@@ -118,12 +157,41 @@ fn add_step<'a>(
     ensures { IfOk result (λ after. (at < after) × (after ≤ length directives.now)) }
 {
     if directives[at].keyword == Keyword::Run {
-        let (run, after) = run_of(alloc, directives, at)?;
-        steps.push(Step::Run(run))?;
-        return Ok(after);
+        return add_run(alloc, directives, at, steps);
     }
-    steps.push(lone_step(alloc, &directives[at])?)?;
-    Ok(at + 1)
+    match lone_step(alloc, &directives[at]) {
+        Ok(step) => {
+            push_step(steps, step)?;
+            Ok(at + 1)
+        }
+        Err(flaw) => Err(flaw),
+    }
+}
+
+/// Adds the run of the directive at a place. The place after what belongs to it is answered.
+fn add_run<'a>(
+    alloc: Global,
+    directives: &[Directive<'a>],
+    at: usize,
+    steps: &mut Vec<Step<'a>>,
+) -> Result<usize, Flaw>
+    requires { at < length directives.now }
+    ensures { IfOk result (λ after. (at < after) × (after ≤ length directives.now)) }
+{
+    match run_of(alloc, directives, at) {
+        Ok((run, after)) => {
+            push_step(steps, Step::Run(run))?;
+            Ok(after)
+        }
+        Err(flaw) => Err(flaw),
+    }
+}
+
+fn push_step<'a>(steps: &mut Vec<Step<'a>>, step: Step<'a>) -> Result<(), Flaw> {
+    match steps.push(step) {
+        Ok(()) => Ok(()),
+        Err(_) => Err(Flaw::Memory),
+    }
 }
 
 /// The step of a directive that stands alone.

@@ -73,7 +73,12 @@ impl Folder {
     }
 }
 
-fn add_name(alloc: Global, names: &mut Vec<String>, name: &str) -> Result<(), OutOfMemory> {
+/// Adds a copy of a name.
+pub(crate) fn add_name(
+    alloc: Global,
+    names: &mut Vec<String>,
+    name: &str,
+) -> Result<(), OutOfMemory> {
     let name = String::from_str(alloc, name)?;
     names.push(name)?;
     Ok(())

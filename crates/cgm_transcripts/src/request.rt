@@ -1,6 +1,7 @@
 //! The program's words.
 ghost use Rattle.std.specs.Prelude.{◌≤◌, length, IfOk};
 
+use crate::folder::add_name;
 use crate::stop::Stop;
 use std::alloc::Global;
 
@@ -50,8 +51,7 @@ impl Request {
         if word.starts_with("--") {
             return Err(Stop::Usage);
         }
-        let name = String::from_str(alloc, word)?;
-        self.names_of(group).push(name)?;
+        add_name(alloc, self.names_of(group), word)?;
         Ok(())
     }
 }

@@ -6,9 +6,10 @@ use crate::content::content_of;
 use crate::directive::{Directive, Keyword};
 use crate::escapes::unescape;
 use crate::flaw::{Fault, Flaw};
+use crate::folder::add_name;
 use crate::values::{name_of, no_content, no_text, number_of, text_of};
-use cgm_base::OutOfMemory;
 use std::alloc::Global;
+use std::mem::drop;
 
 /// The run of a directive `run` at this place and of those that belong to it, and the place after them.
 pub(crate) fn run_of(
@@ -65,9 +66,10 @@ fn add_parted(alloc: Global, line: u64, bytes: &[u8], words: &mut Vec<String>) -
 }
 
 fn add_word(alloc: Global, line: u64, bytes: &[u8], words: &mut Vec<String>) -> Result<(), Flaw> {
-    let word = String::from_str(alloc, text_of(line, bytes)?)?;
-    words.push(word)?;
-    Ok(())
+    match text_of(line, bytes) {
+        Ok(word) => Ok(add_name(alloc, words, word)?),
+        Err(flaw) => Err(flaw),
+    }
 }
 
 /// Adds the words of the lines `word` from a place on. The place after them is answered.
@@ -147,11 +149,14 @@ fn output_of(
     match extent_of(directive.keyword) {
         Some(extent) => {
             no_text(directive)?;
-            Ok(Output {
-                line: directive.line,
-                extent,
-                bytes: content_of(alloc, directive.content.as_slice())?,
-            })
+            match content_of(alloc, directive.content.as_slice()) {
+                Ok(bytes) => Ok(Output {
+                    line: directive.line,
+                    extent,
+                    bytes,
+                }),
+                Err(flaw) => Err(flaw),
+            }
         }
         None => Err(fault),
     }
@@ -196,14 +201,16 @@ fn file_of(alloc: Global, directive: &Directive<'_>) -> Result<Option<WantedFile
 
 fn left_file(alloc: Global, directive: &Directive<'_>) -> Result<Option<WantedFile>, Flaw> {
     let name = name_of(directive)?;
-    let bytes = content_of(alloc, directive.content.as_slice())?;
-    Ok(Some(wanted_file(alloc, directive.line, name, Some(bytes))?))
+    match content_of(alloc, directive.content.as_slice()) {
+        Ok(bytes) => wanted_file(alloc, directive.line, name, Some(bytes)),
+        Err(flaw) => Err(flaw),
+    }
 }
 
 fn missing_file(alloc: Global, directive: &Directive<'_>) -> Result<Option<WantedFile>, Flaw> {
     no_content(directive)?;
     let name = name_of(directive)?;
-    Ok(Some(wanted_file(alloc, directive.line, name, None)?))
+    wanted_file(alloc, directive.line, name, None)
 }
 
 fn wanted_file(
@@ -211,7 +218,12 @@ fn wanted_file(
     line: u64,
     name: &str,
     bytes: Option<Vec<u8>>,
-) -> Result<WantedFile, OutOfMemory> {
-    let name = String::from_str(alloc, name)?;
-    Ok(WantedFile { line, name, bytes })
+) -> Result<Option<WantedFile>, Flaw> {
+    match String::from_str(alloc, name) {
+        Ok(name) => Ok(Some(WantedFile { line, name, bytes })),
+        Err(_) => {
+            drop(bytes);
+            Err(Flaw::Memory)
+        }
+    }
 }

@@ -24,37 +24,39 @@ pub(crate) fn tell_difference(
     found: Difference<'_>,
 ) -> Result<Told, OutOfMemory> {
     match found {
-        Difference::Status => tell_status(alloc, run, ended),
-        Difference::Output => tell_output(alloc, run, ended),
-        Difference::File(file) => tell_file(alloc, file, ended.after),
-        Difference::Changed(name) => tell_changed(alloc, run.line, name),
+        Difference::Status => told_at(run.status.line, status_text(alloc, run, ended)),
+        Difference::Output => told_at(run.output.line, output_text(alloc, run, ended)),
+        Difference::File(file) => told_at(file.line, left_text(alloc, file, ended.after)),
+        Difference::Changed(name) => told_at(run.line, changed_text(alloc, name)),
     }
 }
 
-fn tell_status(alloc: Global, run: &Run, ended: &Ended<'_>) -> Result<Told, OutOfMemory> {
+/// Tells a text, where there was memory for it.
+fn told_at(line: u64, text: Result<String, OutOfMemory>) -> Result<Told, OutOfMemory> {
+    match text {
+        Ok(text) => Ok(Told { line, text }),
+        Err(stop) => Err(stop),
+    }
+}
+
+fn status_text(alloc: Global, run: &Run, ended: &Ended<'_>) -> Result<String, OutOfMemory> {
     let wanted = run.status.code;
     let came = ended.status.code();
     let mut text = format!(in alloc; "status {wanted} is wanted, came {came} with ")?;
     spell_line(&mut text, ended.printed, 0)?;
-    Ok(Told {
-        line: run.status.line,
-        text,
-    })
+    Ok(text)
 }
 
-fn tell_output(alloc: Global, run: &Run, ended: &Ended<'_>) -> Result<Told, OutOfMemory> {
-    Ok(Told {
-        line: run.output.line,
-        text: tell_bytes(alloc, "output", run.output.bytes.as_slice(), ended.printed)?,
-    })
+fn output_text(alloc: Global, run: &Run, ended: &Ended<'_>) -> Result<String, OutOfMemory> {
+    tell_bytes(alloc, "output", run.output.bytes.as_slice(), ended.printed)
 }
 
-fn tell_file(alloc: Global, file: &WantedFile, shelf: &MemShelf) -> Result<Told, OutOfMemory> {
-    let text = file_text(alloc, file, shelf.bytes(file.name.as_str()))?;
-    Ok(Told {
-        line: file.line,
-        text,
-    })
+fn left_text(alloc: Global, file: &WantedFile, shelf: &MemShelf) -> Result<String, OutOfMemory> {
+    file_text(alloc, file, shelf.bytes(file.name.as_str()))
+}
+
+fn changed_text(alloc: Global, name: &str) -> Result<String, OutOfMemory> {
+    format!(in alloc; "{name} was changed, and no word names it")
 }
 
 fn file_text(alloc: Global, file: &WantedFile, came: Option<&[u8]>) -> Result<String, OutOfMemory> {
@@ -66,11 +68,6 @@ fn file_text(alloc: Global, file: &WantedFile, came: Option<&[u8]>) -> Result<St
         },
         None => format!(in alloc; "{name} is there, and no file is wanted"),
     }
-}
-
-fn tell_changed(alloc: Global, line: u64, name: &str) -> Result<Told, OutOfMemory> {
-    let text = format!(in alloc; "{name} was changed, and no word names it")?;
-    Ok(Told { line, text })
 }
 
 /// Tells the first line in which two contents differ, as content lines have it.

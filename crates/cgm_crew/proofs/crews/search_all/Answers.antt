@@ -5,11 +5,11 @@ use Rattle.cgm_crew.specs.Crews.{AreEndsOver, plan_of}
 use Rattle.cgm_crew.proofs.Endings.{ends_over, front_of_log, others_made_none}
 use Rattle.cgm_crew.proofs.crews.search_all.Goals as goal
 
-pub end_all-requires-clause-lead : goal.end_all-requires-clause-lead
-end_all-requires-clause-lead g c = c.in_ok-lead-2.ensures.lead c.in_ok-turn.turn c.args.crew c.in_ok-lead.ensures.lead
+pub end_all-ended-requires-clause-lead : goal.end_all-ended-requires-clause-lead
+end_all-ended-requires-clause-lead g c = c.in_ok-lead-2.ensures.lead c.in_ok-turn.turn c.args.crew c.in_ok-lead.ensures.lead
 
-pub end_all-requires-clause-others : goal.end_all-requires-clause-others
-end_all-requires-clause-others g c = c.in_ok-lead-2.ensures.others c.in_ok-turn.turn c.args.crew c.in_ok-lead.ensures.others
+pub end_all-ended-requires-clause-others : goal.end_all-ended-requires-clause-others
+end_all-ended-requires-clause-others g c = c.in_ok-lead-2.ensures.others c.in_ok-turn.turn c.args.crew c.in_ok-lead.ensures.others
 
 pub returns : goal.returns
 returns g c =

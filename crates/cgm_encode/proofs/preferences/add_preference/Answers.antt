@@ -26,7 +26,7 @@ add_clause-requires c =
     let second : Clause = clause (negated u ∷ literal worse ∷ []) in
     let third : Clause = clause (literal u ∷ literal better ∷ negated worse ∷ []) in
     let same : clause (c.negated.result ∷ c.negated-2.result ∷ []) ≡ first =
-    two_is c.negated.result c.negated-2.result (negated u) (negated better) c.negated.ensures (c.negated-2.ensures ∙ ap (λ (x : ℕ). negated x) c.truth_variable-better.ensures) in
+    two_is c.negated.result c.negated-2.result (negated u) (negated better) c.negated.ensures (c.negated-2.ensures ∙ ap (λ (x : ℕ). negated x) c.truth_variable-better.ensures.variable) in
     subst (λ (added : Clause). CanTake b (added ∷ [])) (sym same)
     (first_left b b all (first ∷ []) (second ∷ third ∷ []) (left_all b all c.requires.room))
 
@@ -43,9 +43,9 @@ add_clause-requires-2 c =
     let second : Clause = clause (negated u ∷ literal worse ∷ []) in
     let third : Clause = clause (literal u ∷ literal better ∷ negated worse ∷ []) in
     let same : clause (c.negated.result ∷ c.negated-2.result ∷ []) ≡ first =
-    two_is c.negated.result c.negated-2.result (negated u) (negated better) c.negated.ensures (c.negated-2.ensures ∙ ap (λ (x : ℕ). negated x) c.truth_variable-better.ensures) in
+    two_is c.negated.result c.negated-2.result (negated u) (negated better) c.negated.ensures (c.negated-2.ensures ∙ ap (λ (x : ℕ). negated x) c.truth_variable-better.ensures.variable) in
     let next : clause (c.negated-3.result ∷ c.literal.result ∷ []) ≡ second =
-    two_is c.negated-3.result c.literal.result (negated u) (literal worse) c.negated-3.ensures (c.literal.ensures ∙ ap (λ (x : ℕ). literal x) c.truth_variable-worse.ensures) in
+    two_is c.negated-3.result c.literal.result (negated u) (literal worse) c.negated-3.ensures (c.literal.ensures ∙ ap (λ (x : ℕ). literal x) c.truth_variable-worse.ensures.variable) in
     let added = c.in_ok-add_clause.ensures ∙ ap (λ (x : Clause). with_written b (x ∷ [])) same in
     let far = left_more b b c.add_clause.new.builder all (first ∷ []) (second ∷ third ∷ []) (left_all b all c.requires.room) added in
     subst (λ (x : Clause). CanTake c.add_clause.new.builder (x ∷ [])) (sym next)
@@ -64,12 +64,12 @@ add_clause-requires-3 c =
     let second : Clause = clause (negated u ∷ literal worse ∷ []) in
     let third : Clause = clause (literal u ∷ literal better ∷ negated worse ∷ []) in
     let same : clause (c.negated.result ∷ c.negated-2.result ∷ []) ≡ first =
-    two_is c.negated.result c.negated-2.result (negated u) (negated better) c.negated.ensures (c.negated-2.ensures ∙ ap (λ (x : ℕ). negated x) c.truth_variable-better.ensures) in
+    two_is c.negated.result c.negated-2.result (negated u) (negated better) c.negated.ensures (c.negated-2.ensures ∙ ap (λ (x : ℕ). negated x) c.truth_variable-better.ensures.variable) in
     let next : clause (c.negated-3.result ∷ c.literal.result ∷ []) ≡ second =
-    two_is c.negated-3.result c.literal.result (negated u) (literal worse) c.negated-3.ensures (c.literal.ensures ∙ ap (λ (x : ℕ). literal x) c.truth_variable-worse.ensures) in
+    two_is c.negated-3.result c.literal.result (negated u) (literal worse) c.negated-3.ensures (c.literal.ensures ∙ ap (λ (x : ℕ). literal x) c.truth_variable-worse.ensures.variable) in
     let last : clause (c.literal-2.result ∷ c.literal-3.result ∷ c.negated-4.result ∷ []) ≡ third =
     three_is c.literal-2.result c.literal-3.result c.negated-4.result (literal u) (literal better) (negated worse) c.literal-2.ensures
-    (c.literal-3.ensures ∙ ap (λ (x : ℕ). literal x) c.truth_variable-better.ensures) (c.negated-4.ensures ∙ ap (λ (x : ℕ). negated x) c.truth_variable-worse.ensures) in
+    (c.literal-3.ensures ∙ ap (λ (x : ℕ). literal x) c.truth_variable-better.ensures.variable) (c.negated-4.ensures ∙ ap (λ (x : ℕ). negated x) c.truth_variable-worse.ensures.variable) in
     let added = c.in_ok-add_clause.ensures ∙ ap (λ (x : Clause). with_written b (x ∷ [])) same in
     let far = left_more b b c.add_clause.new.builder all (first ∷ []) (second ∷ third ∷ []) (left_all b all c.requires.room) added in
     let more = c.in_ok-add_clause-2.ensures ∙ ap (λ (x : Clause). with_written c.add_clause.new.builder (x ∷ [])) next in

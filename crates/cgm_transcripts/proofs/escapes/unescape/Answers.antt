@@ -1,8 +1,16 @@
 use Rattle.std.proofs.Common.{◌∙◌, ap, sym}
 use Rattle.std.specs.Prelude.{Some}
 use Rattle.cgm_transcripts.specs.Content.{bytes_followed, unescaped}
-use Rattle.cgm_transcripts.proofs.Following.{followed-after_byte, followed-end}
+use Rattle.cgm_transcripts.proofs.Following.{followed-after_byte, followed-end, followed-nothing}
 use Rattle.cgm_transcripts.proofs.escapes.unescape.Goals as goal
+
+pub loop-left-init : goal.loop-left-init
+loop-left-init c =
+    let rest = unescaped c.args.line.now in
+    sym (followed-nothing rest) ∙ ap (λ bytes. bytes_followed (Some bytes) rest) (sym c.new-bytes.ensures.items)
+
+pub loop-left-smaller : goal.loop-left-smaller
+loop-left-smaller c = c.in-Some.ensures.1
 
 pub loop-left-preserved : goal.loop-left-preserved
 loop-left-preserved c =

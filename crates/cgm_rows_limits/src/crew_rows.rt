@@ -16,6 +16,7 @@ use std::thread::Threads;
 const LOOKS: u64 = 1_000_000_000;
 
 /// Holds each of two workers before its first trade until the other is there.
+#[derive(Drop)]
 struct AtOnce {
     is_first_there: AtomicBool,
     is_second_there: AtomicBool,

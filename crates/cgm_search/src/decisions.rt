@@ -34,8 +34,8 @@ impl Choice {
         Ok(Choice { order, activity })
     }
 
-    /// The lower half of a variable that isn't fixed, or None where all are: by the first order until
-    /// the first restart, by the second after it.
+    /// The lower half of a variable that isn't fixed, or None where all are: by the first order
+    /// until the first restart, by the second after it.
     pub(crate) fn choose(&mut self, trail: &Trail) -> Option<Atom>
         requires { IsChoiceOf (length (box_of trail.now).lower) self.old }
         ensures none { IsNone result ↔ IsPoint (box_of trail.now) }
@@ -61,9 +61,9 @@ impl Choice {
         self.activity.next(state)
     }
 
-    /// Makes the variable of each change that was resolved on heavier in the order after the first restart.
-    /// The hints are those of what was learned from a conflict, in the order of the trail: those of the
-    /// changes, and then that of the conflict.
+    /// Makes the variable of each change that was resolved on heavier in the order after the first
+    /// restart. The hints are those of what was learned from a conflict, in the order of the trail:
+    /// those of the changes, and then that of the conflict.
     pub(crate) fn raise_resolved(&mut self, trail: &Trail, hints: &[Hint])
         requires { length self.old.activity.weights ≡ var_count trail.now.problem }
         ensures order { self.new.order ≡ self.old.order }

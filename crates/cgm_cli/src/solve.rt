@@ -27,8 +27,8 @@ use cgm_solve::{Answer, SolveStop};
 use cgm_trail::Work;
 use std::alloc::Global;
 
-/// Solves a model as the request asks, with what is known of an earlier realization. Writes the certificate where a file is named for it, and prints the answer, or why
-/// there is none.
+/// Solves a model as the request asks, with what is known of an earlier realization. Writes the
+/// certificate where a file is named for it, and prints the answer, or why there is none.
 pub(crate) fn solve<S: Solver, F: Shelf, O: Sink>(
     solver: &S,
     request: SolveRequest<'_>,
@@ -45,9 +45,10 @@ pub(crate) fn solve<S: Solver, F: Shelf, O: Sink>(
         (world (F.state shelf.new) (O.state out.new) work.new)
         (lists_of input.now.reading.model) input.now.reading.rule_lines.items
         input.now.earlier.pairs result }
-    ensures files { LeavesFiles (with_workers (S.workers solver.now) (solving request.entry)) (F.state shelf.old) (F.state shelf.new)
-        result }
-    ensures work { LeavesWork (with_workers (S.workers solver.now) (solving request.entry)) work.old work.new result }
+    ensures files { LeavesFiles (with_workers (S.workers solver.now) (solving request.entry))
+        (F.state shelf.old) (F.state shelf.new) result }
+    ensures work { LeavesWork (with_workers (S.workers solver.now) (solving request.entry))
+        work.old work.new result }
     ensures reads { (F.state shelf.new).read_faults ≡ (F.state shelf.old).read_faults }
 {
     let alloc = solver.alloc();
@@ -59,8 +60,8 @@ pub(crate) fn solve<S: Solver, F: Shelf, O: Sink>(
     }
 }
 
-/// Makes the report of an answer. Then writes the certificate where a file is named for it, and prints
-/// the report.
+/// Makes the report of an answer. Then writes the certificate where a file is named for it, and
+/// prints the report.
 fn deliver<F: Shelf, O: Sink>(
     alloc: Global,
     model: &Model,

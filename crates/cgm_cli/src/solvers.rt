@@ -3,7 +3,7 @@ ghost use Rattle.std.specs.Prelude.{ℕ};
 ghost use Rattle.cgm_model.specs.Model.{lists_of};
 ghost use Rattle.cgm_crew.specs.Crews.{IsCrew, plan_of};
 ghost use Rattle.cgm_solve.specs.Answers.{IsSolveAnswer};
-ghost use Rattle.cgm_cli.specs.CommandLine.{as_asked, one};
+ghost use Rattle.cgm_cli.specs.CommandLine.{as_asked, one_worker};
 
 use cgm_evolve::Earlier;
 use cgm_model::Model;
@@ -44,7 +44,7 @@ pub(crate) struct ByOne {
 }
 
 impl Solver for ByOne {
-    ghost workers = { λ _. one };
+    ghost workers = { λ _. one_worker };
 
     fn alloc(&self) -> Global {
         self.alloc

@@ -1,9 +1,11 @@
 // Passes of a turn, on one thread. Each offers a candidate, which lands in its next turn.
-ghost use Rattle.std.specs.Prelude.{◌≡◌, ◌+◌, ◌^◌, ◌<◌, ◌≤◌, IsTrue, IfOk};
+ghost use Rattle.std.specs.Prelude.{◌≡◌, ◌+◌, ◌^◌, ◌<◌, ◌≤◌, [], IsTrue, IfOk};
 ghost use Rattle.cgm_turn.specs.Passes.{IsPassOf, IsSamePass, beginner};
 
 use crate::problems::problem_of;
+use crate::verdicts::lemma;
 use cgm_atom::{Entry, MAX_WORKERS, Problem, Seq, satisfied};
+use cgm_core::is_proper;
 use cgm_log::{Batch, Fate, Log, MAX_TRADES, Traded};
 use cgm_turn::{Pass, Turn};
 use std::alloc::Global;
@@ -58,6 +60,39 @@ pub(crate) fn offer<R: Wait>(
         lemmas: Seq::of(Vec::new(alloc)),
         candidate: Some(Seq::of(Vec::from_slice(alloc, values)?)),
     };
+    match turn.trade(rt, pass, batch) {
+        Ok(traded) => Ok(traded),
+        Err(_) => Err(Fail::new("no memory")),
+    }
+}
+
+/// Trades a lemma by a pass that has seen nothing: a bound, atoms, `:` and hints. It has to be proper.
+pub(crate) fn teach<R: Wait>(
+    rt: &R,
+    alloc: Global,
+    problem: &Problem,
+    turn: &Turn,
+    pass: &mut Pass,
+    words: &str,
+) -> Result<Traded, Fail>
+    requires own { IsPassOf turn.now pass.old }
+    requires problem { turn.now.problem ≡ problem.now }
+    requires unseen { pass.old.told ≡ [] }
+    ensures own { IsPassOf turn.now pass.new }
+    ensures same { IsSamePass pass.old pass.new }
+{
+    if !may_trade(pass) {
+        return Err(Fail::new("no trade left"));
+    }
+    let by = pass.number();
+    let batch = Batch {
+        by,
+        lemmas: Seq::of(vec![in alloc; lemma(alloc, by, words)?]?),
+        candidate: None,
+    };
+    if !is_proper(alloc, problem, &[], &batch)? {
+        return Err(Fail::new("no lemma of the problem"));
+    }
     match turn.trade(rt, pass, batch) {
         Ok(traded) => Ok(traded),
         Err(_) => Err(Fail::new("no memory")),

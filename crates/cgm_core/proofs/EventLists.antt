@@ -143,8 +143,14 @@ front_accepted p log n h = accepted_parts p empty_state (take n log) (drop n log
 -- ---- the first event that isn't allowed
 
 pub illegal_next : (P : ℕ → Type 0) (s : CoreState) (e : Event) (rest : List Event) (n : ℕ) → IsAllowedEvent s e → ((k : ℕ) → IsFirstIllegal s (e ∷ rest) k → P (n + k)) → (k : ℕ) → IsFirstIllegal (after_event s e) rest k → P (n + 1 + k)
-illegal_next P s e [] n ok first k h = absurd h
-illegal_next P s e (x ∷ rest) n ok first zero h = absurd h
-illegal_next P s e (x ∷ rest) n ok first (suc k) h =
-    let same : n + suc (suc k) ≡ n + 1 + suc k = omega arith in
-    subst P same (first (suc (suc k)) (ok, h))
+illegal_next P s e rest n ok first k h =
+    let same : n + suc k ≡ n + 1 + k = omega arith in
+    subst P same (first (suc k) (record {
+      before = e ∷ h.before;
+      event = h.event;
+      others = h.others;
+      parts = ap (λ (events : List Event). e ∷ events) h.parts;
+      place_is = omega (arith, h.place_is);
+      allowed = (ok, h.allowed);
+      refused = h.refused;
+    }))

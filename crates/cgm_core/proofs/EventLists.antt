@@ -1,6 +1,6 @@
 -- What every list of events keeps.
-use Rattle.std.proofs.Common.{◌≡◌, ℕ, zero, suc, ◌+◌, ◌≤◌, ◌<◌, Bool, true, false, List, [], ◌∷◌, ◌++◌, length, refl, sym, ap, subst, ◌∙◌, append_assoc, append-nil, arith, take, drop}
-use Rattle.std.specs.Prelude.{IfSome, IsSome, IsSomeAnd, IsTrue, slice_get, slice_set, replicate, if◌then◌else◌}
+use Rattle.std.proofs.Common.{◌≡◌, ℕ, zero, suc, ◌+◌, ◌≤◌, Bool, true, false, List, [], ◌∷◌, ◌++◌, length, refl, sym, ap, subst, ◌∙◌, append_assoc, append-nil, arith, take, drop}
+use Rattle.std.specs.Prelude.{IfSome, IsSomeAnd, slice_get, slice_set, replicate, if◌then◌else◌}
 use Rattle.std.specs.declared.option.Option.{Option}
 use Rattle.std.specs.declared.option.Option.TheVariants.{Some, None}
 use Rattle.std.specs.Option.{option_flatten}
@@ -8,7 +8,7 @@ use Rattle.std.proofs.lemmas.List.{length-append, take-append-drop}
 use Rattle.cgm_atom.specs.declared.entries.Entry.{Entry}
 use Rattle.cgm_atom.specs.Acceptance.{IsAccepted, IsAcceptedAfter}
 use Rattle.cgm_atom.specs.Instance.{Instance}
-use Rattle.cgm_atom.specs.Limits.{IsWellFormedProblem, max_workers}
+use Rattle.cgm_atom.specs.Limits.{max_workers}
 use Rattle.cgm_atom.specs.LogState.{LogState, empty_state, state_of, state_with}
 use Rattle.cgm_atom.proofs.Solving.{bests_are_solutions}
 use Rattle.cgm_atom.proofs.Entailing.{lemmas_follow}
@@ -22,7 +22,7 @@ use Rattle.cgm_atom.specs.Placing.{all_placed}
 use Rattle.cgm_log.specs.declared.events.Event.{Event}
 use Rattle.cgm_log.specs.declared.events.Event.TheVariants.{Enter, Trade, Look, Leave}
 use Rattle.cgm_log.specs.Events.{AreAllowedEvents, AreFronts, CoreState, IsAllowedEvent, IsFirstIllegal, after_event, after_events, begin, seen_by}
-use Rattle.cgm_core.specs.Laws.{EventsKeepLogs, IsHistory, LogsGrow}
+use Rattle.cgm_core.specs.Laws.{EventsKeepLogs, LogsGrow}
 
 -- ---- a trade
 

@@ -1,4 +1,4 @@
-use Rattle.std.proofs.Common.{◌≡◌, ℕ, ◌+◌, ◌∙◌, refl, sym, ap, subst, arith, List, [], ◌∷◌}
+use Rattle.std.proofs.Common.{◌≡◌, ℕ, ◌+◌, ◌∙◌, refl, sym, ap, subst, List, [], ◌∷◌}
 use Rattle.cgm_log.specs.declared.events.Event.{Event}
 use Rattle.cgm_log.specs.Events.{AreAllowedEvents, CoreState, IsAllowedEvent, IsFirstIllegal, after_event, after_events, begin}
 use Rattle.cgm_core.proofs.EventLists.{illegal_next}

@@ -1,6 +1,6 @@
 -- What every list of events keeps.
-use Rattle.std.proofs.Common.{◌≡◌, ℕ, zero, suc, ◌+◌, ◌≤◌, ◌<◌, Bool, true, false, List, [], ◌∷◌, ◌++◌, length, refl, sym, ap, subst, ◌∙◌, append_assoc, append-nil, arith, take, drop}
-use Rattle.std.specs.Prelude.{IfSome, IsSome, IsSomeAnd, IsTrue, slice_get, slice_set, replicate, if◌then◌else◌}
+use Rattle.std.proofs.Common.{◌≡◌, ℕ, zero, suc, ◌+◌, ◌≤◌, Bool, true, false, List, [], ◌∷◌, ◌++◌, length, refl, sym, ap, subst, ◌∙◌, append_assoc, append-nil, arith, take, drop}
+use Rattle.std.specs.Prelude.{IfSome, IsSomeAnd, slice_get, slice_set, replicate, if◌then◌else◌}
 use Rattle.std.specs.declared.option.Option.{Option}
 use Rattle.std.specs.declared.option.Option.TheVariants.{Some, None}
 use Rattle.std.specs.Option.{option_flatten}
@@ -8,7 +8,7 @@ use Rattle.std.proofs.lemmas.List.{length-append, take-append-drop}
 use Rattle.cgm_atom.specs.declared.entries.Entry.{Entry}
 use Rattle.cgm_atom.specs.Acceptance.{IsAccepted, IsAcceptedAfter}
 use Rattle.cgm_atom.specs.Instance.{Instance}
-use Rattle.cgm_atom.specs.Limits.{IsWellFormedProblem, max_workers}
+use Rattle.cgm_atom.specs.Limits.{max_workers}
 use Rattle.cgm_atom.specs.LogState.{LogState, empty_state, state_of, state_with}
 use Rattle.cgm_atom.proofs.Solving.{bests_are_solutions}
 use Rattle.cgm_atom.proofs.Entailing.{lemmas_follow}
@@ -22,7 +22,7 @@ use Rattle.cgm_atom.specs.Placing.{all_placed}
 use Rattle.cgm_log.specs.declared.events.Event.{Event}
 use Rattle.cgm_log.specs.declared.events.Event.TheVariants.{Enter, Trade, Look, Leave}
 use Rattle.cgm_log.specs.Events.{AreAllowedEvents, AreFronts, CoreState, IsAllowedEvent, IsFirstIllegal, after_event, after_events, begin, seen_by}
-use Rattle.cgm_core.specs.Laws.{EventsKeepLogs, IsHistory, LogsGrow}
+use Rattle.cgm_core.specs.Laws.{EventsKeepLogs, LogsGrow}
 
 -- ---- a trade
 
@@ -143,8 +143,14 @@ front_accepted p log n h = accepted_parts p empty_state (take n log) (drop n log
 -- ---- the first event that isn't allowed
 
 pub illegal_next : (P : ℕ → Type 0) (s : CoreState) (e : Event) (rest : List Event) (n : ℕ) → IsAllowedEvent s e → ((k : ℕ) → IsFirstIllegal s (e ∷ rest) k → P (n + k)) → (k : ℕ) → IsFirstIllegal (after_event s e) rest k → P (n + 1 + k)
-illegal_next P s e [] n ok first k h = absurd h
-illegal_next P s e (x ∷ rest) n ok first zero h = absurd h
-illegal_next P s e (x ∷ rest) n ok first (suc k) h =
-    let same : n + suc (suc k) ≡ n + 1 + suc k = omega arith in
-    subst P same (first (suc (suc k)) (ok, h))
+illegal_next P s e rest n ok first k h =
+    let same : n + suc k ≡ n + 1 + k = omega arith in
+    subst P same (first (suc k) (record {
+      before = e ∷ h.before;
+      event = h.event;
+      others = h.others;
+      parts = ap (λ (events : List Event). e ∷ events) h.parts;
+      place_is = omega (arith, h.place_is);
+      allowed = (ok, h.allowed);
+      refused = h.refused;
+    }))

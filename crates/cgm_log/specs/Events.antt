@@ -1,5 +1,5 @@
 -- The events of a search: a log, for each worker that is in how many of its entries that worker has seen, and what each act of a worker does to them.
-use Rattle.std.specs.Prelude.{◌≡◌, ℕ, zero, suc, ◌<◌, ◌≤◌, List, [], ◌∷◌, length, slice_get, slice_set, replicate, take, IfSome, IsSomeAnd, IsSome, Option, Some, None}
+use Rattle.std.specs.Prelude.{◌≡◌, ℕ, ◌+◌, ◌<◌, ◌≤◌, List, [], ◌∷◌, ◌++◌, length, slice_get, slice_set, replicate, take, IfSome, IsSomeAnd, IsSome, Option, Some, None}
 use Rattle.std.specs.Option.{option_flatten}
 use Rattle.cgm_atom.specs.declared.entries.Entry.{Entry}
 use Rattle.cgm_atom.specs.Instance.{Instance}
@@ -52,12 +52,15 @@ abbrev pub after_events : CoreState → List Event → CoreState
 after_events s [] = s
 after_events s (e ∷ events) = after_events (after_event s e) events
 
--- the event at this place, from 1, is the first that isn't allowed
-abbrev pub IsFirstIllegal : CoreState → List Event → ℕ → Type 0
-IsFirstIllegal s [] place = ⊥
-IsFirstIllegal s (e ∷ events) zero = ⊥
-IsFirstIllegal s (e ∷ events) (suc zero) = ¬ IsAllowedEvent s e
-IsFirstIllegal s (e ∷ events) (suc (suc i)) = IsAllowedEvent s e × IsFirstIllegal (after_event s e) events (suc i)
+-- the event at this place, from 1, is the first that isn't allowed: those before it are, and after them it isn't
+pub record IsFirstIllegal (s : CoreState) (events : List Event) (place : ℕ) : Type 0 where
+  pub before : List Event
+  pub event : Event
+  pub others : List Event
+  pub parts : events ≡ before ++ event ∷ others
+  pub place_is : place ≡ length before + 1
+  pub allowed : AreAllowedEvents s before
+  pub refused : ¬ IsAllowedEvent (after_events s before) event
 
 -- ---- what holds after them
 

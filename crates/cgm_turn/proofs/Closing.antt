@@ -1,6 +1,6 @@
 -- Where all others were joined to the first pass, and it is at rest, the log is at home, and each pass's entries are what it landed.
-use Rattle.std.proofs.Common.{◌≡◌, ℕ, zero, suc, ◌+◌, ◌≤◌, ◌<◌, ◌≢◌, Bool, true, false, cond, eqb, eq-eqb, ne_eqb, List, [], ◌∷◌, length, refl, sym, ap, subst, ◌∙◌, arith}
-use Rattle.std.specs.Prelude.{IfSome, IsSome, if◌then◌else◌, slice_index, ◌==◌}
+use Rattle.std.proofs.Common.{◌≡◌, ℕ, zero, suc, ◌≤◌, ◌<◌, ◌≢◌, Bool, true, false, eq-eqb, ne_eqb, List, [], ◌∷◌, length, refl, sym, ap, subst, ◌∙◌, arith}
+use Rattle.std.specs.Prelude.{IfSome, IsSome, if◌then◌else◌, ◌==◌}
 use Rattle.std.specs.Option.{option_map_or}
 use Rattle.std.specs.declared.option.Option.{Option}
 use Rattle.std.specs.declared.option.Option.TheVariants.{Some, None}
@@ -11,16 +11,14 @@ use native.Mathlib.Decide.{ℕ_discrete, dec_le}
 use lib.ListN.{get_elem?}
 use Rattle.std.proofs.Math.Nat.{lt_of_not-le}
 use Rattle.std.proofs.lemmas.Bool.{false≢true}
-use Rattle.atomic_table.specs.Table.{State}
-use Rattle.cgm_atom.specs.declared.entries.Entry.{Entry}
 use Rattle.cgm_log.specs.LogBook.{LogBook}
 use Rattle.cgm_turn.specs.declared.views.Joined.{Joined}
 use Rattle.cgm_turn.specs.declared.views.View.{View}
 use Rattle.cgm_turn.specs.Entries.{AreOfLog, BeginsWith, made_by}
-use Rattle.cgm_turn.specs.Rule.{IsAccountOf, IsLive, IsServed, IsSpent, IsTurnTable, KnowsTurn, BySpent, NoneHolds, living, total_of}
-use Rattle.cgm_turn.specs.Views.{IsLogAtEnd, account_with, landed_by, landed_of}
+use Rattle.cgm_turn.specs.Rule.{IsAccountOf, IsLive, IsServed, IsSpent, BySpent, NoneHolds, living, total_of}
+use Rattle.cgm_turn.specs.Views.{IsLogAtEnd, account_with, landed_of}
 use Rattle.cgm_turn.proofs.Keeping.{live_if, rests}
-use Rattle.cgm_turn.proofs.Ledgers.{terms_le, within}
+use Rattle.cgm_turn.proofs.Ledgers.{terms_le}
 
 there : {A : Type 0} (l : List A) (i : ℕ) → i < length l → (a : A) × (get_elem? l i ≡ some a)
 there [] i h = absurd (omega arith)

@@ -1,6 +1,6 @@
 -- Drawing a ticket keeps the rule.
-use Rattle.std.proofs.Common.{◌≡◌, ℕ, zero, suc, ◌+◌, ◌-◌, ◌*◌, ◌%◌, ◌^◌, ◌≤◌, ◌<◌, ◌≢◌, Bool, true, false, List, [], ◌∷◌, ◌++◌, length, set, get_or, refl, sym, ap, subst, ◌∙◌, arith, length-set, get_or-set_same, length-append, eq-eqb, ne_eqb}
-use Rattle.std.specs.Prelude.{IfSome, IsSome, slice_index, slice_set, if◌then◌else◌, nat_le, ◌==◌}
+use Rattle.std.proofs.Common.{◌≡◌, ℕ, ◌+◌, ◌*◌, ◌%◌, ◌^◌, ◌≤◌, ◌<◌, Bool, true, false, List, [], set, refl, sym, ap, subst, ◌∙◌, arith, length-set, get_or-set_same}
+use Rattle.std.specs.Prelude.{IfSome, slice_index, slice_set}
 use Rattle.std.specs.declared.option.Option.{Option}
 use Rattle.std.specs.declared.option.Option.TheVariants.{Some, None}
 use mathlib.Core.Option.{some, some-injective}
@@ -8,20 +8,18 @@ use mathlib.Core.Option as option
 use mathlib.Core.Logic.{dite}
 use native.Mathlib.Decide.{ℕ_discrete}
 use lib.ListN.{get_elem?}
-use Rattle.std.proofs.lemmas.List.{get_or-set_other, length_push}
+use Rattle.std.proofs.lemmas.List.{get_or-set_other}
 use Rattle.std.proofs.Math.Nat.{mod-eq_of_lt}
-use Rattle.atomic_table.specs.Table.{Allows, Joins, Splits, State, keeps, step}
-use Rattle.atomic_table.proofs.Lists.{at_longer, set_else, set_here}
+use Rattle.atomic_table.specs.Table.{Allows, keeps, step}
+use Rattle.atomic_table.proofs.Lists.{set_else}
 use Rattle.cgm_atom.specs.declared.entries.Entry.{Entry}
 use Rattle.cgm_log.specs.LogBook.{LogBook}
 use Rattle.cgm_turn.specs.declared.views.Joined.{Joined}
 use Rattle.cgm_turn.specs.declared.views.View.{View}
-use Rattle.cgm_turn.specs.Entries.{BeginsWith, made_by}
-use Rattle.cgm_turn.specs.Plays.{Draws, account, drawing, joining, longer, spent_view, split_off, splitting}
-use Rattle.cgm_turn.specs.Rule.{AreTicketsApart, IsAccountOf, IsAway, IsLive, AreTradesCounted, IsServed, IsSpent, IsTurnTable, KnowsTurn, BySpent, Leads, NoneHolds, trades_of, count_ticket, living, tickets_of, total_of, members_of}
-use Rattle.cgm_turn.specs.Views.{account_with}
-use Rattle.cgm_turn.proofs.Keeping.{apart_new, apart_same, apart_without, bound_of, known_live, leads_kept, live_if, rests}
-use Rattle.cgm_turn.proofs.Ledgers.{each_after, each_more, terms_le, total-more, total-same, total-set, within}
+use Rattle.cgm_turn.specs.Plays.{Draws, drawing}
+use Rattle.cgm_turn.specs.Rule.{IsAway, IsLive, IsServed, IsSpent, IsTurnTable, KnowsTurn, BySpent, trades_of, count_ticket, living, tickets_of, members_of}
+use Rattle.cgm_turn.proofs.Keeping.{apart_new, bound_of, known_live, leads_kept, live_if, rests}
+use Rattle.cgm_turn.proofs.Ledgers.{each_after, total-same, total-set}
 
 later_next : (o : Option ℕ) (serving next : ℕ) → IfSome o (λ t. (serving ≤ t) × (t < next)) → IfSome o (λ t. (serving ≤ t) × (t < next + 1))
 later_next None serving next h = tt

@@ -1,12 +1,10 @@
 -- The step by which a pass puts the log back and passes the turn on keeps the rule.
-use Rattle.std.proofs.Common.{◌≡◌, ℕ, zero, suc, ◌+◌, ◌*◌, ◌%◌, ◌^◌, ◌≤◌, ◌<◌, ◌≢◌, Bool, true, false, List, [], ◌∷◌, ◌++◌, length, set, drop, get_or, refl, sym, ap, subst, ◌∙◌, arith, length-set, get_or-set_same, append-nil}
-use Rattle.std.specs.Prelude.{IfSome, IsSome, slice_index, slice_set}
+use Rattle.std.proofs.Common.{◌≡◌, ℕ, ◌+◌, ◌%◌, ◌^◌, ◌≤◌, ◌<◌, ◌≢◌, List, [], ◌∷◌, ◌++◌, set, drop, refl, sym, ap, subst, ◌∙◌, arith, length-set, get_or-set_same, append-nil}
+use Rattle.std.specs.Prelude.{slice_index, slice_set}
 use Rattle.std.specs.declared.option.Option.{Option}
 use Rattle.std.specs.declared.option.Option.TheVariants.{Some, None}
 use mathlib.Core.Option.{some, some-injective}
 use mathlib.Core.Option as option
-use mathlib.Core.Logic.{dite}
-use native.Mathlib.Decide.{ℕ_discrete}
 use lib.ListN.{get_elem?}
 use Rattle.std.specs.List.{All}
 use Rattle.std.proofs.lemmas.List.Elements.{All-nil}
@@ -14,15 +12,15 @@ use Rattle.std.proofs.lemmas.List.{get_or-set_other}
 use Rattle.std.proofs.Math.Nat.{mod-eq_of_lt}
 use Rattle.std.proofs.Math.Seq.{drop-append_seam}
 use Rattle.atomic_table.specs.Table.{Allows, State, gives, step, stepped}
-use Rattle.atomic_table.proofs.Lists.{at_set, set_else, set_here}
+use Rattle.atomic_table.proofs.Lists.{set_here}
 use Rattle.cgm_atom.specs.declared.entries.Entry.{Entry}
 use Rattle.cgm_atom.specs.Acceptance.{IsAccepted}
 use Rattle.cgm_log.specs.LogBook.{LogBook}
 use Rattle.cgm_turn.specs.declared.views.Joined.{Joined}
 use Rattle.cgm_turn.specs.declared.views.View.{View}
 use Rattle.cgm_turn.specs.Entries.{AreOfLog, BeginsWith, made_by, maker}
-use Rattle.cgm_turn.specs.Plays.{HandsBack, HandsOn, count_held, gone_home, handed_back, handed_on, put_back}
-use Rattle.cgm_turn.specs.Rule.{AreTicketsApart, IsAccountOf, IsAway, IsLive, AreTradesCounted, IsServed, IsSpent, IsTurnTable, KnowsTurn, BySpent, Leads, NoneHolds, trades_of, count_ticket, living, tickets_of, total_of, members_of}
+use Rattle.cgm_turn.specs.Plays.{HandsBack, HandsOn, count_held, handed_back, handed_on, put_back}
+use Rattle.cgm_turn.specs.Rule.{IsAway, IsLive, IsServed, IsTurnTable, KnowsTurn, count_ticket, living, tickets_of}
 use Rattle.cgm_turn.specs.Views.{account_with}
 use Rattle.cgm_turn.proofs.Keeping.{accounts_on, apart_without, at_some, bound_of, known_again, leads_kept, held_none, live_if_held, other_holds_none, other_knows, counted_kept}
 use Rattle.cgm_turn.proofs.Ledgers.{begins_longer, begins_self, each_after, others_add_none, own_add_all, total-same, total-set, within}

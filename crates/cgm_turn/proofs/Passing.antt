@@ -1,9 +1,8 @@
 -- A trade, as the pass sees it.
-use Rattle.std.proofs.Common.{◌≡◌, ℕ, ◌+◌, ◌≤◌, List, [], ◌∷◌, ◌++◌, length, take, drop, refl, sym, ap, subst, ◌∙◌, arith, append-nil}
-use Rattle.std.specs.Prelude.{IfOk, IfErr, OnOk, OnErr, Result, Ok, Err}
+use Rattle.std.proofs.Common.{◌≡◌, ℕ, List, ◌++◌, length, drop, refl, sym, ap, subst, ◌∙◌}
+use Rattle.std.specs.Prelude.{Result, Ok, Err}
 use Rattle.std.specs.declared.option.Option.{Option}
-use Rattle.std.specs.declared.option.Option.TheVariants.{Some, None}
-use Rattle.std.proofs.lemmas.List.{drop_all, take-append-drop, take-append-le, take_all}
+use Rattle.std.specs.declared.option.Option.TheVariants.{Some}
 use Rattle.std.proofs.Math.Seq.{drop-append_seam}
 use Rattle.atomic_table.specs.Seated.{TableId}
 use Rattle.atomic_table.specs.Table.{Me}
@@ -17,7 +16,7 @@ use Rattle.cgm_log.specs.LogBook.{LogBook}
 use Rattle.cgm_log.specs.Trading.{IsAnswer, news_of}
 use Rattle.cgm_turn.specs.declared.views.View.{View}
 use Rattle.cgm_turn.specs.Passes.{IsSamePass, IsTradeOf, PassState}
-use Rattle.cgm_turn.specs.Plays.{IsFoundBy, count_held, drawing, handed_on, holding, put_back}
+use Rattle.cgm_turn.specs.Plays.{IsFoundBy, drawing, holding, put_back}
 use Rattle.cgm_turn.specs.Turns.{IsInTurn, IsTurnTaken, TurnCame}
 
 abbrev pub state_at : TableId → View → PassState

@@ -1,10 +1,9 @@
 -- What a pass learns in its turn.
-use Rattle.std.proofs.Common.{◌≡◌, ℕ, zero, suc, ◌+◌, ◌^◌, ◌<◌, ◌≤◌, ◌≢◌, Bool, true, false, List, [], ◌∷◌, ◌++◌, length, take, drop, refl, sym, ap, subst, ◌∙◌, arith, length-append, append-nil}
-use Rattle.std.specs.Prelude.{ℤ, IfOk, IfErr, OnOk, OnErr, Result, Ok, Err, if◌then◌else◌}
+use Rattle.std.proofs.Common.{◌≡◌, ℕ, ◌^◌, ◌<◌, ◌≤◌, ◌≢◌, Bool, true, false, List, [], ◌∷◌, length, take, refl, sym, ap, subst, ◌∙◌, arith, length-append}
+use Rattle.std.specs.Prelude.{ℤ, if◌then◌else◌}
 use Rattle.std.specs.declared.option.Option.{Option}
 use Rattle.std.specs.declared.option.Option.TheVariants.{Some, None}
 use Rattle.std.specs.List.{All}
-use Rattle.std.proofs.lemmas.List.{take-append-le}
 use Rattle.std.proofs.lemmas.List.Elements.{All-append, All-cons, All-head, All-nil, All-tail}
 use Rattle.std.proofs.Math.Seq.{take-append_seam}
 use Rattle.atomic_table.specs.Table.{Me, Step}
@@ -17,13 +16,11 @@ use Rattle.cgm_atom.specs.Placing.{all_placed}
 use Rattle.cgm_log.specs.declared.batches.Batch.{Batch}
 use Rattle.cgm_log.specs.declared.batches.Fate.{Fate}
 use Rattle.cgm_log.specs.declared.batches.Fate.TheVariants.{Behind, Kept}
-use Rattle.cgm_log.specs.declared.batches.Refund.{Refund}
-use Rattle.cgm_log.specs.declared.batches.Traded.{Traded}
 use Rattle.cgm_log.specs.Landing.{IsLemmaOf, IsProperBatch, fate_after, kept_candidate, kept_entry, landed, with_landed}
 use Rattle.cgm_log.specs.LogBook.{LogBook}
 use Rattle.cgm_turn.specs.declared.views.View.{View}
-use Rattle.cgm_turn.specs.Entries.{BeginsWith, maker}
-use Rattle.cgm_turn.specs.Plays.{TurnComes, TurnComesAt, IsFoundBy, holding, put_back}
+use Rattle.cgm_turn.specs.Entries.{maker}
+use Rattle.cgm_turn.specs.Plays.{TurnComesAt, IsFoundBy, holding, put_back}
 use Rattle.cgm_turn.specs.Turns.{IsInTurn, IsRested, TurnCame}
 use Rattle.cgm_turn.specs.Views.{HasTurn}
 

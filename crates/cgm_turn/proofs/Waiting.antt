@@ -1,6 +1,6 @@
 -- A look at the ticket that is served keeps the rule: whose turn it is takes the log.
-use Rattle.std.proofs.Common.{◌≡◌, ℕ, zero, suc, ◌+◌, ◌*◌, ◌^◌, ◌≤◌, ◌<◌, ◌≢◌, Bool, true, false, List, [], ◌∷◌, length, set, get_or, refl, sym, ap, subst, ◌∙◌, arith, length-set, get_or-set_same}
-use Rattle.std.specs.Prelude.{IfSome, IsSome, slice_index, slice_set}
+use Rattle.std.proofs.Common.{◌≡◌, ℕ, ◌+◌, List, [], length, set, refl, sym, ap, subst, ◌∙◌, arith, length-set}
+use Rattle.std.specs.Prelude.{slice_index, slice_set}
 use Rattle.std.specs.declared.option.Option.{Option}
 use Rattle.std.specs.declared.option.Option.TheVariants.{Some, None}
 use mathlib.Core.Option.{some, some-injective}
@@ -9,17 +9,14 @@ use mathlib.Core.Logic.{dite}
 use native.Mathlib.Decide.{ℕ_discrete}
 use lib.ListN.{get_elem?}
 use Rattle.std.proofs.lemmas.List.{set-get_or}
-use Rattle.atomic_table.specs.Table.{Act, Allows, Me, State, keeps, step, Valid, carried_after, stepped, takes}
+use Rattle.atomic_table.specs.Table.{Act, Allows, State, keeps, step, Valid, carried_after, stepped, takes}
 use Rattle.atomic_table.proofs.Lists.{set_again, set_here}
-use Rattle.cgm_atom.specs.declared.entries.Entry.{Entry}
 use Rattle.cgm_log.specs.LogBook.{LogBook}
-use Rattle.cgm_turn.specs.declared.views.Joined.{Joined}
 use Rattle.cgm_turn.specs.declared.views.View.{View}
 use Rattle.cgm_turn.specs.Entries.{made_by}
-use Rattle.cgm_turn.specs.Plays.{TurnComes, TurnComesAt, IsFoundBy, Waits, holding}
-use Rattle.cgm_turn.specs.Rule.{AreTicketsApart, IsLive, IsServed, IsSpent, IsTurnTable, KnowsTurn, BySpent, NoneHolds, living, tickets_of}
-use Rattle.cgm_turn.specs.Views.{account_with}
-use Rattle.cgm_turn.proofs.Keeping.{apart_same, at_some, known_with_ticket, leads_kept, live_if_ticket, other_holds_none, counted_kept}
+use Rattle.cgm_turn.specs.Plays.{TurnComes, holding}
+use Rattle.cgm_turn.specs.Rule.{IsServed, IsTurnTable, KnowsTurn, NoneHolds, living, tickets_of}
+use Rattle.cgm_turn.proofs.Keeping.{apart_same, known_with_ticket, leads_kept, live_if_ticket, other_holds_none, counted_kept}
 use Rattle.cgm_turn.proofs.Ledgers.{each_after, total-same, within}
 
 none_holds : (serving next : ℕ) (homes : List (option.Option (Option LogBook))) (views : List View) (id : ℕ) (v : View) → IsServed serving next homes views → get_elem? views id ≡ some v → v.ticket ≡ Some serving → v.held ≡ None → NoneHolds views

@@ -1,4 +1,4 @@
-use Rattle.std.proofs.Common.{◌≡◌, ℕ, ◌+◌, ◌∙◌, sym, ap, subst, arith, List, ◌∷◌}
+use Rattle.std.proofs.Common.{◌≡◌, ℕ, ◌+◌, ◌∙◌, refl, sym, ap, subst, List, [], ◌∷◌}
 use Rattle.cgm_log.specs.declared.events.Event.{Event}
 use Rattle.cgm_log.specs.Events.{AreAllowedEvents, CoreState, IsAllowedEvent, IsFirstIllegal, after_event, after_events, begin}
 use Rattle.cgm_core.proofs.EventLists.{illegal_next}
@@ -30,4 +30,12 @@ returns-in-Err-Illegal-clause-err c =
     let steps = c.in-Some.ensures.steps in
     let stop : ¬ IsAllowedEvent s e = (rw c.in-Err-Illegal.field-0-is at c.in-Err-Illegal.ensures.err).1 in
     subst (λ (n : ℕ). IsFirstIllegal (begin c.args.problem) c.args.events.items (n + 1)) (sym steps.1)
-    (c.loop-i.invariant.first 1 (subst (λ (es : List Event). IsFirstIllegal s es 1) (sym steps.0.0) stop))
+    (c.loop-i.invariant.first 1 (record {
+      before = [];
+      event = e;
+      others = c.next.new.self.iter.rest.items;
+      parts = steps.0.0;
+      place_is = refl;
+      allowed = tt;
+      refused = stop;
+    }))

@@ -1,4 +1,4 @@
-use Rattle.std.proofs.Common.{rules, arith, ◌≡◌, ℕ, [], ap, subst, sym, ◌∙◌}
+use Rattle.std.proofs.Common.{rules, arith, ◌≡◌, ℕ, [], ap, subst, sym}
 use Rattle.std.specs.declared.option.Option.{Option}
 use mathlib.Core.Option as option
 use Rattle.atomic_table.specs.Table.{Allows, Me, step}
@@ -6,7 +6,7 @@ use Rattle.cgm_log.specs.LogBook.{LogBook}
 use Rattle.cgm_turn.specs.declared.views.View.{View}
 use Rattle.cgm_turn.specs.Plays.{TurnComesAt, Waits}
 use Rattle.cgm_turn.specs.Rule.{IsTurnTable}
-use Rattle.cgm_turn.proofs.Turning.{come_now, not_yet}
+use Rattle.cgm_turn.proofs.Turning.{come_now}
 use Rattle.cgm_turn.proofs.Waiting.{waits}
 use Rattle.cgm_turn.proofs.moves.is_served.Goals as goal
 

@@ -1,4 +1,4 @@
-use Rattle.std.proofs.Common.{◌≡◌, ap, sym, ◌∙◌, ◌∷◌}
+use Rattle.std.proofs.Common.{ap, sym, ◌∙◌, ◌∷◌}
 use Rattle.std.specs.declared.option.Option.TheVariants.{Some}
 use Rattle.atomic_table.specs.Table.{rest}
 use Rattle.cgm_turn.proofs.moves.take_out.Goals as goal

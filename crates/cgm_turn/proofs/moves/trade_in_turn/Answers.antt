@@ -1,13 +1,12 @@
-use Rattle.std.proofs.Common.{◌≡◌, ℕ, List, [], ◌∷◌, ◌++◌, ◌<◌, ◌^◌, drop, length, ap, subst, sym, ◌∙◌, arith}
+use Rattle.std.proofs.Common.{◌≡◌, ℕ, [], ◌∷◌, ◌++◌, drop, ap, subst, sym, ◌∙◌, arith}
 use Rattle.std.specs.declared.option.Option.{Option}
-use Rattle.std.specs.declared.option.Option.TheVariants.{Some, None}
+use Rattle.std.specs.declared.option.Option.TheVariants.{None}
 use Rattle.atomic_table.specs.Table.{Me}
-use Rattle.cgm_atom.specs.declared.entries.Entry.{Entry}
 use Rattle.cgm_atom.specs.Instance.{Instance}
 use Rattle.cgm_atom.specs.Acceptance.{IsAccepted}
 use Rattle.cgm_log.specs.LogBook.{LogBook}
 use Rattle.cgm_turn.specs.declared.views.View.{View}
-use Rattle.cgm_turn.specs.Plays.{IsFoundBy, count_held, handed_back, handed_on}
+use Rattle.cgm_turn.specs.Plays.{count_held, handed_back, handed_on}
 use Rattle.cgm_turn.specs.Views.{HasTurn, HasTurnUnused}
 use Rattle.cgm_turn.proofs.Turning.{found_out, has_turn, proper_found, rested, seen_within}
 use Rattle.cgm_turn.proofs.moves.trade_in_turn.Goals as goal

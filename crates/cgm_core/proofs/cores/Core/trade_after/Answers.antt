@@ -1,9 +1,8 @@
-use Rattle.std.proofs.Common.{◌≡◌, List, ◌++◌, length, take, subst, sym, ap, ◌∙◌, arith}
+use Rattle.std.proofs.Common.{◌≡◌, List, length, ap, ◌∙◌, arith}
 use Rattle.std.specs.declared.option.Option.TheVariants.{Some}
 use Rattle.std.proofs.lemmas.List.{length-set, length-append}
 use Rattle.cgm_atom.specs.declared.entries.Entry.{Entry}
-use Rattle.cgm_atom.specs.Acceptance.{IsAccepted}
-use Rattle.cgm_log.specs.Landing.{landed, with_landed}
+use Rattle.cgm_log.specs.Landing.{landed}
 use Rattle.cgm_core.specs.CoreParts.{core_state}
 use Rattle.cgm_core.proofs.EventLists.{front_accepted, fronts_set}
 use Rattle.cgm_core.proofs.cores.Core.trade_after.Goals as goal

@@ -1,6 +1,5 @@
-use Rattle.std.proofs.Common.{◌≡◌, ℕ, sym, subst}
+use Rattle.std.proofs.Common.{◌≡◌, sym, subst}
 use Rattle.cgm_log.specs.LogBook.{LogBook}
-use Rattle.cgm_turn.specs.declared.views.View.{View}
 use Rattle.cgm_turn.specs.PassParts.{view_of}
 use Rattle.cgm_turn.specs.Passes.{IsLogAtClose, PassState}
 use Rattle.cgm_turn.proofs.Ending.{end_of_pass, final_log, taken_log}

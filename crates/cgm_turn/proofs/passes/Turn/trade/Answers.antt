@@ -1,9 +1,9 @@
-use Rattle.std.proofs.Common.{◌≡◌, ◌∙◌, sym, subst, ap, [], ◌∷◌}
+use Rattle.std.proofs.Common.{◌∙◌, subst}
 use Rattle.std.specs.declared.option.Option.{Option}
 use Rattle.atomic_table.specs.Table.{Me}
 use Rattle.cgm_log.specs.LogBook.{LogBook}
 use Rattle.cgm_turn.specs.declared.views.View.{View}
-use Rattle.cgm_turn.specs.PassParts.{pass_state, view_of}
+use Rattle.cgm_turn.specs.PassParts.{view_of}
 use Rattle.cgm_turn.specs.Passes.{IsTradeOf, PassState}
 use Rattle.cgm_turn.specs.Plays.{drawing}
 use Rattle.cgm_turn.specs.Turns.{TurnCame}

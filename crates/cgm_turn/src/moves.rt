@@ -19,6 +19,9 @@ pub(crate) type Board = Shared<Option<Log>, View, Snapshot<Log>, Served>;
 
 pub(crate) type Place = Seat<Option<Log>, View>;
 
+/// How often a pass looks whether it is its turn before it sleeps.
+const LOOKS: u32 = 64;
+
 /// The next ticket is drawn.
 struct Draw;
 
@@ -90,7 +93,8 @@ pub(crate) fn draw_ticket(board: &Board, seat: &mut Place) -> u64
     board.fetch_add::<Draw>(seat, 1, 1)
 }
 
-/// Waits until the ticket is served, and takes the log's slot.
+/// Waits until the ticket is served, and takes the log's slot: looks `LOOKS` times, then sleeps between
+/// two looks.
 pub(crate) fn wait<R: Wait>(rt: &R, board: &Board, seat: &mut Place, ticket: u64)
     requires own { seat.old.table_id ≡ board.now.table_id }
     requires sized { HasTurnSize board.now.table_id }
@@ -99,13 +103,30 @@ pub(crate) fn wait<R: Wait>(rt: &R, board: &Board, seat: &mut Place, ticket: u64
     ensures same { (seat.new.table_id ≡ seat.old.table_id) × (seat.new.id ≡ seat.old.id) }
     ensures came { TurnCame seat.old.me.0 seat.new.me }
 {
+    let mut looks: u32 = 0;
     for _ in rt.forever() {
         if is_served(board, seat, ticket) {
             return;
         }
-        yield_now();
+        rest(rt, board, ticket, looks);
+        looks = looks.saturating_add(1);
     }
     unreachable!()
+}
+
+/// Lets other threads run. After so many looks sleeps until a turn is passed on, unless it is this
+/// ticket's by now.
+fn rest<R: Wait>(rt: &R, board: &Board, ticket: u64, looks: u32)
+    requires { HasTurnSize board.now.table_id }
+{
+    if looks < LOOKS {
+        yield_now();
+        return;
+    }
+    let served = board.peek(0);
+    if served != ticket {
+        board.park(rt, 0, (served % (1 << 32)) as u32);
+    }
 }
 
 /// One look: whether it is this ticket's turn.
@@ -211,6 +232,7 @@ fn hand_on(board: &Board, seat: &mut Place, log: Log)
     log.recall_log();
     drop(board.exchange(seat, 0, Some(log)));
     board.fetch_add::<HandOn>(seat, 0, 1);
+    board.wake_all(0);
 }
 
 /// Puts the log back as it was found, and passes the turn on.
@@ -224,4 +246,5 @@ fn hand_back(board: &Board, seat: &mut Place, log: Log)
     log.recall_log();
     drop(board.exchange(seat, 0, Some(log)));
     board.fetch_add::<HandBack>(seat, 0, 1);
+    board.wake_all(0);
 }

@@ -1,6 +1,6 @@
--- One more element of a list that is made by a function, in a loop over the elements.
-use Rattle.std.proofs.Common.{◌≡◌, ℕ, ◌+◌, ◌<◌, List, [], ◌∷◌, ◌++◌, length, get_or, map, take, drop, sym, ap, append_assoc, ◌∙◌}
-use Rattle.std.proofs.lemmas.List.{drop_more, map_more}
+-- One more element of a list that is made by a function, in a loop over the elements, and the end of the loop.
+use Rattle.std.proofs.Common.{◌≡◌, ℕ, ◌+◌, ◌<◌, ◌≤◌, List, [], ◌∷◌, ◌++◌, length, get_or, map, take, drop, sym, ap, append_assoc, ◌∙◌}
+use Rattle.std.proofs.lemmas.List.{append-nil, drop_all, drop_more, map_more, take_all}
 
 module _ {X Y : Type 0} (f : X → Y) (xs : List X) (i : ℕ) (d : X) (y : Y) (old new : List Y) where
   -- the list has the elements so far
@@ -23,3 +23,15 @@ module _ {X Y : Type 0} (f : X → Y) (xs : List X) (i : ℕ) (d : X) (y : Y) (o
       ∙ ap (λ (z : Y). old ++ z ∷ map f (drop (i + 1) xs)) is
       ∙ ap (λ (ys : List X). old ++ map f ys) (sym (drop_more xs i d h))
       ∙ so
+
+-- at the end of the loop these are all
+module _ {X Y : Type 0} (f : X → Y) (xs : List X) (i : ℕ) (made : List Y) where
+  pub mapped_all : length xs ≤ i → made ≡ map f (take i xs) → made ≡ map f xs
+  mapped_all end so = so ∙ ap (λ (ys : List X). map f ys) (take_all i xs end)
+
+  pub appended_all : (first : List Y) → length xs ≤ i → made ≡ first ++ map f (take i xs) → made ≡ first ++ map f xs
+  appended_all first end so = so ∙ ap (λ (ys : List X). first ++ map f ys) (take_all i xs end)
+
+  pub rest_all : (all : List Y) → length xs ≤ i → made ++ map f (drop i xs) ≡ all → made ≡ all
+  rest_all all end so =
+      sym (append-nil made) ∙ ap (λ (ys : List X). made ++ map f ys) (sym (drop_all i xs end)) ∙ so

@@ -44,3 +44,7 @@ known_parts m h = record {
   interests = λ k d l. ∥∥₁_elim h (hlevel props) (λ w. w.interests k d l);
   objectives = λ k d l. ∥∥₁_elim h (quantity_prop m (get_or m.objectives k d).of) (λ w. w.objectives k d l);
 }
+
+-- the sums of value lines are there
+pub known_sums : (m : Lists) → ∥ IsWellFormedModel m ∥₁ → All (λ v. v.sum < length m.sums) m.values
+known_sums m h k d l = ∥∥₁_elim h (hlevel props) (λ w. (w.values k d l).sum)

@@ -1,7 +1,8 @@
 -- What is known of the whole formula's numbers is known of the parts', and the test of the parts is that of the whole.
-use Rattle.std.proofs.Common.{rules, ◌≡◌, ◌&&◌, Bool, ℤ, of_z, to_z, w64, subst, sym, ap, ◌∙◌}
+use Rattle.std.proofs.Common.{rules, ◌≡◌, ◌+◌, ◌&&◌, Bool, ℤ, List, drop, refl, of_z, to_z, w64, subst, sym, ap, ◌∙◌}
 use Rattle.std.specs.Prelude.{nat_le}
 use Rattle.std.specs.List.{All, list_all}
+use Rattle.std.proofs.lemmas.List.{drop_all}
 use Rattle.cgm_atom.specs.Limits.{max_measure}
 use Rattle.cgm_formula.specs.declared.formula.Formula.{Formula}
 use Rattle.cgm_formula.specs.declared.formula.Formula.TheViews.{the_lemmas}
@@ -10,6 +11,7 @@ use Rattle.cgm_formula.proofs.Comparisons.{of_at_least, of_at_most, of_conjuncti
 use Rattle.cgm_model.specs.declared.lists.Lists.{Lists}
 use Rattle.cgm_model.specs.Formulas.{IsKnownNumber}
 use Rattle.cgm_model.specs.Model.{lists_of}
+use Rattle.cgm_model.proofs.Places.{drop-read}
 use Rattle.cgm_enc_formula.specs.Measures.{HasKnownNumbers, comparison_measure, has_small_measures}
 use Rattle.cgm_enc_formula.proofs.MeasureTests.{small-And, small-AtLeast, small-AtMost, small-Equal, small-Iff, small-Implies, small-Name, small-Not, small-Or}
 use Rattle.cgm_enc_formula.proofs.measures.+measures.Goals as goal
@@ -155,3 +157,31 @@ has_small_measures-returns-in-Equal t c =
     c.is_small-in-Equal.ensures
     ∙ ap (λ (z : ℤ). nat_le (comparison_measure m b (c.in-Equal.linear, z)) max_measure) k
     ∙ sym (small-Equal m b c.in-Equal.linear c.in-Equal.k) ∙ ap (λ (f : Formula). has_small_measures m b f) (sym c.in-Equal.is)
+
+pub have_small_measures-has_small_measures-requires : goal.have_small_measures-has_small_measures-requires
+have_small_measures-has_small_measures-requires t c =
+    let m = lists_of c.args.model.now in (
+      search (rules, the_lemmas),
+      (c.requires.variables, subst (HasKnownNumbers m) (sym c.part-item.is) (c.requires.known c.loop-part.part-index c.part-item.result c.loop-part-test.true)),
+    )
+
+pub have_small_measures-returns-then-not-has_small_measures : goal.have_small_measures-returns-then-not-has_small_measures
+have_small_measures-returns-then-not-has_small_measures t c =
+    let small : Formula → Bool = λ f. has_small_measures (lists_of c.args.model.now) c.args.builder.now.bounds f in
+    let parts = c.args.parts.now in
+    let rest = drop (c.loop-part.part-index + 1) parts in
+    let here = drop-read parts parts c.loop-part.part-index c.part-item.result refl c.loop-part-test.true c.part-item.is in
+    ap (λ (s : Bool). s && list_all small rest) c.if-not-has_small_measures.ensures ∙ ap (λ (fs : List Formula). list_all small fs) (sym here) ∙ c.loop-part.invariant
+
+pub have_small_measures-loop-part-preserved : goal.have_small_measures-loop-part-preserved
+have_small_measures-loop-part-preserved t c =
+    let small : Formula → Bool = λ f. has_small_measures (lists_of c.args.model.now) c.args.builder.now.bounds f in
+    let parts = c.args.parts.now in
+    let rest = drop (c.loop-part.part-index + 1) parts in
+    let here = drop-read parts parts c.loop-part.part-index c.part-item.result refl c.loop-part-test.true c.part-item.is in
+    ap (λ (s : Bool). s && list_all small rest) c.if-not-has_small_measures.ensures ∙ ap (λ (fs : List Formula). list_all small fs) (sym here) ∙ c.loop-part.invariant
+
+pub have_small_measures-returns : goal.have_small_measures-returns
+have_small_measures-returns t c =
+    let small : Formula → Bool = λ f. has_small_measures (lists_of c.args.model.now) c.args.builder.now.bounds f in
+    ap (λ (fs : List Formula). list_all small fs) (sym (drop_all c.loop-part.part-index c.args.parts.now c.loop-part-test.false)) ∙ c.loop-part.invariant

@@ -1,5 +1,5 @@
 -- What holds of the whole formula's comparisons holds of the parts', and what each node adds.
-use Rattle.std.proofs.Common.{rules, ◌≡◌, List, ℤ, ◌++◌, map, of_z, to_z, w64, ap, ◌∙◌, subst, sym}
+use Rattle.std.proofs.Common.{rules, ◌≡◌, Bool, List, ℤ, ◌++◌, map, refl, of_z, to_z, w64, ap, ◌∙◌, subst, sym}
 use Rattle.std.specs.Prelude.{int_le}
 use Rattle.std.specs.List.{All}
 use Rattle.cgm_atom.specs.Literals.{bit}
@@ -12,7 +12,7 @@ use Rattle.cgm_formula.specs.Sizes.{IsSmall, AreSmallIn}
 use Rattle.cgm_formula.specs.Truth.{linear_value}
 use Rattle.cgm_formula.proofs.Comparisons.{of_negation, of_conjunction, of_disjunction, of_implication, of_equivalence, of_at_most, of_at_least, of_equality}
 use Rattle.cgm_enc_formula.specs.NamingValues.{all_truths, told}
-use Rattle.cgm_enc_formula.proofs.ToldSteps.{all_say, all_told, any_says, any_told, at_least_says, at_least_told, at_most_says, at_most_told, equality_says, equality_told, equivalence_says, equivalence_told, if_ok, implication_says, implication_told, name_says, name_told, negation_says, negation_told, on_ok, part_said, part_told}
+use Rattle.cgm_enc_formula.proofs.ToldSteps.{all_done, all_say, all_told, any_says, any_told, at_least_says, at_least_told, at_most_says, at_most_told, equality_says, equality_told, equivalence_says, equivalence_told, if_ok, implication_says, implication_told, name_says, name_told, negation_says, negation_told, on_ok, part_said, part_told}
 use Rattle.cgm_enc_formula.proofs.naming_values.+telling.Goals as goal
 
 abbrev Small : Assignment → List ℤ → Linear × ℤ → Type 0
@@ -20,6 +20,22 @@ Small a sums c = IsSmall (number_in a sums) c.0
 
 abbrev AreSmall : Assignment → List ℤ → Formula → Type 0
 AreSmall a sums = AreSmallIn (number_in a sums)
+
+pub push_each-push_formula-requires : goal.push_each-push_formula-requires
+push_each-push_formula-requires t c = (
+  search (rules, the_lemmas),
+  subst (AreSmall c.args.assignment.now c.args.sums.now) (sym c.part-item.is) (c.requires c.loop-part.part-index c.part-item.result c.loop-part-test.true),
+)
+
+pub push_each-returns-clause-says : goal.push_each-returns-clause-says
+push_each-returns-clause-says t c =
+    let say : List Formula → List Bool = λ parts. map (λ part. part.says) (map (told (name_in c.args.assignment.now) (number_in c.args.assignment.now c.args.sums.now)) parts) in
+    all_done say c.args.parts.now c.loop-part.part-index c.loop-part.truths.items (say c.args.parts.now) refl c.loop-part-test.false c.loop-part.invariant.0
+
+pub push_each-returns-clause-added : goal.push_each-returns-clause-added
+push_each-returns-clause-added t c =
+    let add : List Formula → List ℤ = λ parts. map bit (all_truths (map (told (name_in c.args.assignment.now) (number_in c.args.assignment.now c.args.sums.now)) parts)) in
+    all_done add c.args.parts.now c.loop-part.part-index c.loop-part.out.items (c.args.out.now.items ++ add c.args.parts.now) refl c.loop-part-test.false c.loop-part.invariant.1
 
 pub push_each-loop-part-preserved : goal.push_each-loop-part-preserved
 push_each-loop-part-preserved t c =

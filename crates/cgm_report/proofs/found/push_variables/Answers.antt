@@ -2,7 +2,7 @@ use Rattle.std.proofs.Common.{◌≡◌, ◌∙◌, ◌++◌, ℕ, ℤ, List, ap
 use Rattle.std.specs.Int.{w128}
 use Rattle.cgm_model.specs.declared.lists.Variable.{Variable}
 use Rattle.cgm_report.specs.Report.{number_line, variable_lines}
-use Rattle.cgm_report.proofs.Zipped.{zipped_at}
+use Rattle.cgm_report.proofs.Zipped.{zipped_at, zipped_all}
 use Rattle.cgm_report.proofs.found.push_variables.Goals as goal
 
 pub loop-at-preserved : goal.loop-at-preserved
@@ -18,3 +18,9 @@ loop-at-preserved c =
     (c.args.report.now.items ++ variable_lines xs ys) old c.push_number.new.report.items c.loop-at.invariant
     (c.in_ok-push_number.ensures ∙ ap (λ (name : List ℕ). old ++ number_line (codes "var") name k) c.as_slice.ensures
     ∙ ap (λ (x : Variable). old ++ number_line (codes "var") x.name k) c.index-vars-at.is)
+
+pub returns : goal.returns
+returns c =
+    let xs = c.args.vars.now in
+    let ys = c.args.numbers.now in
+    zipped_all variable_lines (λ ys. refl) xs ys c.loop-at.at c.loop-at-test.false (c.args.report.now.items ++ variable_lines xs ys) c.loop-at.report.items c.loop-at.invariant

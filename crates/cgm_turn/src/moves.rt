@@ -207,7 +207,8 @@ pub(crate) fn hand_on(board: &Board, seat: &mut Place, log: Log)
     ensures same { (seat.new.table_id ≡ seat.old.table_id) × (seat.new.id ≡ seat.old.id) }
     ensures after { seat.new.me ≡ (handed_on seat.old.me.0 log, []) }
 {
-    drop(board.exchange(seat, 0, Some(log)));
+    let found = board.exchange(seat, 0, Some(log));
+    drop(found);
     board.fetch_add::<HandOn>(seat, 0, 1);
 }
 

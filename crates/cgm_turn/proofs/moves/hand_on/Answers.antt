@@ -13,10 +13,10 @@ use Rattle.cgm_turn.proofs.moves.hand_on.Goals as goal
 pub fetch_add-requires : goal.fetch_add-requires
 fetch_add-requires c =
     let turn = c.requires.turn in
-    let seat = c.exchange.new.seat in
+    let seat = c.exchange-found.new.seat in
     let v : View = c.args.seat.now.me.0 in
     let log : LogBook = c.args.log in
-    let me : seat.me ≡ (v, (0, Some log) ∷ []) = c.exchange.ensures.3 ∙ ap (λ xs. (v, (0, Some log) ∷ rest xs)) turn.only in (
+    let me : seat.me ≡ (v, (0, Some log) ∷ []) = c.exchange-found.ensures.3 ∙ ap (λ xs. (v, (0, Some log) ∷ rest xs)) turn.only in (
       search rules,
       search rules,
       subst (λ (n : ℕ). Allows IsTurnTable n seat.id seat.me 0 (λ k. (k + 1) % 2 ^ 64) (HandsOn (step n 0 1 0 option.none) seat.me)) (sym c.requires.sized.1)

@@ -1,5 +1,5 @@
 -- What is told of an ended run solves the model, whatever model the problem is the encoding of.
-use Rattle.std.proofs.Common.{◌≡◌, ℕ, ◌+◌, List, [], ◌∷◌, length, refl, sym, ap, subst, ◌∙◌}
+use Rattle.std.proofs.Common.{◌≡◌, ℕ, suc, List, [], ◌∷◌, length, refl, sym, ap, subst, ◌∙◌}
 use Rattle.std.specs.Prelude.{Result, Ok, Err}
 use Rattle.std.specs.List.{All}
 use Rattle.std.proofs.lemmas.List.Elements.{All-cons, All-head, All-nil, All-tail}
@@ -50,7 +50,7 @@ same_count : (p : Instance) (plan : Plan) (log : List Entry) (ss : List Stopped)
 same_count p plan log [] [] h = refl
 same_count p plan log [] (t ∷ ts) h = absurd h
 same_count p plan log (s ∷ ss) [] h = absurd h
-same_count p plan log (s ∷ ss) (t ∷ ts) h = ap (λ n. n + 1) (same_count p plan log ss ts h.1)
+same_count p plan log (s ∷ ss) (t ∷ ts) h = ap (λ (n : ℕ). suc n) (same_count p plan log ss ts h.1)
 
 -- where each worker spent its budget, each trail shows it
 all_spent : (p : Instance) (plan : Plan) (log : List Entry) (ss : List Stopped) (ts : List TrailState) → All IsSpentEnd ss → AreEndsOver p plan log ss ts → All (IsSpentTrail p plan log) ts
@@ -83,7 +83,7 @@ told_of encoded workers plan e before after (Exhausted best spent entries) ended
       record {
         trails = e.trails.items;
         some = ended.some;
-        count = sym (same_count encoded.problem plan e.log.entries e.stopped.items e.trails.items ended.ends) ∙ ended.count;
+        count = sym (same_count encoded.problem plan e.log.entries e.stopped.items e.trails.items ended.ends) ∙ sym e.stopped.ok.0 ∙ ended.count;
         are_spent = subst (λ (es : List Entry). All (IsSpentTrail (problem_of m pairs) plan es) e.trails.items) (sym told.0)
             (subst (λ (p : Instance). All (IsSpentTrail p plan e.log.entries) e.trails.items) encoding.problem all);
         added = told.5;

@@ -1,5 +1,5 @@
 //! What is told of ended runs.
-ghost use Rattle.std.specs.Prelude.{◌≡◌, IfOk, IsTrue};
+ghost use Rattle.std.specs.Prelude.{◌≡◌, ◌↔◌, IfOk, IsTrue};
 ghost use Rattle.cgm_solve.specs.Answers.{IsLastBestOf};
 ghost use Rattle.cgm_solve.specs.Runs.{AreSpent, AreTrailsKept, IsAnswerTold, IsExhausted, closed_answer, moves_of};
 
@@ -54,14 +54,15 @@ pub(crate) fn tell(
 
 /// Whether each worker spent its budget.
 fn are_spent(stopped: &[Stopped]) -> bool
-    ensures { IsTrue result → AreSpent stopped.now }
+    ensures { IsTrue result ↔ AreSpent stopped.now }
 {
-    for how in stopped {
-        if *how != Stopped::Spent {
-            return false;
-        }
-    }
-    true
+    stopped.iter().all(|how| is_spent(*how))
+}
+
+fn is_spent(how: Stopped) -> bool
+    ensures { IsTrue result ↔ how ≡ Stopped.Spent }
+{
+    how == Stopped::Spent
 }
 
 /// The realization that the last best of the log stands for, if there is one.

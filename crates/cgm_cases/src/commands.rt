@@ -31,6 +31,7 @@ impl Program for Alone {
 }
 
 /// The commands, with this option, if any, where a search names no number of workers.
+#[derive(Drop)]
 pub(crate) struct Together<'a, R: Threads + Wait + Sync> {
     pub(crate) rt: &'a R,
     pub(crate) workers: Option<&'static str>,

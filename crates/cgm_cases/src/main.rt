@@ -9,7 +9,10 @@ use cgm_shelf::{FileShelf, OutSink};
 use cgm_transcripts::{Ending, run_transcripts};
 use commands::{Alone, Together};
 use std::env;
+use std::marker::Sync;
 use std::process::ExitCode;
+use std::sync::Wait;
+use std::thread::Threads;
 
 fn main(rt: HostRuntime) -> ExitCode {
     let mut shelf = FileShelf::new(&rt);
@@ -31,6 +34,9 @@ fn main(rt: HostRuntime) -> ExitCode {
     ExitCode::from(code)
 }
 
-fn crew_of<'a>(rt: &'a HostRuntime, workers: Option<&'static str>) -> Together<'a, HostRuntime> {
+fn crew_of<'a, R: Threads + Wait + Sync>(
+    rt: &'a R,
+    workers: Option<&'static str>,
+) -> Together<'a, R> {
     Together { rt, workers }
 }

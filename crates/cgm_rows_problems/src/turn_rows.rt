@@ -13,8 +13,8 @@ const ONE: &str = "vars 0..1 0..1; row 1*1 -1*0 >= 0; row -1*1 1*0 >= 0; objecti
 /// By two clauses variable 0 is 1, and variable 1 is free.
 const FORCED: &str = "vars 0..1 0..1; clause 0>=1 1>=1; clause 0>=1 1<=0";
 
-/// Whether pass 0 keeps its candidate, pass 1, which has seen nothing, is told of it and is behind it,
-/// and the log at the close has that one entry.
+/// Whether pass 0 keeps its candidate, pass 1, which has seen nothing, is told of it and is behind
+/// it, and the log at the close has that one entry.
 fn are_two<R: Wait>(rt: &R, alloc: Global) -> Result<bool, Fail> {
     let (problem, turn, mut first) = opened(alloc, ONE, 2)?;
     let mut second = turn.split(&mut first);
@@ -32,8 +32,8 @@ fn are_two<R: Wait>(rt: &R, alloc: Global) -> Result<bool, Fail> {
     )
 }
 
-/// Whether sixteen passes are out at once, the first among them, each is told all that came before it,
-/// and the log at the close has a best of each.
+/// Whether sixteen passes are out at once, the first among them, each is told all that came before
+/// it, and the log at the close has a best of each.
 fn are_sixteen<R: Wait>(rt: &R, alloc: Global) -> Result<bool, Fail> {
     let (problem, turn, mut first) = opened(alloc, "vars 0..20; objectives 0", 16)?;
     let others = nest(rt, alloc, &problem, &turn, &mut first, 1)?;
@@ -90,9 +90,9 @@ fn is_final<'t, R: Wait>(mut worker: Worker<Seated<'t, R>>) -> bool {
     stopped == Stopped::Final && seated.into_pass().seen() >= 2
 }
 
-/// Whether a worker at pass 0 uses, before its first decision, a lemma that pass 1 landed: it tightens
-/// variable 0 by it, decides variable 1, jumps, and is at its end. Without the lemma it decides that
-/// variable 0 is 0, and makes a move more at least.
+/// Whether a worker at pass 0 uses, before its first decision, a lemma that pass 1 landed: it
+/// tightens variable 0 by it, decides variable 1, jumps, and is at its end. Without the lemma it
+/// decides that variable 0 is 0, and makes a move more at least.
 fn has_used_lemma<R: Wait>(rt: &R, alloc: Global) -> Result<bool, Fail> {
     let (problem, turn, mut first) = opened(alloc, FORCED, 2)?;
     let mut second = turn.split(&mut first);

@@ -66,7 +66,8 @@ pub(crate) fn offer<R: Wait>(
     }
 }
 
-/// Trades a lemma by a pass that has seen nothing: a bound, atoms, `:` and hints. It has to be proper.
+/// Trades a lemma by a pass that has seen nothing: a bound, atoms, `:` and hints. It has to be
+/// proper.
 pub(crate) fn teach<R: Wait>(
     rt: &R,
     alloc: Global,
@@ -116,8 +117,8 @@ fn has_ordinal(fate: &Option<Fate>, wanted: u64) -> bool {
     }
 }
 
-/// Whether a candidate is behind the best with this ordinal and these values, and so many entries were
-/// news.
+/// Whether a candidate is behind the best with this ordinal and these values, and so many entries
+/// were news.
 pub(crate) fn is_behind(traded: &Traded, wanted: u64, best: &[i64], told: u64) -> bool {
     match traded {
         Traded::Closed { .. } => false,
@@ -151,8 +152,8 @@ fn is_best(entry: &Entry, worker: u32, wanted: &[i64]) -> bool {
     }
 }
 
-/// Splits off the pass with this number and, while it is out, all further ones; each offers a candidate
-/// that is one better, the last one first. Whether each was kept at its place.
+/// Splits off the pass with this number and, while it is out, all further ones; each offers a
+/// candidate that is one better, the last one first. Whether each was kept at its place.
 pub(crate) fn nest<R: Wait>(
     rt: &R,
     alloc: Global,

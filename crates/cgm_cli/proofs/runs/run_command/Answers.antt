@@ -3,7 +3,7 @@ use Rattle.cgm_model.specs.Model.{lists_of}
 use Rattle.cgm_cli.specs.CommandLine.{with_workers}
 use Rattle.cgm_cli.specs.Commands.{told_by}
 use Rattle.cgm_cli.proofs.Ending.{earlier_kept, ends, ends_early, model_kept}
-use Rattle.cgm_cli.proofs.run.run_command.Goals as goal
+use Rattle.cgm_cli.proofs.runs.run_command.Goals as goal
 
 pub returns-in-Ok : goal.returns-in-Ok
 returns-in-Ok g c =

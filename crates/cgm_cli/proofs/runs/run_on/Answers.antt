@@ -4,7 +4,7 @@ use Rattle.cgm_cli.specs.CommandLine.{with_workers}
 use Rattle.cgm_cli.specs.Commands.{told_by}
 use Rattle.cgm_cli.specs.Effects.{World, world}
 use Rattle.cgm_cli.specs.Outcome.{HasOwnOutcome, LeavesFiles}
-use Rattle.cgm_cli.proofs.run.run_on.Goals as goal
+use Rattle.cgm_cli.proofs.runs.run_on.Goals as goal
 
 pub returns-in-Solve-clause-outcome : goal.returns-in-Solve-clause-outcome
 returns-in-Solve-clause-outcome g c =

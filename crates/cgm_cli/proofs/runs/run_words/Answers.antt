@@ -4,7 +4,7 @@ use Rattle.cgm_cli.specs.CommandLine.{command_for}
 use Rattle.cgm_cli.specs.Commands.{told_by}
 use Rattle.cgm_cli.specs.Effects.{world}
 use Rattle.cgm_cli.proofs.Ending.{lacks_memory, runs_command, runs_nothing}
-use Rattle.cgm_cli.proofs.run.run_words.Goals as goal
+use Rattle.cgm_cli.proofs.runs.run_words.Goals as goal
 
 pub returns-in-Ok-Some : goal.returns-in-Ok-Some
 returns-in-Ok-Some g c =

@@ -35,3 +35,11 @@ module _ {X Y : Type 0} (f : X → Y) (xs : List X) (i : ℕ) (made : List Y) wh
   pub rest_all : (all : List Y) → length xs ≤ i → made ++ map f (drop i xs) ≡ all → made ≡ all
   rest_all all end so =
       sym (append-nil made) ∙ ap (λ (ys : List X). made ++ map f ys) (sym (drop_all i xs end)) ∙ so
+
+-- the same where the elements that are left give anything
+pub all_done : {X Y : Type 0} (g : List X → List Y) (xs : List X) (i : ℕ) (made whole : List Y) → g [] ≡ [] → length xs ≤ i → made ++ g (drop i xs) ≡ whole → made ≡ whole
+all_done {X} {Y} g xs i made whole none end so =
+    sym (append-nil made)
+    ∙ ap (λ (l : List Y). made ++ l) (sym none)
+    ∙ ap (λ (ys : List X). made ++ g ys) (sym (drop_all i xs end))
+    ∙ so

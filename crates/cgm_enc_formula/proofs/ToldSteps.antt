@@ -1,8 +1,8 @@
 -- What a formula's node adds to the values of naming variables, behind those of its parts.
-use Rattle.std.proofs.Common.{◌≡◌, ℕ, ◌+◌, ◌<◌, ◌≤◌, Bool, not, ◌&&◌, ◌||◌, List, [], ◌∷◌, ◌++◌, length, get_or, map, drop, refl, sym, ap, ◌∙◌, Result, IfOk, OnOk, Ok, Err}
+use Rattle.std.proofs.Common.{◌≡◌, ℕ, ◌+◌, ◌<◌, Bool, not, ◌&&◌, ◌||◌, List, [], ◌∷◌, ◌++◌, length, get_or, map, drop, refl, sym, ap, ◌∙◌, Result, IfOk, OnOk, Ok, Err}
 use Rattle.std.specs.Prelude.{ℤ, int_le}
 use Rattle.std.specs.List.{list_all, list_any}
-use Rattle.std.proofs.lemmas.List.{append-nil, append_assoc, drop_all, drop_more, map-append}
+use Rattle.std.proofs.lemmas.List.{append-nil, append_assoc, drop_more, map-append}
 use Rattle.std.proofs.lemmas.List.Folds.{list_all-map}
 use Rattle.cgm_atom.specs.Literals.{bit}
 use Rattle.cgm_formula.specs.declared.formula.Formula.{Formula}
@@ -37,14 +37,6 @@ item_added {X} {Y} f g steps xs i x old new whole within is e added =
     ∙ ap (λ (l : List Y). old ++ l) (sym (steps x rest))
     ∙ ap (λ (ys : List X). old ++ g ys) (sym split)
     ∙ e
-
--- at the end of the loop all is added
-pub all_done : {X Y : Type 0} (g : List X → List Y) (xs : List X) (i : ℕ) (made whole : List Y) → g [] ≡ [] → length xs ≤ i → made ++ g (drop i xs) ≡ whole → made ≡ whole
-all_done {X} {Y} g xs i made whole none end so =
-    sym (append-nil made)
-    ∙ ap (λ (l : List Y). made ++ l) (sym none)
-    ∙ ap (λ (ys : List X). made ++ g ys) (sym (drop_all i xs end))
-    ∙ so
 
 -- a node behind its parts
 node_added : (old parts new : List ℤ) (ts : List Bool) (t : Bool) → parts ≡ old ++ map bit ts → new ≡ parts ++ bit t ∷ [] → new ≡ old ++ map bit (ts ++ t ∷ [])

@@ -1,5 +1,5 @@
 -- What a loop keeps of the numbers below a place, and of the items of a list.
-use Rattle.std.proofs.Common.{◌≡◌, ℕ, ◌+◌, ◌<◌, Bool, List, [], ◌∷◌, ◌++◌, length, get_or, take, sym, ap, ◌∙◌, arith}
+use Rattle.std.proofs.Common.{◌≡◌, ℕ, ◌+◌, ◌<◌, ◌≤◌, Bool, List, [], ◌∷◌, ◌++◌, length, get_or, take, sym, ap, ◌∙◌, arith}
 use Rattle.std.specs.Prelude.{filter}
 use Rattle.std.specs.List.{range_with_len}
 use Rattle.std.proofs.lemmas.List.{take_more}
@@ -21,3 +21,9 @@ items_kept p xs i d old new l are added =
     ∙ ap (λ (ys : List ℕ). ys ++ filter p (get_or xs i d ∷ [])) are
     ∙ sym (filter-append p (take i xs) (get_or xs i d ∷ []))
     ∙ ap (λ (ys : List ℕ). filter p ys) (sym (take_more xs i d l))
+
+-- at the end of the loop these are all
+pub numbers_all : (p : ℕ → Bool) (i count n : ℕ) (made : List ℕ) → i ≤ count → count ≤ i → count ≡ n → made ≡ filter p (range_with_len 0 i) → made ≡ filter p (range_with_len 0 n)
+numbers_all p i count n made few past is so =
+    let all : i ≡ n = omega arith in
+    so ∙ ap (λ (k : ℕ). filter p (range_with_len 0 k)) all

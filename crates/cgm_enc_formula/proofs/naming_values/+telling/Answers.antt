@@ -12,7 +12,8 @@ use Rattle.cgm_formula.specs.Sizes.{IsSmall, AreSmallIn}
 use Rattle.cgm_formula.specs.Truth.{linear_value}
 use Rattle.cgm_formula.proofs.Comparisons.{of_negation, of_conjunction, of_disjunction, of_implication, of_equivalence, of_at_most, of_at_least, of_equality}
 use Rattle.cgm_enc_formula.specs.NamingValues.{all_truths, told}
-use Rattle.cgm_enc_formula.proofs.ToldSteps.{all_done, all_say, all_told, any_says, any_told, at_least_says, at_least_told, at_most_says, at_most_told, equality_says, equality_told, equivalence_says, equivalence_told, if_ok, implication_says, implication_told, name_says, name_told, negation_says, negation_told, on_ok, part_said, part_told}
+use Rattle.cgm_enc_formula.proofs.Mapped.{all_done}
+use Rattle.cgm_enc_formula.proofs.ToldSteps.{all_say, all_told, any_says, any_told, at_least_says, at_least_told, at_most_says, at_most_told, equality_says, equality_told, equivalence_says, equivalence_told, if_ok, implication_says, implication_told, name_says, name_told, negation_says, negation_told, on_ok, part_said, part_told}
 use Rattle.cgm_enc_formula.proofs.naming_values.+telling.Goals as goal
 
 abbrev Small : Assignment → List ℤ → Linear × ℤ → Type 0

@@ -1,8 +1,11 @@
 // Turns: passes that trade one after another on one thread, and the log at the close.
+ghost use Rattle.std.specs.Prelude.{◌≡◌};
+ghost use Rattle.cgm_turn.specs.Passes.{IsPassOf, IsSamePass};
+
 use crate::turns::{is_behind, is_kept, is_one_best, nest, offer, opened, teach};
-use cgm_atom::Entry;
+use cgm_atom::{Entry, Problem};
 use cgm_search::{IdleGate, Plan, Stopped, Worker};
-use cgm_turn::Seated;
+use cgm_turn::{Pass, Seated, Turn};
 use std::alloc::Global;
 use std::sync::Wait;
 use std::test::Fail;
@@ -18,31 +21,82 @@ const FORCED: &str = "vars 0..1 0..1; clause 0>=1 1>=1; clause 0>=1 1<=0";
 fn are_two<R: Wait>(rt: &R, alloc: Global) -> Result<bool, Fail> {
     let (problem, turn, mut first) = opened(alloc, ONE, 2)?;
     let mut second = turn.split(&mut first);
-    let kept = offer(rt, alloc, &problem, &turn, &mut first, &[0, 0])?;
-    let behind = offer(rt, alloc, &problem, &turn, &mut second, &[1, 1])?;
+    let told = trade_both(rt, alloc, &problem, &turn, &mut first, &mut second);
+    drop(problem);
     turn.join(&mut first, second);
+    let ended = ends_with_one(turn, first);
+    Ok(told? && ended)
+}
+
+fn trade_both<R: Wait>(
+    rt: &R,
+    alloc: Global,
+    problem: &Problem,
+    turn: &Turn,
+    first: &mut Pass,
+    second: &mut Pass,
+) -> Result<bool, Fail>
+    requires own { IsPassOf turn.now first.old × IsPassOf turn.now second.old }
+    requires problem { turn.now.problem ≡ problem.now }
+    ensures own { IsPassOf turn.now first.new × IsPassOf turn.now second.new }
+    ensures same { IsSamePass first.old first.new × IsSamePass second.old second.new }
+{
+    let kept = offer(rt, alloc, problem, turn, first, &[0, 0])?;
+    let behind = offer(rt, alloc, problem, turn, second, &[1, 1])?;
+    Ok(is_kept(&kept, 1, 1, 0) && is_behind(&behind, 1, &[0, 0], 1))
+}
+
+/// Whether no pass is out, and the log at the close has one entry, the best of worker 0.
+fn ends_with_one(turn: Turn, first: Pass) -> bool
+    requires own { IsPassOf turn first }
+    requires first { first.number ≡ 0 }
+{
     if first.out() != 0 {
-        return Ok(false);
+        return false;
     }
     let log = turn.close(first);
-    Ok(
-        is_kept(&kept, 1, 1, 0)
-            && is_behind(&behind, 1, &[0, 0], 1)
-            && is_one_best(&log, 0, &[0, 0]),
-    )
+    is_one_best(&log, 0, &[0, 0])
 }
 
 /// Whether sixteen passes are out at once, the first among them, each is told all that came before
 /// it, and the log at the close has a best of each.
 fn are_sixteen<R: Wait>(rt: &R, alloc: Global) -> Result<bool, Fail> {
     let (problem, turn, mut first) = opened(alloc, "vars 0..20; objectives 0", 16)?;
-    let others = nest(rt, alloc, &problem, &turn, &mut first, 1)?;
-    let last = offer(rt, alloc, &problem, &turn, &mut first, &[0])?;
+    let told = trade_all(rt, alloc, &problem, &turn, &mut first);
+    drop(problem);
+    let ended = ends_with_sixteen(turn, first);
+    Ok(told? && ended)
+}
+
+fn trade_all<R: Wait>(
+    rt: &R,
+    alloc: Global,
+    problem: &Problem,
+    turn: &Turn,
+    first: &mut Pass,
+) -> Result<bool, Fail>
+    requires own { IsPassOf turn.now first.old }
+    requires problem { turn.now.problem ≡ problem.now }
+    requires first { (first.old.number ≡ 0) × (first.old.splits ≡ 0) }
+    requires workers { turn.now.workers ≡ 16 }
+    ensures own { IsPassOf turn.now first.new }
+    ensures first { first.new.number ≡ 0 }
+{
+    let others = nest(rt, alloc, problem, turn, first, 1)?;
+    let last = offer(rt, alloc, problem, turn, first, &[0])?;
+    Ok(others && is_kept(&last, 16, 16, 0))
+}
+
+/// Whether no pass is out, and the log at the close has a best of each of sixteen workers.
+fn ends_with_sixteen(turn: Turn, first: Pass) -> bool
+    requires own { IsPassOf turn first }
+    requires first { first.number ≡ 0 }
+{
     if first.out() != 0 {
-        return Ok(false);
+        return false;
     }
     let log = turn.close(first);
-    Ok(others && is_kept(&last, 16, 16, 0) && have_makers(log.entries()))
+    have_makers(log.entries())
 }
 
 /// Whether the bests are those of the workers 15 to 0, in this order.

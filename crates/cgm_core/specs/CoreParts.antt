@@ -5,7 +5,8 @@ use Rattle.cgm_core.specs.declared.cores.Core.TheInside.{Inside}
 use Rattle.cgm_log.specs.Events.{AreFronts, CoreState}
 
 abbrev pub core_state : Inside → CoreState
-core_state c = record { problem = c.log.problem; log = c.log.entries; fronts_seen = c.fronts_seen.items }
+core_state c =
+    record { problem = c.log.problem; log = c.log.entries; fronts_seen = c.fronts_seen.items }
 
 pub record IsCore (s : CoreState) : Type 0 where
   pub fronts_seen : length s.fronts_seen ≡ max_workers

@@ -34,7 +34,8 @@ abbrev pub with_seen : CoreState → ℕ → Option ℕ → CoreState
 with_seen s worker seen = record s { fronts_seen = slice_set s.fronts_seen worker seen }
 
 abbrev pub traded : CoreState → ℕ → List Entry → CoreState
-traded s worker log = record { problem = s.problem; log = log; fronts_seen = slice_set s.fronts_seen worker (Some (length log)) }
+traded s worker log =
+    record s { log = log; fronts_seen = slice_set s.fronts_seen worker (Some (length log)) }
 
 abbrev pub after_event : CoreState → Event → CoreState
 after_event s (Enter worker) = with_seen s worker (Some 0)

@@ -44,7 +44,8 @@ BySpent true spent live = spent
 BySpent false spent live = live
 
 abbrev pub KnowsTurn : ℕ → ℕ → LogBook → List Joined → ℕ → View → Type 0
-KnowsTurn serving next log joined j v = BySpent v.is_spent (IsSpent joined j v) (IsLive serving next log joined j v)
+KnowsTurn serving next log joined j v =
+    BySpent v.is_spent (IsSpent joined j v) (IsLive serving next log joined j v)
 
 -- what is kept of a joined pass is what the log has of it
 pub record IsAccountOf (log : LogBook) (w : ℕ) (r : Joined) : Type 0 where
@@ -93,7 +94,13 @@ NoneHolds views = (j : ℕ) (v : View) → get_elem? views j ≡ some v → v.he
 
 -- no two passes have one ticket
 abbrev pub AreTicketsApart : List View → Type 0
-AreTicketsApart views = (j k : ℕ) (v w : View) (t : ℕ) → get_elem? views j ≡ some v → get_elem? views k ≡ some w → v.ticket ≡ Some t → w.ticket ≡ Some t → j ≡ k
+AreTicketsApart views =
+    (j k : ℕ) (v w : View) (t : ℕ)
+    → get_elem? views j ≡ some v
+    → get_elem? views k ≡ some w
+    → v.ticket ≡ Some t
+    → w.ticket ≡ Some t
+    → j ≡ k
 
 -- no word wraps: the next ticket counts the trades that were begun, a pass and those joined to it began at most 2^59 for
 -- each of them, and there are at most 16 passes. A spent view tells nothing, so a view carries the trades of those joined

@@ -17,9 +17,10 @@ use Rattle.atomic_table.specs.Table.{Allows, State, gives, step, stepped}
 use Rattle.atomic_table.proofs.Lists.{at_set, set_else, set_here}
 use Rattle.cgm_atom.specs.declared.entries.Entry.{Entry}
 use Rattle.cgm_log.specs.LogBook.{LogBook}
+use Rattle.cgm_log.specs.Makers.{maker}
 use Rattle.cgm_turn.specs.declared.views.Joined.{Joined}
 use Rattle.cgm_turn.specs.declared.views.View.{View}
-use Rattle.cgm_turn.specs.Entries.{AreOfLog, BeginsWith, made_by, maker}
+use Rattle.cgm_turn.specs.Entries.{AreOfLog, BeginsWith, made_by}
 use Rattle.cgm_turn.specs.Plays.{HandsBack, HandsOn, count_held, gone_home, handed_back, handed_on, put_back}
 use Rattle.cgm_turn.specs.Rule.{AreTicketsApart, IsAccountOf, IsAway, IsLive, IsPaid, IsServed, IsSpent, IsTurnTable, KnowsTurn, KnowsTurnBy, Leads, NoneHolds, cost, count_ticket, living, tickets_of, total_of, view_weight}
 use Rattle.cgm_turn.specs.Views.{account_with}

@@ -16,9 +16,10 @@ use Rattle.atomic_table.specs.Table.{Allows, State, gives, step, stepped}
 use Rattle.atomic_table.proofs.Lists.{at_set, set_else, set_here}
 use Rattle.cgm_atom.specs.declared.entries.Entry.{Entry}
 use Rattle.cgm_log.specs.LogBook.{LogBook}
+use Rattle.cgm_log.specs.Makers.{maker}
 use Rattle.cgm_turn.specs.declared.views.Joined.{Joined}
 use Rattle.cgm_turn.specs.declared.views.View.{View}
-use Rattle.cgm_turn.specs.Entries.{BeginsWith, made_by, maker}
+use Rattle.cgm_turn.specs.Entries.{BeginsWith, made_by}
 use Rattle.cgm_turn.specs.Plays.{HandsOn, count_held, gone_home, handed_on}
 use Rattle.cgm_turn.specs.Rule.{AreTicketsApart, IsAccountOf, IsLive, IsPaid, IsServed, IsSpent, IsTurnTable, KnowsTurn, KnowsTurnBy, Leads, NoneHolds, cost, living, total_of, view_weight}
 use Rattle.cgm_turn.specs.Views.{account_with}

@@ -1,9 +1,9 @@
 -- What a trade adds to the log.
-use Rattle.std.proofs.Common.{◌≡◌, ℕ, Bool, true, false, List, [], ◌∷◌, ◌++◌, ◌^◌, ◌<◌, drop, length, refl, sym, ap, subst, ◌∙◌, append-nil, arith}
+use Rattle.std.proofs.Common.{◌≡◌, ℕ, Bool, true, false, List, [], ◌∷◌, ◌++◌, ◌^◌, ◌<◌, ◌≤◌, drop, length, refl, sym, ap, subst, ◌∙◌, append-nil, arith}
 use Rattle.std.specs.Prelude.{IsTrue, if◌then◌else◌, IfOk, OnOk, OnErr, Result, Ok, Err}
 use Rattle.std.specs.List.{All}
 use Rattle.std.specs.declared.option.Option.TheVariants.{Some}
-use Rattle.std.proofs.lemmas.List.{length-map}
+use Rattle.std.proofs.lemmas.List.{drop-append-le, length-map}
 use Rattle.std.proofs.lemmas.List.Elements.{All-append, All-nil}
 use Rattle.cgm_atom.specs.declared.entries.Entry.{Entry}
 use Rattle.cgm_atom.specs.Acceptance.{IsAccepted}
@@ -17,7 +17,7 @@ use Rattle.cgm_step.specs.Indexing.{Index, IsLogIndexOf}
 use Rattle.cgm_log.specs.declared.batches.Batch.{Batch}
 use Rattle.cgm_log.specs.declared.batches.Refund.{Refund}
 use Rattle.cgm_log.specs.declared.batches.Traded.{Traded}
-use Rattle.cgm_log.specs.Landing.{kept_candidate, with_landed}
+use Rattle.cgm_log.specs.Landing.{kept_candidate, landed, with_landed}
 use Rattle.cgm_log.specs.LogBook.{IsLog}
 use Rattle.cgm_log.specs.Trading.{news_of}
 
@@ -67,7 +67,7 @@ log_after (Err e) p old new more log ok err accepted printable count =
 
 -- ---- who has seen all is told nothing new
 
-drop_own : (log : List Entry) → drop (length log) log ≡ []
+pub drop_own : (log : List Entry) → drop (length log) log ≡ []
 drop_own [] = refl
 drop_own (e ∷ log) = drop_own log
 
@@ -79,3 +79,12 @@ pub landed_after_news : (p : Instance) (told after : List Entry) (seen : ℕ) (b
 landed_after_news p told after seen b (Ok t) e h k =
     k ∙ ap (λ (log : List Entry). with_landed p log b) (none_new told (news_of t) seen e h)
 landed_after_news p told after seen b (Err r) e h k = k
+
+-- ---- what was landed after the entries with which the log began
+
+pub own_after_news : (p : Instance) (told after : List Entry) (begun seen : ℕ) (b : Batch) (r : Result Traded Refund) → begun ≤ length told → seen ≡ length told → IfOk r (λ t. news_of t ≡ drop seen told) → OnOk r (after ≡ with_landed p told b) → IfOk r (λ t. drop begun after ≡ drop begun told ++ landed p (told ++ news_of t) b)
+own_after_news p told after begun seen b (Ok t) le e h k =
+    ap (λ (xs : List Entry). drop begun xs) k
+    ∙ drop-append-le begun told (landed p told b) le
+    ∙ ap (λ (log : List Entry). drop begun told ++ landed p log b) (none_new told (news_of t) seen e h)
+own_after_news p told after begun seen b (Err r) le e h k = k

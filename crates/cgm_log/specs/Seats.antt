@@ -2,12 +2,15 @@
 use Rattle.std.specs.Prelude.{◌≡◌, ℕ, ◌+◌, ◌≤◌, List, Option}
 use Rattle.cgm_atom.specs.declared.entries.Entry.{Entry}
 use Rattle.cgm_atom.specs.Instance.{Instance}
+use Rattle.cgm_log.specs.Makers.{AreMadeBy}
 
 pub record Seat : Type 0 where
   -- the problem of the log
   pub problem : Instance
   -- the entries that were seen, which are a front of the log
   pub told : List Entry
+  -- the entries that it landed, in order
+  pub own : List Entry
   -- the number of the worker, where the trader has one
   pub number : Option ℕ
   -- how many trades may still be made
@@ -22,3 +25,7 @@ pub record KeepsSeat (n : ℕ) (old new : Seat) : Type 0 where
   pub problem : new.problem ≡ old.problem
   pub number : new.number ≡ old.number
   pub trades : HasTradedAtMost n old.trades new.trades
+
+-- where each entry that was landed has the worker's number, each that is landed then has it
+abbrev pub KeepsOwn : ℕ → Seat → Seat → Type 0
+KeepsOwn worker old new = (n : ℕ) → worker ≡ n → AreMadeBy n old.own → AreMadeBy n new.own

@@ -7,7 +7,7 @@ use Rattle.cgm_atom.specs.LogState.{state_of}
 use Rattle.cgm_log.specs.declared.batches.Batch.{Batch}
 use Rattle.cgm_log.specs.declared.batches.Traded.{Traded}
 use Rattle.cgm_log.specs.declared.batches.Traded.TheVariants.{Closed, Landed}
-use Rattle.cgm_log.specs.Landing.{fate_of, with_landed}
+use Rattle.cgm_log.specs.Landing.{fate_of, landed, with_landed}
 use Rattle.cgm_log.specs.Seats.{Seat}
 
 -- the entries that stood before the trade and weren't seen
@@ -27,3 +27,7 @@ with_news s t = s.told ++ news_of t
 
 abbrev pub with_batch : Seat → Traded → Batch → List Entry
 with_batch s t b = with_landed s.problem (with_news s t) b
+
+-- what the batch adds to it
+abbrev pub landed_by : Seat → Traded → Batch → List Entry
+landed_by s t b = landed s.problem (with_news s t) b

@@ -1,9 +1,9 @@
 //! How a worker reaches the log that it adds to.
-ghost use Rattle.std.specs.Prelude.{◌≡◌, ◌+◌, ◌^◌, ◌<◌, ◌≤◌, length, None, IfOk, IfErr, IfSome, IsSome};
+ghost use Rattle.std.specs.Prelude.{◌≡◌, ◌+◌, ◌++◌, ◌^◌, ◌<◌, ◌≤◌, [], drop, length, None, IfOk, IfErr, IfSome, IsSome, OnErr};
 ghost use Rattle.cgm_atom.specs.Acceptance.{IsAccepted};
 ghost use Rattle.cgm_log.specs.Landing.{IsProperBatch};
 ghost use Rattle.cgm_log.specs.Seats.{Seat};
-ghost use Rattle.cgm_log.specs.Trading.{IsAnswer, with_batch, with_news};
+ghost use Rattle.cgm_log.specs.Trading.{IsAnswer, landed_by, with_batch, with_news};
 
 use crate::batches::{Batch, Refund, Traded};
 use crate::logs::Log;
@@ -16,8 +16,8 @@ pub trait Trader {
     /// Of this type is what its owner knows of it. No value of it is made.
     type Home;
 
-    /// The problem of the log, the entries that were seen, the worker's number, and how many trades
-    /// may still be made.
+    /// The problem of the log, the entries that were seen and those that it landed, the worker's
+    /// number, and how many trades may still be made.
     ghost seat: { Self → Seat };
 
     /// What its owner knows of it and no trade changes.
@@ -29,8 +29,9 @@ pub trait Trader {
         ensures accepted { IsAccepted (seat self.now).problem (seat self.now).told }
         ensures room { length (seat self.now).told < 2 ^ 63 };
 
-    /// Lands a batch on the log, after the entries that were seen and the answer's news. Then these and
-    /// what landed were seen too. Without memory the log and what was seen are as before.
+    /// Lands a batch on the log, after the entries that were seen and the answer's news. Then these
+    /// and what landed were seen too, and what landed is its own. Without memory the log, what was
+    /// seen and what it landed are as before.
     ///
     /// Conditions: the batch is proper after the entries that were seen, it has the trader's number
     /// where there is one, and a trade may still be made.
@@ -42,6 +43,9 @@ pub trait Trader {
             (λ t. IsAnswer (seat self.old).problem (with_news (seat self.old) t) batch t) }
         ensures landed { IfOk result
             (λ t. (seat self.new).told ≡ with_batch (seat self.old) t batch) }
+        ensures own { IfOk result
+            (λ t. (seat self.new).own ≡ (seat self.old).own ++ landed_by (seat self.old) t batch) }
+        ensures own_kept { OnErr result ((seat self.new).own ≡ (seat self.old).own) }
         ensures refund { IfErr result
             (λ r. ((seat self.new).told ≡ (seat self.old).told) × (r.batch ≡ batch)) }
         ensures problem { (seat self.new).problem ≡ (seat self.old).problem }
@@ -59,7 +63,10 @@ pub trait Trader {
 #[derive(Drop)]
 pub struct Alone {
     log: Log,
+    // how many entries the log had before its first trade
+    begun: u64,
     left: u64,
+    ghost front: { begun ≤ length log.entries },
 }
 
 impl Alone {
@@ -67,11 +74,14 @@ impl Alone {
     pub fn new(log: Log) -> Alone
         ensures problem { (⟦<Alone as Trader>⟧.seat result).problem ≡ log.problem }
         ensures told { (⟦<Alone as Trader>⟧.seat result).told ≡ log.entries }
+        ensures own { (⟦<Alone as Trader>⟧.seat result).own ≡ [] }
         ensures number { (⟦<Alone as Trader>⟧.seat result).number ≡ None }
         ensures trades { (⟦<Alone as Trader>⟧.seat result).trades ≡ 2 ^ 59 }
     {
+        let begun = log.entries().len() as u64;
         Alone {
             log,
+            begun,
             left: MAX_TRADES,
         }
     }
@@ -83,6 +93,7 @@ impl Trader for Alone {
     ghost seat = { λ a. record {
       problem = a.log.problem;
       told = a.log.entries;
+      own = drop a.begun a.log.entries;
       number = None;
       trades = a.left;
     } };

@@ -1,14 +1,15 @@
 -- What a trade does to the seat of a worker, and what the search then knows.
-use Rattle.std.proofs.Common.{◌≡◌, List, ◌++◌, sym, ap, subst, ◌∙◌}
+use Rattle.std.proofs.Common.{◌≡◌, ℕ, List, ◌++◌, length, sym, ap, subst, ◌∙◌}
 use Rattle.std.specs.Prelude.{Result, Ok, Err, OnOk}
 use Rattle.cgm_atom.specs.declared.entries.Entry.{Entry}
 use Rattle.cgm_atom.specs.Acceptance.{IsAccepted}
 use Rattle.cgm_atom.specs.Instance.{Instance}
 use Rattle.cgm_log.specs.declared.batches.Batch.{Batch}
 use Rattle.cgm_log.specs.declared.batches.Traded.{Traded}
-use Rattle.cgm_log.specs.Landing.{with_landed}
-use Rattle.cgm_log.specs.Seats.{Seat}
-use Rattle.cgm_log.specs.Trading.{news_of, with_batch}
+use Rattle.cgm_log.specs.Landing.{IsProperBatch, with_landed}
+use Rattle.cgm_log.specs.Seats.{KeepsOwn, Seat}
+use Rattle.cgm_log.specs.Trading.{landed_by, news_of, with_batch, with_news}
+use Rattle.cgm_log.proofs.Makers.{made_landed, made_same}
 use Rattle.cgm_search.specs.declared.searches.Search.{Search}
 use Rattle.cgm_search.specs.Knowing.{seen}
 use Rattle.cgm_search.specs.Searching.{IsTradedIn, Sits}
@@ -32,3 +33,12 @@ accepted_after s seat seat' t b copy sits same told c h =
     rw c
     (subst (λ (log : List Entry). IsAccepted s.known.problem log) (told ∙ with_batch_known s seat t b sits)
     (subst (λ (p : Instance). IsAccepted p seat'.told) (same ∙ sits.same_problem) h))
+
+-- ---- what it landed
+
+pub own_landed : (p : Instance) (seen : List Entry) (seat seat' : Seat) (t : Traded) (b : Batch) (worker : ℕ) → IsProperBatch p seen b → b.by ≡ worker → seat'.own ≡ seat.own ++ landed_by seat t b → KeepsOwn worker seat seat'
+own_landed p seen seat seat' t b worker proper by grown n e h =
+    made_landed n seat.problem (with_news seat t) b (length seen) seat.own seat'.own proper.lemmas (by ∙ e) grown h
+
+pub own_same : (seat seat' : Seat) (worker : ℕ) → seat'.own ≡ seat.own → KeepsOwn worker seat seat'
+own_same seat seat' worker same n e h = made_same n seat.own seat'.own same h

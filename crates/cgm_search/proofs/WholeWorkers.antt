@@ -1,21 +1,24 @@
 -- What the fields of a worker keep, and what holds of the worker that they are.
-use Rattle.std.proofs.Common.{◌≡◌, ◌+◌, ◌*◌, ◌^◌, ◌<◌, ◌≤◌, refl, sym, ap, subst, ◌∙◌, arith}
-use Rattle.std.specs.Prelude.{◌≢◌, ◌↔◌}
+use Rattle.std.proofs.Common.{◌≡◌, ◌+◌, ◌*◌, ◌^◌, ◌<◌, ◌≤◌, [], refl, sym, ap, subst, ◌∙◌, arith}
+use Rattle.std.specs.Prelude.{◌≢◌, ◌↔◌, IfSome}
 use Rattle.std.specs.declared.option.Option.{Option}
 use Rattle.std.specs.declared.option.Option.TheVariants.{Some, None}
 use Rattle.cgm_atom.specs.Acceptance.{IsClosed}
 use Rattle.cgm_atom.specs.Instance.{Instance}
 use Rattle.cgm_log.specs.Seats.{Seat}
+use Rattle.cgm_log.proofs.Makers.{made_none}
 use Rattle.cgm_search.specs.declared.plans.Plan.{Plan}
 use Rattle.cgm_search.specs.declared.plans.Stopped.{Stopped}
 use Rattle.cgm_search.specs.declared.plans.Stopped.TheVariants as stopped
 use Rattle.cgm_search.specs.declared.searches.Search.{Search}
+use Rattle.cgm_search.specs.Knowing.{seen}
 use Rattle.cgm_search.specs.Searching.{IsKeptSearch, IsReady, IsTrailOf, Sits}
 use Rattle.cgm_search.specs.Spending.{IsSpentTrail}
-use Rattle.cgm_search.specs.WorkerParts.{IsEndedAs, IsWhole, worker_state}
+use Rattle.cgm_search.specs.WorkerParts.{IsEndedAs, IsWhole, IsWholeWorker, worker_state}
 use Rattle.cgm_search.specs.Working.{IsAt, IsSearching, IsWorker, WorkerState}
 use Rattle.cgm_search.proofs.UsedBounds.{all_low}
 use Rattle.cgm_trail.specs.Rank.{IsTrail, slack}
+use Rattle.cgm_trail.specs.TrailState.{trail_started}
 use Rattle.cgm_trail.proofs.Ranking.{moves_are_few}
 
 -- ---- the worker
@@ -45,8 +48,32 @@ at_end s seat home (Some stopped.Final) h = h
 at_end s seat home (Some stopped.Spent) h = (searching s seat home (Some stopped.Spent) h.0 h.1, h.2)
 at_end s seat home (Some stopped.Memory) h = tt
 
-pub worker_of : {H : Type 0} (s : Search) (seat : Seat) (home : H) (ended : Option Stopped) → IsWhole s seat ended → IsWorker (worker_state seat home s ended)
-worker_of s seat home ended h = record { plan = h.plan; trail = h.trail; at = at_end s seat home ended h.ended_as }
+pub worker_of : {H : Type 0} (s : Search) (seat : Seat) (home : H) (ended : Option Stopped) → IsWholeWorker s seat ended → IsWorker (worker_state seat home s ended)
+worker_of s seat home ended h = record {
+  plan = h.whole.plan;
+  trail = h.whole.trail;
+  own = h.own;
+  at = at_end s seat home ended h.whole.ended_as;
+}
+
+-- a new worker, whose trader was told nothing and landed nothing
+pub whole_new : (s : Search) (seat : Seat) (p : Instance) → IsReady s → s.known.problem ≡ p → seat.problem ≡ p → seat.told ≡ [] → seen s.known ≡ [] → seat.own ≡ [] → s.trail ≡ trail_started p → s.plan.budget + 2 ≤ seat.trades → IfSome seat.number (λ n. s.worker ≡ n) → IsWholeWorker s seat None
+whole_new s seat p h known same told nothing none trail enough number =
+    let here : seat.problem ≡ s.known.problem = same ∙ sym known in
+    record {
+      whole = record {
+        plan = h.plan;
+        trail = rw here h.trail;
+        ended_as = record {
+          ready = h;
+          sits = record { same_problem = here; same_entries = told ∙ sym nothing; own_number = number };
+          nothing = told;
+          trail = trail ∙ ap (λ (x : Instance). trail_started x) (sym same);
+          enough = enough;
+        };
+      };
+      own = made_none s.worker seat.own none;
+    }
 
 -- ---- its end
 

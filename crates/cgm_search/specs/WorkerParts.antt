@@ -1,6 +1,7 @@
 -- The worker that the fields of a `Worker` and the seat of its trader give.
 use Rattle.std.specs.Prelude.{◌≡◌, ◌+◌, ◌≤◌, [], Option, Some, None}
 use Rattle.cgm_atom.specs.Acceptance.{IsClosed}
+use Rattle.cgm_log.specs.Makers.{AreMadeBy}
 use Rattle.cgm_log.specs.Seats.{Seat}
 use Rattle.cgm_search.specs.declared.plans.Stopped.{Stopped}
 use Rattle.cgm_search.specs.declared.plans.Stopped.TheVariants as stopped
@@ -37,8 +38,13 @@ IsEndedAs s seat (Some stopped.Final) = IsClosed seat.told
 IsEndedAs s seat (Some stopped.Spent) = IsReady s × Sits s seat × (s.trail.moves ≡ s.plan.budget)
 IsEndedAs s seat (Some stopped.Memory) = Unit {0}
 
--- what the fields keep
+-- what a run leaves of the fields
 pub record IsWhole (s : Search) (seat : Seat) (ended : Option Stopped) : Type 0 where
   pub plan : IsPlan s.plan
   pub trail : IsTrailOf seat.problem s.plan s.trail
   pub ended_as : IsEndedAs s seat ended
+
+-- what the fields keep
+pub record IsWholeWorker (s : Search) (seat : Seat) (ended : Option Stopped) : Type 0 where
+  pub whole : IsWhole s seat ended
+  pub own : AreMadeBy s.worker seat.own

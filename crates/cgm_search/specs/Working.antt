@@ -6,6 +6,7 @@ use Rattle.cgm_atom.specs.declared.constraints.Var.{Var}
 use Rattle.cgm_atom.specs.Instance.{var_count}
 use Rattle.cgm_atom.specs.LogState.{carried, state_of}
 use Rattle.cgm_clauses.specs.StoreState.{StoreState}
+use Rattle.cgm_log.specs.Makers.{AreMadeBy}
 use Rattle.cgm_log.specs.Seats.{Seat}
 use Rattle.cgm_search.specs.declared.plans.Plan.{Plan}
 use Rattle.cgm_search.specs.declared.plans.Stopped.{Stopped}
@@ -68,4 +69,6 @@ IsAt w (Some stopped.Memory) = Unit {0}
 pub record IsWorker {H : Type 0} (w : WorkerState H) : Type 0 where
   pub plan : IsPlan w.plan
   pub trail : IsTrailOf w.seat.problem w.plan w.trail
+  -- each entry that it landed has its number
+  pub own : AreMadeBy w.worker w.seat.own
   pub at : IsAt w w.ended

@@ -4,7 +4,7 @@ ghost use Rattle.cgm_atom.specs.declared.constraints.Atom.{Atom};
 ghost use Rattle.cgm_atom.specs.ClauseAtoms.{AreKnown};
 ghost use Rattle.cgm_atom.specs.Instance.{var_count};
 ghost use Rattle.cgm_learn.specs.Learning.{IsUnitAfterCut};
-ghost use Rattle.cgm_log.specs.Seats.{KeepsSeat};
+ghost use Rattle.cgm_log.specs.Seats.{KeepsOwn, KeepsSeat};
 ghost use Rattle.cgm_search.specs.Knowing.{IsKnowledge, seen};
 ghost use Rattle.cgm_search.specs.Resolving.{IsGivenByLast, IsTaken, IsTradable};
 ghost use Rattle.cgm_search.specs.Searching.{IsConflictOf, IsKeptSearch, IsReady, IsTradedIn, IsUnit, Sits, before_trade, need};
@@ -37,6 +37,7 @@ impl Search {
             (IsUnit self.old self.new (before_trade (T.seat trader.old)) (T.seat trader.new)) }
         ensures kept { IsKeptSearch self.old self.new }
         ensures seat { KeepsSeat 1 (T.seat trader.old) (T.seat trader.new) }
+        ensures own { KeepsOwn self.old.worker (T.seat trader.old) (T.seat trader.new) }
         ensures home { T.home trader.new ≡ T.home trader.old }
         ensures unspent { self.old.trail.moves ≡ self.old.plan.budget
             → (T.seat trader.new).trades ≡ (T.seat trader.old).trades }
@@ -63,6 +64,7 @@ impl Search {
             (IsUnit self.old self.new (before_trade (T.seat trader.old)) (T.seat trader.new)) }
         ensures kept { IsKeptSearch self.old self.new }
         ensures seat { KeepsSeat 1 (T.seat trader.old) (T.seat trader.new) }
+        ensures own { KeepsOwn self.old.worker (T.seat trader.old) (T.seat trader.new) }
         ensures home { T.home trader.new ≡ T.home trader.old }
     {
         let lemma = self.learn(conflict)?;
@@ -122,6 +124,7 @@ impl Search {
         ensures once { OnOk result ((T.seat trader.new).trades + 1 ≡ (T.seat trader.old).trades) }
         ensures traded { IsTradedIn self.old self.new }
         ensures seat { KeepsSeat 1 (T.seat trader.old) (T.seat trader.new) }
+        ensures own { KeepsOwn self.old.worker (T.seat trader.old) (T.seat trader.new) }
         ensures home { T.home trader.new ≡ T.home trader.old }
     {
         let batch = lemma_batch(self.alloc, self.worker, lemma)?;

@@ -2,7 +2,7 @@
 ghost use Rattle.std.specs.Prelude.{◌≡◌, ◌+◌, ◌^◌, ◌<◌, ◌≤◌, length, OnOk};
 ghost use Rattle.cgm_atom.specs.Acceptance.{IsAccepted};
 ghost use Rattle.cgm_log.specs.Landing.{IsProperBatch};
-ghost use Rattle.cgm_log.specs.Seats.{KeepsSeat};
+ghost use Rattle.cgm_log.specs.Seats.{KeepsOwn, KeepsSeat};
 ghost use Rattle.cgm_log.specs.Trading.{IsAnswer};
 ghost use Rattle.cgm_search.specs.Knowing.{IsKnowledge, seen};
 ghost use Rattle.cgm_search.specs.Searching.{IsTradedIn, Sits};
@@ -36,6 +36,7 @@ impl Search {
         ensures once { OnOk result ((T.seat trader.new).trades + 1 ≡ (T.seat trader.old).trades) }
         ensures traded { IsTradedIn self.old self.new }
         ensures seat { KeepsSeat 1 (T.seat trader.old) (T.seat trader.new) }
+        ensures own { KeepsOwn self.old.worker (T.seat trader.old) (T.seat trader.new) }
         ensures home { T.home trader.new ≡ T.home trader.old }
     {
         let copy = copy_batch(self.alloc, &batch)?;

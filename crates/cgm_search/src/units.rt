@@ -1,6 +1,6 @@
 //! One unit of a search.
 ghost use Rattle.std.specs.Prelude.{◌≡◌, ◌+◌, ◌<◌, ◌≤◌, true, IfOk, OnOk};
-ghost use Rattle.cgm_log.specs.Seats.{KeepsSeat};
+ghost use Rattle.cgm_log.specs.Seats.{KeepsOwn, KeepsSeat};
 ghost use Rattle.cgm_search.specs.Knowing.{IsKnowledge};
 ghost use Rattle.cgm_search.specs.Searching.{IsKeptSearch, IsReady, IsTradedIn, IsUnit, Sits, need};
 ghost use Rattle.cgm_search.specs.Stepping.{HasFalseClause, IsCutOutcome, IsOneMoveMore, IsLooked, IsOffered};
@@ -34,6 +34,7 @@ impl Search {
             (IsUnit self.old self.new (T.seat trader.old) (T.seat trader.new)) }
         ensures kept { IsKeptSearch self.old self.new }
         ensures seat { KeepsSeat (need self.old) (T.seat trader.old) (T.seat trader.new) }
+        ensures own { KeepsOwn self.old.worker (T.seat trader.old) (T.seat trader.new) }
         ensures home { T.home trader.new ≡ T.home trader.old }
     {
         if self.is_restart_due() {
@@ -92,6 +93,7 @@ impl Search {
             (IsUnit self.old self.new (T.seat trader.old) (T.seat trader.new)) }
         ensures kept { IsKeptSearch self.old self.new }
         ensures seat { KeepsSeat (need self.old) (T.seat trader.old) (T.seat trader.new) }
+        ensures own { KeepsOwn self.old.worker (T.seat trader.old) (T.seat trader.new) }
         ensures home { T.home trader.new ≡ T.home trader.old }
     {
         self.trail.recall_trail();
@@ -133,6 +135,7 @@ impl Search {
             (IsUnit self.old self.new (T.seat trader.old) (T.seat trader.new)) }
         ensures kept { IsKeptSearch self.old self.new }
         ensures seat { KeepsSeat (need self.old) (T.seat trader.old) (T.seat trader.new) }
+        ensures own { KeepsOwn self.old.worker (T.seat trader.old) (T.seat trader.new) }
         ensures home { T.home trader.new ≡ T.home trader.old }
     {
         self.offer(trader, gate)?;
@@ -174,6 +177,7 @@ impl Search {
         ensures once { OnOk result ((T.seat trader.new).trades + 1 ≡ (T.seat trader.old).trades) }
         ensures traded { IsTradedIn self.old self.new }
         ensures seat { KeepsSeat 1 (T.seat trader.old) (T.seat trader.new) }
+        ensures own { KeepsOwn self.old.worker (T.seat trader.old) (T.seat trader.new) }
         ensures home { T.home trader.new ≡ T.home trader.old }
     {
         self.trail.recall_trail();
@@ -195,6 +199,7 @@ impl Search {
         ensures once { OnOk result ((T.seat trader.new).trades + 1 ≡ (T.seat trader.old).trades) }
         ensures traded { IsTradedIn self.old self.new }
         ensures seat { KeepsSeat 1 (T.seat trader.old) (T.seat trader.new) }
+        ensures own { KeepsOwn self.old.worker (T.seat trader.old) (T.seat trader.new) }
         ensures home { T.home trader.new ≡ T.home trader.old }
     {
         let batch = empty_batch(self.alloc, self.worker);

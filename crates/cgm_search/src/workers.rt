@@ -2,7 +2,7 @@
 ghost use Rattle.std.specs.Prelude.{◌≡◌, ◌≢◌, ◌+◌, ◌*◌, ◌^◌, ◌<◌, ◌≤◌, ◌↔◌, [], None, Some, IfOk, IfErr, IfSome};
 ghost use Rattle.cgm_atom.specs.Acceptance.{IsClosed};
 ghost use Rattle.cgm_atom.specs.Limits.{max_workers};
-ghost use Rattle.cgm_log.specs.Seats.{KeepsSeat};
+ghost use Rattle.cgm_log.specs.Seats.{KeepsOwn, KeepsSeat};
 ghost use Rattle.cgm_search.specs.Searching.{IsKeptSearch, IsPlan, IsReady, Sits, need};
 ghost use Rattle.cgm_search.specs.Spending.{IsSpentTrail};
 ghost use Rattle.cgm_search.specs.WorkerParts.{IsFresh, IsWhole};
@@ -28,6 +28,8 @@ use std::marker::Model;
 /// it has seen, and every lemma of at most eight atoms that it has seen. No lemma that it uses has
 /// a bound above the ordinal of that best. The lists that it decides by are in the order that its
 /// own number and the seed draw. Its number is its trader's, where that has one.
+///
+/// Each entry that it landed has its own number, however its run ended.
 #[derive(Drop)]
 pub struct Worker<T: Trader> {
     trader: T,
@@ -40,19 +42,19 @@ impl<T: Trader> Model for Worker<T> {
 
     ghost Value = { WorkerState T.Home };
 
-    ghost use Rattle.cgm_search.specs.WorkerParts.{IsWhole, worker_state};
+    ghost use Rattle.cgm_search.specs.WorkerParts.{IsWholeWorker, worker_state};
 
     ghost view = { λ w. worker_state (T.seat w.trader) (T.home w.trader) w.search w.ended };
 
-    ghost invariant = { λ w. IsWhole w.search (T.seat w.trader) w.ended };
+    ghost invariant = { λ w. IsWholeWorker w.search (T.seat w.trader) w.ended };
 }
 
 impl<T: Trader> Worker<T> {
     /// A worker with this number over the problem. For want of memory the trader comes back.
     ///
-    /// Conditions: the trader's problem is `problem`; it was told nothing and may still make two
-    /// trades more than the budget says; the number is below 16, and the trader's where that has
-    /// one; the numbers of the plan are within their limits.
+    /// Conditions: the trader's problem is `problem`; it was told nothing, landed nothing, and may
+    /// still make two trades more than the budget says; the number is below 16, and the trader's
+    /// where that has one; the numbers of the plan are within their limits.
     pub fn new(
         alloc: Global,
         problem: &Problem,
@@ -62,6 +64,7 @@ impl<T: Trader> Worker<T> {
     ) -> Result<Worker<T>, NoWorker<T>>
         requires problem { (T.seat trader).problem ≡ problem.now }
         requires told { (T.seat trader).told ≡ [] }
+        requires own { (T.seat trader).own ≡ [] }
         requires trades { plan.budget + 2 ≤ (T.seat trader).trades }
         requires worker { worker < max_workers }
         requires number { IfSome (T.seat trader).number (λ n. worker ≡ n) }
@@ -167,6 +170,7 @@ impl<T: Trader> Worker<T> {
     pub fn into_parts(self) -> (T, Trail)
         ensures problem { (T.seat result.0).problem ≡ self.seat.problem }
         ensures told { (T.seat result.0).told ≡ self.seat.told }
+        ensures own { (T.seat result.0).own ≡ self.seat.own }
         ensures number { (T.seat result.0).number ≡ self.seat.number }
         ensures home { T.home result.0 ≡ self.home }
         ensures trades { (T.seat result.0).trades ≡ self.seat.trades }
@@ -203,6 +207,7 @@ impl Search {
         ensures kept { IsKeptSearch self.old self.new }
         ensures seat { KeepsSeat (self.old.plan.budget + 2)
             (T.seat trader.old) (T.seat trader.new) }
+        ensures own { KeepsOwn self.old.worker (T.seat trader.old) (T.seat trader.new) }
         ensures home { T.home trader.new ≡ T.home trader.old }
     {
         gate.arrive(self.worker, RUN_STARTS);
@@ -220,6 +225,7 @@ impl Search {
         ensures kept { IsKeptSearch self.old self.new }
         ensures seat { KeepsSeat (self.old.plan.budget + 2)
             (T.seat trader.old) (T.seat trader.new) }
+        ensures own { KeepsOwn self.old.worker (T.seat trader.old) (T.seat trader.new) }
         ensures home { T.home trader.new ≡ T.home trader.old }
     {
         match self.look(trader, gate) {
@@ -237,6 +243,7 @@ impl Search {
         ensures whole { IsWhole self.new (T.seat trader.new) (Some result) }
         ensures kept { IsKeptSearch self.old self.new }
         ensures seat { KeepsSeat (need self.old) (T.seat trader.old) (T.seat trader.new) }
+        ensures own { KeepsOwn self.old.worker (T.seat trader.old) (T.seat trader.new) }
         ensures home { T.home trader.new ≡ T.home trader.old }
     {
         loop {

@@ -16,9 +16,10 @@ use Rattle.atomic_table.proofs.Lists.{set_here}
 use Rattle.cgm_atom.specs.declared.entries.Entry.{Entry}
 use Rattle.cgm_atom.specs.Acceptance.{IsAccepted}
 use Rattle.cgm_log.specs.LogBook.{LogBook}
+use Rattle.cgm_log.specs.Makers.{maker}
 use Rattle.cgm_turn.specs.declared.views.Joined.{Joined}
 use Rattle.cgm_turn.specs.declared.views.View.{View}
-use Rattle.cgm_turn.specs.Entries.{AreOfLog, BeginsWith, made_by, maker}
+use Rattle.cgm_turn.specs.Entries.{AreOfLog, BeginsWith, made_by}
 use Rattle.cgm_turn.specs.Plays.{HandsBack, HandsOn, count_held, handed_back, handed_on, put_back}
 use Rattle.cgm_turn.specs.Rule.{IsAway, IsLive, IsServed, IsTurnTable, KnowsTurn, count_ticket, living, tickets_of}
 use Rattle.cgm_turn.specs.Views.{account_with}

@@ -11,9 +11,10 @@ use Rattle.std.specs.List.{All}
 use Rattle.atomic_table.proofs.Lists.{set_else, set_here}
 use Rattle.cgm_atom.specs.declared.entries.Entry.{Entry}
 use Rattle.cgm_log.specs.LogBook.{LogBook}
+use Rattle.cgm_log.specs.Makers.{maker}
 use Rattle.cgm_turn.specs.declared.views.Joined.{Joined}
 use Rattle.cgm_turn.specs.declared.views.View.{View}
-use Rattle.cgm_turn.specs.Entries.{BeginsWith, made_by, maker}
+use Rattle.cgm_turn.specs.Entries.{BeginsWith, made_by}
 use Rattle.cgm_turn.specs.Rule.{AreTicketsApart, IsAccountOf, IsLive, AreTradesCounted, IsSpent, BySpent, Leads, trades_of, total_of, members_of}
 use Rattle.cgm_turn.proofs.Ledgers.{begins_longer, each_after, others_add_none, total-same, within}
 

@@ -7,7 +7,8 @@ use Rattle.std.specs.List.{All}
 use Rattle.std.proofs.lemmas.List.Elements.{All-head, All-tail, filter-append}
 use Rattle.atomic_table.proofs.Lists.{at_set}
 use Rattle.cgm_atom.specs.declared.entries.Entry.{Entry}
-use Rattle.cgm_turn.specs.Entries.{BeginsWith, made_by, maker}
+use Rattle.cgm_log.specs.Makers.{maker}
+use Rattle.cgm_turn.specs.Entries.{BeginsWith, made_by}
 use Rattle.cgm_turn.specs.Rule.{total_of}
 
 -- ---- one place of a list

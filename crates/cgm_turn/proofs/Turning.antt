@@ -4,22 +4,17 @@ use Rattle.std.specs.Prelude.{ℤ, if◌then◌else◌}
 use Rattle.std.specs.declared.option.Option.{Option}
 use Rattle.std.specs.declared.option.Option.TheVariants.{Some, None}
 use Rattle.std.specs.List.{All}
-use Rattle.std.proofs.lemmas.List.Elements.{All-append, All-cons, All-head, All-nil, All-tail}
 use Rattle.std.proofs.Math.Seq.{take-append_seam}
 use Rattle.atomic_table.specs.Table.{Me, Step}
 use Rattle.cgm_atom.specs.Acceptance.{IsAccepted}
 use Rattle.cgm_atom.specs.declared.entries.Entry.{Entry}
-use Rattle.cgm_atom.specs.declared.entries.Entry.TheVariants.{Best, Lemma}
 use Rattle.cgm_atom.specs.Instance.{Instance}
-use Rattle.cgm_atom.specs.LogState.{LogState, last_best, state_of}
-use Rattle.cgm_atom.specs.Placing.{all_placed}
 use Rattle.cgm_log.specs.declared.batches.Batch.{Batch}
-use Rattle.cgm_log.specs.declared.batches.Fate.{Fate}
-use Rattle.cgm_log.specs.declared.batches.Fate.TheVariants.{Behind, Kept}
-use Rattle.cgm_log.specs.Landing.{IsLemmaOf, IsProperBatch, fate_after, kept_candidate, kept_entry, landed, with_landed}
+use Rattle.cgm_log.specs.Landing.{IsProperBatch, landed, with_landed}
 use Rattle.cgm_log.specs.LogBook.{LogBook}
+use Rattle.cgm_log.specs.Makers.{maker}
+use Rattle.cgm_log.proofs.Makers.{landed_own}
 use Rattle.cgm_turn.specs.declared.views.View.{View}
-use Rattle.cgm_turn.specs.Entries.{maker}
 use Rattle.cgm_turn.specs.Plays.{TurnComesAt, IsFoundBy, holding, put_back}
 use Rattle.cgm_turn.specs.Turns.{IsInTurn, IsRested, TurnCame}
 use Rattle.cgm_turn.specs.Views.{HasTurn}
@@ -45,32 +40,7 @@ proper_found v log seen b found e proper =
     subst (λ (p : Instance). IsProperBatch p (take seen log.entries) b) found.problem
     (subst (λ (xs : List Entry). IsProperBatch v.problem xs b) (sym front) proper)
 
--- ---- what lands is the worker's own
-
-own_lemmas : (by n k : ℕ) (lemmas : List Entry) → All (IsLemmaOf by k) lemmas → All (λ e. maker e ≡ by) (all_placed n lemmas)
-own_lemmas by n k [] h = All-nil (λ e. maker e ≡ by)
-own_lemmas by n k (Best other values ∷ lemmas) h = absurd (All-head (IsLemmaOf by k) (Best other values) lemmas h)
-own_lemmas by n k (Lemma other clause hints bound ∷ lemmas) h =
-    let first : IsLemmaOf by k (Lemma other clause hints bound) = All-head (IsLemmaOf by k) (Lemma other clause hints bound) lemmas h in
-    All-cons (λ e. maker e ≡ by) _ (all_placed n lemmas) first.0 (own_lemmas by n k lemmas (All-tail (IsLemmaOf by k) (Lemma other clause hints bound) lemmas h))
-
-own_kept : (by : ℕ) (values : List ℤ) (fate : Fate) → All (λ e. maker e ≡ by) (kept_entry by values fate)
-own_kept by values (Kept ordinal) = All-cons (λ e. maker e ≡ by) (Best by values) [] refl (All-nil (λ e. maker e ≡ by))
-own_kept by values (Behind ordinal best) = All-nil (λ e. maker e ≡ by)
-
-own_candidate : (p : Instance) (s : LogState) (by : ℕ) (candidate : Option (List ℤ)) → All (λ e. maker e ≡ by) (kept_candidate p s by candidate)
-own_candidate p s by None = All-nil (λ e. maker e ≡ by)
-own_candidate p s by (Some values) = own_kept by values (fate_after p (length s.bests) (last_best s) values)
-
-by_closed : (P : Entry → Type 0) (t : Bool) (xs : List Entry) → All P xs → All P (if t then [] else xs)
-by_closed P true xs h = All-nil P
-by_closed P false xs h = h
-
-pub landed_own : (p : Instance) (seen log : List Entry) (b : Batch) → IsProperBatch p seen b → All (λ e. maker e ≡ b.by) (landed p log b)
-landed_own p seen log b proper =
-    by_closed (λ e. maker e ≡ b.by) (state_of log).closed _
-    (All-append (λ e. maker e ≡ b.by) (all_placed (length log) b.lemmas) (kept_candidate p (state_of log) b.by b.candidate)
-    (own_lemmas b.by (length log) (length seen) b.lemmas proper.lemmas) (own_candidate p (state_of log) b.by b.candidate))
+-- ---- the log with what landed, which is the worker's own
 
 pub has_turn : (v : View) (before log : LogBook) (seen : List Entry) (b : Batch) → v.held ≡ Some before.entries → v.problem ≡ before.problem → b.by ≡ v.number → IsProperBatch before.problem seen b → log.entries ≡ with_landed before.problem before.entries b → log.problem ≡ before.problem
     → HasTurn (v, (0, None) ∷ []) log
@@ -81,7 +51,7 @@ has_turn v before log seen b held problem number proper ok same = record {
   held = held;
   only = refl;
   grown = ok;
-  own = subst (λ (n : ℕ). All (λ e. maker e ≡ n) (landed before.problem before.entries b)) number (landed_own before.problem seen before.entries b proper);
+  own = subst (λ (n : ℕ). All (λ e. maker e ≡ n) (landed before.problem before.entries b)) number (landed_own before.problem before.entries b (length seen) proper.lemmas);
   problem = same ∙ sym problem;
 }
 

@@ -2,13 +2,8 @@
 use Rattle.std.specs.Prelude.{◌≡◌, ℕ, List, [], ◌∷◌, ◌++◌, ◌==◌}
 use Rattle.std.specs.List.{filter}
 use Rattle.cgm_atom.specs.declared.entries.Entry.{Entry}
-use Rattle.cgm_atom.specs.declared.entries.Entry.TheVariants.{Best, Lemma}
+use Rattle.cgm_log.specs.Makers.{maker}
 use Rattle.cgm_turn.specs.declared.views.Joined.{Joined}
-
--- the worker that made an entry
-abbrev pub maker : Entry → ℕ
-maker (Best by values) = by
-maker (Lemma by clause hints bound) = by
 
 -- the entries of worker w, in their order
 abbrev pub made_by : ℕ → List Entry → List Entry

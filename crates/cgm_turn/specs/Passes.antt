@@ -43,7 +43,8 @@ IsPassOf turn pass = (pass.table ≡ turn.table) × (pass.problem ≡ turn.probl
 
 -- the seat of a pass, as a trader's
 abbrev pub seat_of : PassState → Seat
-seat_of pass = record { problem = pass.problem; told = pass.told; number = Some pass.number; trades = 2 ^ 59 - pass.trades }
+seat_of pass =
+    record { problem = pass.problem; told = pass.told; own = pass.own; number = Some pass.number; trades = 2 ^ 59 - pass.trades }
 
 -- what a trader of a pass keeps through its trades
 abbrev pub home_of : PassState → PassState

@@ -6,9 +6,10 @@ use Rattle.atomic_table.specs.Table.{Me}
 use Rattle.cgm_atom.specs.declared.entries.Entry.{Entry}
 use Rattle.cgm_atom.specs.Instance.{Instance}
 use Rattle.cgm_log.specs.LogBook.{LogBook}
+use Rattle.cgm_log.specs.Makers.{maker}
 use Rattle.cgm_turn.specs.declared.views.Joined.{Joined}
 use Rattle.cgm_turn.specs.declared.views.View.{View}
-use Rattle.cgm_turn.specs.Entries.{AreOfLog, BeginsWith, made_by, maker}
+use Rattle.cgm_turn.specs.Entries.{AreOfLog, BeginsWith, made_by}
 
 -- the first pass, before all splits
 abbrev pub newcomer : Instance → View

@@ -3,7 +3,7 @@ use Rattle.cgm_log.specs.Trading.{news_of}
 use Rattle.cgm_search.specs.declared.searches.Search.{Search}
 use Rattle.cgm_search.specs.Knowing.{seen}
 use Rattle.cgm_search.proofs.LandedBatches.{landed_on_ok}
-use Rattle.cgm_search.proofs.Seats.{accepted_after, told_on_ok}
+use Rattle.cgm_search.proofs.Seats.{accepted_after, own_landed, own_same, told_on_ok}
 use Rattle.cgm_search.proofs.searches.Search.exchange.Goals as goal
 
 pub returns-in-Ok-clause-told : goal.returns-in-Ok-clause-told
@@ -35,3 +35,12 @@ pub take_up-requires-clause-accepted : goal.take_up-requires-clause-accepted
 take_up-requires-clause-accepted g c =
     accepted_after c.args.self.now (g.T.Trader.seat c.args.trader.now) (g.T.Trader.seat c.trade.new.self) c.in-Ok.traded c.args.batch c.in_ok-copy.copy
     c.requires.seat c.trade.ensures.problem c.in-Ok.ensures.landed c.in_ok-copy.ensures c.seen-count.ensures.accepted
+
+pub returns-in-Err-clause-own : goal.returns-in-Err-clause-own
+returns-in-Err-clause-own g c =
+    own_same (g.T.Trader.seat c.args.trader.now) (g.T.Trader.seat c.trade.new.self) c.args.self.now.worker c.in-Err.ensures.own_kept
+
+pub returns-in-Ok-clause-own : goal.returns-in-Ok-clause-own
+returns-in-Ok-clause-own g c =
+    own_landed c.args.self.now.known.problem (seen c.args.self.now.known) (g.T.Trader.seat c.args.trader.now) (g.T.Trader.seat c.trade.new.self) c.in-Ok.traded c.args.batch c.args.self.now.worker
+    c.requires.proper c.requires.own c.in-Ok.ensures.own

@@ -1,6 +1,6 @@
 use Rattle.std.proofs.Common.{◌≡◌, ◌+◌, ◌-◌, ◌≤◌}
 use Rattle.cgm_search.specs.Searching.{IsKeptSearch, IsReady, Sits, need}
-use Rattle.cgm_log.specs.Seats.{KeepsSeat}
+use Rattle.cgm_log.specs.Seats.{KeepsOwn, KeepsSeat}
 use Rattle.cgm_search.proofs.searches.Search.step_all.Given as goal
 
 abbrev pub invariant-loop-stopped : goal.invariant-loop-stopped
@@ -11,6 +11,7 @@ invariant-loop-stopped g l = record {
   few : need l.self + (g.T.Trader.seat l.fn.trader).trades ≤ need l.fn.self + (g.T.Trader.seat l.trader).trades;
   kept : IsKeptSearch l.fn.self l.self;
   kept_seat : KeepsSeat (need l.fn.self) (g.T.Trader.seat l.fn.trader) (g.T.Trader.seat l.trader);
+  own : KeepsOwn l.fn.self.worker (g.T.Trader.seat l.fn.trader) (g.T.Trader.seat l.trader);
   home : g.T.Trader.home l.trader ≡ g.T.Trader.home l.fn.trader;
 }
 

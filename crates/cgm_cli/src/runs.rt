@@ -2,7 +2,7 @@
 ghost use Rattle.std.specs.Prelude.{◌≡◌, length, map};
 ghost use Rattle.std.specs.String.{string_bytes};
 ghost use Rattle.cgm_model.specs.Model.{lists_of};
-ghost use Rattle.cgm_cli.specs.CommandLine.{as_asked, command_for, one_worker, with_workers};
+ghost use Rattle.cgm_cli.specs.CommandLine.{as_asked, command_for, with_workers};
 ghost use Rattle.cgm_cli.specs.Commands.{HasPlan, told_by};
 ghost use Rattle.cgm_cli.specs.Effects.{world};
 ghost use Rattle.cgm_cli.specs.Inputs.{HasProblemOutcome};
@@ -14,8 +14,8 @@ use crate::encoding::{encoding_of, print_encoding};
 use crate::input::{Input, discard, input_of_files};
 use crate::print::{tell, tell_memory};
 use crate::show::show;
-use crate::solve::solve;
-use crate::solvers::{ByCrew, ByOne, Solver};
+use crate::solve::solve_by_crew;
+use crate::solvers::ByCrew;
 use cgm_base::Status;
 use cgm_search::Gate;
 use cgm_shelf::{Shelf, Sink};
@@ -25,35 +25,35 @@ use std::marker::Sync;
 use std::sync::Wait;
 use std::thread::Threads;
 
-/// Does all that the program does for the words after its own name, and answers its status. It may
-/// wait for turns and for its workers, so its clauses hold if it returns, whatever the words ask
-/// for. The gate may hold a worker at some points, and touches no result.
+/// Does all that the program does for the words after its own name, and answers its status.
+/// With several workers it waits for turns and for its workers, so what follows holds if it returns.
+/// The gate may hold a worker at some points, and touches no result.
 ///
 /// `solve MODEL --earlier=FILE --cert=FILE --workers=N --budget=N --restarts=N --seed=N` prints a
-/// realization of the model than whose vector no realization's is less (`Done`), or that there is
-/// none (`Unrealizable`). It runs as many workers as are given, over one log, and four where no
-/// number is. `Open` comes only where each of them made as many moves as its budget says, and no
-/// more restarts than it may. Then `work` gains as many trails as workers, and the last best of an
-/// accepted log that isn't closed is printed, if any. Every lemma and every best on which a change
-/// of a trail rests stands in this log. So a budget that no trail can spend leaves nothing open.
-/// With `--cert` the named file holds exactly a certificate of entries that show the answer by
-/// themselves, for `Open` of that log; it is written before the report, and no other file changes.
+/// realization of the model than whose vector no realization's is less (`Done`), or that there is none
+/// (`Unrealizable`). It runs as many workers as are given, over one log, and four where no number is.
+/// `Open` comes only where each of them made as many moves as its budget says, and no more restarts
+/// than it may. Then `work` gains a trail for each, by number, and the last best of an accepted log
+/// that isn't closed is printed, if any. Every lemma and every best on which a change of a trail rests
+/// stands in this log. So a budget that no trail can spend leaves nothing open. With `--cert` the named file holds exactly a certificate of
+/// entries that show the answer by themselves, for `Open` of that log; it is written before the
+/// report, and no other file changes.
 /// `check MODEL CERT --earlier=FILE` reads such a certificate, whoever made it, and prints what it
 /// shows: a least realization (`Done`), that there is none (`Unrealizable`), or the best of a
-/// certificate that leaves open which realization is least (`Open`). `encode MODEL --earlier=FILE`
-/// prints the text of the model's problem (`Done`). Without the option nothing is known of an
-/// earlier realization. `show MODEL` prints the model's canonical text (`Done`).
+/// certificate that leaves open which realization is least (`Open`).
+/// `encode MODEL --earlier=FILE` prints the text of the model's problem (`Done`). Without the option
+/// nothing is known of an earlier realization. `show MODEL` prints the model's canonical text (`Done`).
 ///
 /// Every other status is a refusal with one fault line, unless the sink itself failed: `Usage` for
-/// other words, `Text` for a model text whose first fault is of a kind, `Earlier` for such an
-/// earlier text, `Limit` for a text that passes a limit first, `Certificate` for a certificate
-/// whose first faulty line or first entry that isn't accepted is told, `Read` and `Write` for
-/// faults that the shelf and the sink count, and `Memory`. `solve`, `check` and `encode` also
-/// answer `Limit` for a model with a comparison whose measure passes the row limit, at the line of
-/// the first such rule. The model is read and judged first, then the earlier text, then the row
-/// limit, then the certificate. A file changes only where `solve` writes a certificate, with the
-/// statuses `Done`, `Unrealizable`, `Open` and `Write`. `work` stays, but for `solve` with the
-/// statuses `Open`, `Write` and `Memory`: there it may have gained trails.
+/// other words, `Text` for a model text whose first fault is of a kind, `Earlier` for such an earlier
+/// text, `Limit` for a text that passes a limit first, `Certificate` for a certificate whose first
+/// faulty line or first entry that isn't accepted is told, `Read` and `Write` for faults that the shelf
+/// and the sink count, and `Memory`. `solve`, `check` and `encode` also answer `Limit` for a model with
+/// a comparison whose measure passes the row limit, at the line of the first such rule. The model is
+/// read and judged first, then the earlier text, then the row limit, then the certificate. A file
+/// changes only where `solve` writes a certificate, with the statuses `Done`, `Unrealizable`, `Open`
+/// and `Write`. `work` stays, but for `solve` with the statuses `Open`, `Write` and `Memory`: there it
+/// may have gained trails.
 pub fn run<R: Threads + Wait + Sync, F: Shelf, O: Sink, G: Gate>(
     rt: &R,
     alloc: Global,
@@ -74,40 +74,20 @@ pub fn run<R: Threads + Wait + Sync, F: Shelf, O: Sink, G: Gate>(
     run_words(&ByCrew { rt, alloc, gate }, words, shelf, out, work)
 }
 
-/// Does what `run` does, with one worker, whatever number of workers is given. It waits for nobody
-/// and always returns.
-pub fn run_quiet<F: Shelf, O: Sink>(
-    alloc: Global,
-    words: &[String],
-    shelf: &mut F,
-    out: &mut O,
-    work: &mut Work,
-) -> Status
-    ensures outcome { HasOutcome one_worker (map string_bytes words.now)
-        (world (F.state shelf.old) (O.state out.old) work.old)
-        (world (F.state shelf.new) (O.state out.new) work.new) result }
-    ensures files { AreFilesOf (command_for one_worker (map string_bytes words.now))
-        (F.state shelf.old) (F.state shelf.new) result }
-    ensures work { IsWorkOf (command_for one_worker (map string_bytes words.now)) work.old work.new
-        result }
-{
-    run_words(&ByOne { alloc }, words, shelf, out, work)
-}
-
 /// Does what the words ask for.
-fn run_words<S: Solver, F: Shelf, O: Sink>(
-    solver: &S,
+fn run_words<'a, R: Threads + Wait + Sync, G: Gate, F: Shelf, O: Sink>(
+    by: &ByCrew<'a, R, G>,
     words: &[String],
     shelf: &mut F,
     out: &mut O,
     work: &mut Work,
 ) -> Status
-    ensures { Runs (command_for (S.workers solver.now) (map string_bytes words.now))
+    ensures { Runs (command_for as_asked (map string_bytes words.now))
         (world (F.state shelf.old) (O.state out.old) work.old)
         (world (F.state shelf.new) (O.state out.new) work.new) result }
 {
-    match command_in(solver.alloc(), words) {
-        Ok(Some(command)) => run_command(solver, command, shelf, out, work),
+    match command_in(by.alloc, words) {
+        Ok(Some(command)) => run_command(by, command, shelf, out, work),
         Ok(None) => {
             tell(out, b"fault usage\n");
             Status::Usage
@@ -117,27 +97,21 @@ fn run_words<S: Solver, F: Shelf, O: Sink>(
 }
 
 /// Does what a command asks for: takes what its files give, else the status.
-fn run_command<S: Solver, F: Shelf, O: Sink>(
-    solver: &S,
+fn run_command<'a, R: Threads + Wait + Sync, G: Gate, F: Shelf, O: Sink>(
+    by: &ByCrew<'a, R, G>,
     command: Command<'_>,
     shelf: &mut F,
     out: &mut O,
     work: &mut Work,
 ) -> Status
     requires { HasPlan command }
-    ensures { Ends (with_workers (S.workers solver.now) (told_by command.entry))
+    ensures { Ends (with_workers as_asked (told_by command.entry))
         (world (F.state shelf.old) (O.state out.old) work.old)
         (world (F.state shelf.new) (O.state out.new) work.new) result }
 {
-    match input_of_files(
-        solver.alloc(),
-        command.model(),
-        command.earlier(),
-        shelf,
-        out,
-    ) {
+    match input_of_files(by.alloc, command.model(), command.earlier(), shelf, out) {
         Ok(input) => {
-            let status = run_on(solver, command, &input, shelf, out, work);
+            let status = run_on(by, command, &input, shelf, out, work);
             discard(input);
             status
         }
@@ -146,8 +120,8 @@ fn run_command<S: Solver, F: Shelf, O: Sink>(
 }
 
 /// Does what a command asks for with what its files gave.
-fn run_on<S: Solver, F: Shelf, O: Sink>(
-    solver: &S,
+fn run_on<'a, R: Threads + Wait + Sync, G: Gate, F: Shelf, O: Sink>(
+    by: &ByCrew<'a, R, G>,
     command: Command<'_>,
     input: &Input,
     shelf: &mut F,
@@ -157,19 +131,19 @@ fn run_on<S: Solver, F: Shelf, O: Sink>(
     requires lines { length input.now.reading.rule_lines.items
         ≡ length input.now.reading.model.rules }
     requires plan { HasPlan command }
-    ensures outcome { HasOwnOutcome (with_workers (S.workers solver.now) (told_by command.entry))
+    ensures outcome { HasOwnOutcome (with_workers as_asked (told_by command.entry))
         (world (F.state shelf.old) (O.state out.old) work.old)
         (world (F.state shelf.new) (O.state out.new) work.new)
         (lists_of input.now.reading.model) input.now.reading.rule_lines.items
         input.now.earlier.pairs result }
-    ensures files { LeavesFiles (with_workers (S.workers solver.now) (told_by command.entry))
+    ensures files { LeavesFiles (with_workers as_asked (told_by command.entry))
         (F.state shelf.old) (F.state shelf.new) result }
-    ensures work { LeavesWork (with_workers (S.workers solver.now) (told_by command.entry))
+    ensures work { LeavesWork (with_workers as_asked (told_by command.entry))
         work.old work.new result }
 {
-    let alloc = solver.alloc();
+    let alloc = by.alloc;
     match command {
-        Command::Solve(request) => solve(solver, request, input, shelf, out, work),
+        Command::Solve(request) => solve_by_crew(by, request, input, shelf, out, work),
         Command::Check(request) => check(alloc, input, request.cert, shelf, out),
         Command::Show { .. } => show(alloc, &input.reading.model, out),
         Command::Encode(_) => encode_input(alloc, input, out),
@@ -177,7 +151,7 @@ fn run_on<S: Solver, F: Shelf, O: Sink>(
 }
 
 /// Makes the problem of a model and an earlier realization, and prints its text.
-fn encode_input<O: Sink>(alloc: Global, input: &Input, out: &mut O) -> Status
+pub(crate) fn encode_input<O: Sink>(alloc: Global, input: &Input, out: &mut O) -> Status
     requires { length input.now.reading.rule_lines.items ≡ length input.now.reading.model.rules }
     ensures { HasProblemOutcome (HasEncodeOutcome (O.state out.old) (O.state out.new))
         (O.state out.old) (O.state out.new) (lists_of input.now.reading.model)

@@ -26,6 +26,7 @@ fn seat<'t, R: Wait>(
     requires own { IsPassOf turn.now pass }
     requires problem { turn.now.problem ≡ problem.now }
     requires told { pass.told ≡ [] }
+    requires landed { pass.own ≡ [] }
     requires trades { pass.trades ≡ 0 }
     requires number { pass.number < 16 }
     requires plan { IsPlan plan }

@@ -159,7 +159,10 @@ fn negation<'t>(
                 discard(part);
                 Err(FormStop::Form)
             }
-            Some(rest) => Ok((negated(alloc, part)?, rest)),
+            Some(rest) => match negated(alloc, part) {
+                Ok(tree) => Ok((tree, rest)),
+                Err(stop) => Err(stop),
+            },
         },
     }
 }
@@ -183,7 +186,10 @@ fn joined<'t>(
         Ok((first, after)) => {
             let mut others = Items::new(alloc);
             match push_parts(alloc, line, &mut others, after) {
-                Ok(rest) => Ok((join(alloc, joint, first, others)?, rest)),
+                Ok(rest) => match join(alloc, joint, first, others) {
+                    Ok(tree) => Ok((tree, rest)),
+                    Err(stop) => Err(stop),
+                },
                 Err(stop) => {
                     discard(first);
                     discard_each(others);
@@ -218,7 +224,10 @@ fn push_parts<'t>(
         match formula(alloc, line, rest) {
             Err(stop) => return Err(stop),
             Ok((next, after)) => {
-                push(parts, next)?;
+                match push(parts, next) {
+                    Ok(()) => {}
+                    Err(stop) => return Err(stop),
+                }
                 rest = after;
             }
         }
@@ -252,7 +261,10 @@ fn paired<'t>(
                     discard(other);
                     Err(FormStop::Form)
                 }
-                Some(rest) => Ok((pair(alloc, pairing, one, other)?, rest)),
+                Some(rest) => match pair(alloc, pairing, one, other) {
+                    Ok(tree) => Ok((tree, rest)),
+                    Err(stop) => Err(stop),
+                },
             },
         },
     }

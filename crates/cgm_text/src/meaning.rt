@@ -1,6 +1,7 @@
 //! What a written statement says after those before it.
-ghost use Rattle.std.specs.Prelude.{◌≡◌, [], ◌∷◌, map, All, IfOk, OnOk};
+ghost use Rattle.std.specs.Prelude.{◌≡◌, [], ◌∷◌, ◌++◌, map, All, IfOk, OnOk};
 ghost use Rattle.std.specs.Str.{IsUtf8};
+ghost use Rattle.cgm_formula.specs.declared.formula.Formula.TheVariants as formulas;
 ghost use Rattle.cgm_print.specs.Statements.{assertion as written_assertion, condition as written_condition, objective as written_objective, requirement as written_requirement, value as written_value, weight as written_weight};
 ghost use Rattle.cgm_print.specs.Written.{formulas_of};
 ghost use Rattle.cgm_text.specs.Meaning.{compared_as, condition_of, declared_words, each_formula_of, element_named, formula_of, is_max, joined_as, linear_of, named_of, number_named, pair_of, paired_as, quantity_of, refinement_named, statement_of, sum_named, term_of, truth_named, statement_of_weight};
@@ -136,6 +137,19 @@ fn linear(
     }
 }
 
+fn negated(alloc: Global, part: Formula) -> Result<Formula, OutOfMemory>
+    ensures { IfOk result (λ f. f ≡ formulas.Not part) }
+{
+    Ok(Formula::Not(Boxed::new(alloc, part)?))
+}
+
+fn push(formulas: &mut Vec<Formula>, part: Formula) -> Result<(), OutOfMemory>
+    ensures { OnOk result (formulas.new.items ≡ formulas.old.items ++ part ∷ []) }
+{
+    formulas.push(part)?;
+    Ok(())
+}
+
 fn joined(joint: Joint, parts: Parts<Formula>) -> Formula
     ensures { result ≡ joined_as joint parts }
 {
@@ -201,7 +215,7 @@ fn formula(
         Tree::Name(w) => Ok(Formula::Name(truth(builder, line, *w))),
         Tree::Not(part) => {
             match formula(alloc, builder, line, part.get()) {
-                Ok(part) => Ok(Formula::Not(Boxed::new(alloc, part)?)),
+                Ok(part) => negated(alloc, part),
                 Err(stop) => Err(stop),
             }
         }
@@ -271,10 +285,18 @@ fn push_formulas(
     ensures { OnOk result (formulas.new.items ≡ first ∷ each_formula_of builder.now
         (formulas_of (map (formula_in line.now) trees.now))) }
 {
-    formulas.push(first)?;
+    match push(formulas, first) {
+        Ok(()) => {}
+        Err(stop) => return Err(stop),
+    }
     for tree in trees {
-        let part = formula(alloc, builder, line, tree)?;
-        formulas.push(part)?;
+        match formula(alloc, builder, line, tree) {
+            Ok(part) => match push(formulas, part) {
+                Ok(()) => {}
+                Err(stop) => return Err(stop),
+            },
+            Err(stop) => return Err(stop),
+        }
     }
     Ok(())
 }

@@ -13,10 +13,12 @@ mod numbers;
 mod options;
 mod print;
 mod program;
-mod run;
+mod quiet;
+mod runs;
 mod show;
 mod solve;
 mod solvers;
 
 pub use program::{exit_code, run_program, words_after_name};
-pub use run::{run, run_quiet};
+pub use quiet::run_quiet;
+pub use runs::run;

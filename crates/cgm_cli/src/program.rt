@@ -12,7 +12,7 @@ ghost use Rattle.cgm_cli.specs.Effects.{world};
 ghost use Rattle.cgm_cli.specs.Outcome.{Runs};
 
 use crate::print::tell_memory;
-use crate::run::run;
+use crate::runs::run;
 use cgm_base::{OutOfMemory, Status};
 use cgm_search::IdleGate;
 use cgm_shelf::{Shelf, Sink};

@@ -5,7 +5,7 @@ ghost use Rattle.cgm_atom.specs.Ranges.{IsPrintable};
 ghost use Rattle.cgm_model.specs.Model.{lists_of};
 ghost use Rattle.cgm_report.specs.Answers.{IsReportable, report_of};
 ghost use Rattle.cgm_cli.specs.Answers.{answer_status, entries_of};
-ghost use Rattle.cgm_cli.specs.CommandLine.{with_workers};
+ghost use Rattle.cgm_cli.specs.CommandLine.{as_asked, with_workers};
 ghost use Rattle.cgm_cli.specs.Commands.{HasPlan, solving};
 ghost use Rattle.cgm_cli.specs.declared.command.Command.TheVariants as read;
 ghost use Rattle.cgm_cli.specs.Effects.{outside, world};
@@ -17,20 +17,24 @@ use crate::command::SolveRequest;
 use crate::encoding::tell_row_limit;
 use crate::input::Input;
 use crate::print::{print_report, tell, tell_memory};
-use crate::solvers::Solver;
+use crate::solvers::ByCrew;
 use cgm_base::Status;
 use cgm_cert::print_cert;
 use cgm_model::Model;
 use cgm_report::report;
+use cgm_search::Gate;
 use cgm_shelf::{Shelf, Sink, write_file};
-use cgm_solve::{Answer, SolveStop};
+use cgm_solve::{Answer, SolveStop, solve};
 use cgm_trail::Work;
 use std::alloc::Global;
+use std::marker::Sync;
+use std::sync::Wait;
+use std::thread::Threads;
 
-/// Solves a model as the request asks, with what is known of an earlier realization. Writes the certificate where a file is named for it, and prints the answer, or why
-/// there is none.
-pub(crate) fn solve<S: Solver, F: Shelf, O: Sink>(
-    solver: &S,
+/// Solves a model by a crew as the request asks, with what is known of an earlier realization. Writes
+/// the certificate where a file is named for it, and prints the answer, or why there is none.
+pub(crate) fn solve_by_crew<'a, R: Threads + Wait + Sync, G: Gate, F: Shelf, O: Sink>(
+    by: &ByCrew<'a, R, G>,
     request: SolveRequest<'_>,
     input: &Input,
     shelf: &mut F,
@@ -40,19 +44,21 @@ pub(crate) fn solve<S: Solver, F: Shelf, O: Sink>(
     requires lines { length input.now.reading.rule_lines.items
         ≡ length input.now.reading.model.rules }
     requires plan { HasPlan (read.Solve request) }
-    ensures outcome { HasOwnOutcome (with_workers (S.workers solver.now) (solving request.entry))
+    ensures outcome { HasOwnOutcome (with_workers as_asked (solving request.entry))
         (world (F.state shelf.old) (O.state out.old) work.old)
         (world (F.state shelf.new) (O.state out.new) work.new)
         (lists_of input.now.reading.model) input.now.reading.rule_lines.items
         input.now.earlier.pairs result }
-    ensures files { LeavesFiles (with_workers (S.workers solver.now) (solving request.entry)) (F.state shelf.old) (F.state shelf.new)
-        result }
-    ensures work { LeavesWork (with_workers (S.workers solver.now) (solving request.entry)) work.old work.new result }
+    ensures files { LeavesFiles (with_workers as_asked (solving request.entry))
+        (F.state shelf.old) (F.state shelf.new) result }
+    ensures work { LeavesWork (with_workers as_asked (solving request.entry))
+        work.old work.new result }
     ensures reads { (F.state shelf.new).read_faults ≡ (F.state shelf.old).read_faults }
 {
-    let alloc = solver.alloc();
+    let alloc = by.alloc;
     let m = &input.reading.model;
-    match solver.solve(m, &input.earlier, request.crew(), work) {
+    let crew = request.crew();
+    match solve(by.rt, alloc, m, &input.earlier, crew, by.gate, work) {
         Ok(answer) => deliver(alloc, m, &answer, request.cert, shelf, out),
         Err(SolveStop::Row { rule }) => tell_row_limit(alloc, input, rule, out),
         Err(SolveStop::Memory) => tell_memory(out),
@@ -61,7 +67,7 @@ pub(crate) fn solve<S: Solver, F: Shelf, O: Sink>(
 
 /// Makes the report of an answer. Then writes the certificate where a file is named for it, and prints
 /// the report.
-fn deliver<F: Shelf, O: Sink>(
+pub(crate) fn deliver<F: Shelf, O: Sink>(
     alloc: Global,
     model: &Model,
     answer: &Answer,

@@ -4,40 +4,36 @@ use Rattle.cgm_report.specs.Answers.{report_of}
 use Rattle.cgm_cli.specs.Effects.{Outside, World, outside, world}
 use Rattle.cgm_cli.specs.SolveOutcome.{Wanted, wanted}
 use Rattle.cgm_cli.proofs.Solving.{files_left, outcome, printable, reportable, work_left}
-use Rattle.cgm_cli.proofs.solve.solve.Goals as goal
+use Rattle.cgm_cli.proofs.quiet.solve_by_one.Goals as goal
 
 pub deliver-requires-clause-report : goal.deliver-requires-clause-report
 deliver-requires-clause-report g c =
-    let solved = rw (c.crew.ensures.workers, c.crew.ensures.plan) at c.in-Ok.ensures.1 in
     let m = lists_of c.args.input.now.reading.model in
-    reportable m c.args.input.now.earlier.pairs (g.S.Solver.workers c.args.solver.now c.args.request.workers) c.args.request.plan c.args.work.now c.solve.new.work c.in-Ok.answer solved
+    reportable m c.args.input.now.earlier.pairs 1 c.args.request.plan c.args.work.now c.solve_alone.new.work c.in-Ok.answer c.in-Ok.ensures.1
 
 pub deliver-requires-clause-entries : goal.deliver-requires-clause-entries
 deliver-requires-clause-entries g c =
-    let solved = rw (c.crew.ensures.workers, c.crew.ensures.plan) at c.in-Ok.ensures.1 in
     let m = lists_of c.args.input.now.reading.model in
-    printable m c.args.input.now.earlier.pairs (g.S.Solver.workers c.args.solver.now c.args.request.workers) c.args.request.plan c.args.work.now c.solve.new.work c.in-Ok.answer solved
+    printable m c.args.input.now.earlier.pairs 1 c.args.request.plan c.args.work.now c.solve_alone.new.work c.in-Ok.answer c.in-Ok.ensures.1
 
 pub returns-in-Ok-clause-outcome : goal.returns-in-Ok-clause-outcome
 returns-in-Ok-clause-outcome g c =
-    let solved = rw (c.crew.ensures.workers, c.crew.ensures.plan) at c.in-Ok.ensures.1 in
     let m = lists_of c.args.input.now.reading.model in
-    let want : Wanted = wanted (g.S.Solver.workers c.args.solver.now c.args.request.workers) c.args.request.plan (option_map (λ file. file.now) c.args.request.cert) in
+    let want : Wanted = wanted 1 c.args.request.plan (option_map (λ file. file.now) c.args.request.cert) in
     let found : World = world (g.F.Shelf.state c.args.shelf.now) (g.O.Sink.state c.args.out.now) c.args.work.now in
-    let left : World = world (g.F.Shelf.state c.deliver.new.shelf) (g.O.Sink.state c.deliver.new.out) c.solve.new.work in
+    let left : World = world (g.F.Shelf.state c.deliver.new.shelf) (g.O.Sink.state c.deliver.new.out) c.solve_alone.new.work in
     inr (
       c.in-Ok.ensures.0,
-      outcome m c.args.input.now.earlier.pairs want found left c.in-Ok.answer c.deliver.result solved c.deliver.ensures.outcome,
+      outcome m c.args.input.now.earlier.pairs want found left c.in-Ok.answer c.deliver.result c.in-Ok.ensures.1 c.deliver.ensures.outcome,
     )
 
 pub returns-in-Ok-clause-work : goal.returns-in-Ok-clause-work
 returns-in-Ok-clause-work g c =
-    let solved = rw (c.crew.ensures.workers, c.crew.ensures.plan) at c.in-Ok.ensures.1 in
     let m = lists_of c.args.input.now.reading.model in
-    let want : Wanted = wanted (g.S.Solver.workers c.args.solver.now c.args.request.workers) c.args.request.plan (option_map (λ file. file.now) c.args.request.cert) in
+    let want : Wanted = wanted 1 c.args.request.plan (option_map (λ file. file.now) c.args.request.cert) in
     let found : Outside = outside (g.F.Shelf.state c.args.shelf.now) (g.O.Sink.state c.args.out.now) in
     let left : Outside = outside (g.F.Shelf.state c.deliver.new.shelf) (g.O.Sink.state c.deliver.new.out) in
-    work_left m c.args.input.now.earlier.pairs want c.args.work.now c.solve.new.work found left c.in-Ok.answer c.deliver.result solved c.deliver.ensures.outcome
+    work_left m c.args.input.now.earlier.pairs want c.args.work.now c.solve_alone.new.work found left c.in-Ok.answer c.deliver.result c.in-Ok.ensures.1 c.deliver.ensures.outcome
 
 pub returns-in-Ok-clause-files : goal.returns-in-Ok-clause-files
 returns-in-Ok-clause-files g c =
@@ -45,3 +41,6 @@ returns-in-Ok-clause-files g c =
     let found : Outside = outside (g.F.Shelf.state c.args.shelf.now) (g.O.Sink.state c.args.out.now) in
     let left : Outside = outside (g.F.Shelf.state c.deliver.new.shelf) (g.O.Sink.state c.deliver.new.out) in
     files_left (option_map (λ file. file.now) c.args.request.cert) (report_of m c.in-Ok.answer) found left c.in-Ok.answer c.deliver.result c.deliver.ensures.outcome
+
+pub solve_alone-requires : goal.solve_alone-requires
+solve_alone-requires g c = c.requires.plan.0

@@ -2,7 +2,7 @@
 ghost use Rattle.std.specs.Prelude.{◌≡◌, length, map};
 ghost use Rattle.std.specs.String.{string_bytes};
 ghost use Rattle.cgm_model.specs.Model.{lists_of};
-ghost use Rattle.cgm_cli.specs.CommandLine.{as_asked, command_for, one, with_workers};
+ghost use Rattle.cgm_cli.specs.CommandLine.{as_asked, command_for, with_workers};
 ghost use Rattle.cgm_cli.specs.Commands.{HasPlan, told_by};
 ghost use Rattle.cgm_cli.specs.Effects.{world};
 ghost use Rattle.cgm_cli.specs.Inputs.{HasProblemOutcome};
@@ -14,8 +14,8 @@ use crate::encoding::{encoding_of, print_encoding};
 use crate::input::{Input, discard, input_of_files};
 use crate::print::{tell, tell_memory};
 use crate::show::show;
-use crate::solve::solve;
-use crate::solvers::{ByCrew, ByOne, Solver};
+use crate::solve::solve_by_crew;
+use crate::solvers::ByCrew;
 use cgm_base::Status;
 use cgm_search::Gate;
 use cgm_shelf::{Shelf, Sink};
@@ -74,40 +74,20 @@ pub fn run<R: Threads + Wait + Sync, F: Shelf, O: Sink, G: Gate>(
     run_words(&ByCrew { rt, alloc, gate }, words, shelf, out, work)
 }
 
-/// Does what `run` does, with one worker, whatever number of workers is given. It waits for nobody and
-/// always returns.
-pub fn run_quiet<F: Shelf, O: Sink>(
-    alloc: Global,
-    words: &[String],
-    shelf: &mut F,
-    out: &mut O,
-    work: &mut Work,
-) -> Status
-    ensures outcome { HasOutcome one (map string_bytes words.now)
-        (world (F.state shelf.old) (O.state out.old) work.old)
-        (world (F.state shelf.new) (O.state out.new) work.new) result }
-    ensures files { AreFilesOf (command_for one (map string_bytes words.now))
-        (F.state shelf.old) (F.state shelf.new) result }
-    ensures work { IsWorkOf (command_for one (map string_bytes words.now)) work.old work.new
-        result }
-{
-    run_words(&ByOne { alloc }, words, shelf, out, work)
-}
-
 /// Does what the words ask for.
-fn run_words<S: Solver, F: Shelf, O: Sink>(
-    solver: &S,
+fn run_words<'a, R: Threads + Wait + Sync, G: Gate, F: Shelf, O: Sink>(
+    by: &ByCrew<'a, R, G>,
     words: &[String],
     shelf: &mut F,
     out: &mut O,
     work: &mut Work,
 ) -> Status
-    ensures { Runs (command_for (S.workers solver.now) (map string_bytes words.now))
+    ensures { Runs (command_for as_asked (map string_bytes words.now))
         (world (F.state shelf.old) (O.state out.old) work.old)
         (world (F.state shelf.new) (O.state out.new) work.new) result }
 {
-    match command_in(solver.alloc(), words) {
-        Ok(Some(command)) => run_command(solver, command, shelf, out, work),
+    match command_in(by.alloc, words) {
+        Ok(Some(command)) => run_command(by, command, shelf, out, work),
         Ok(None) => {
             tell(out, b"fault usage\n");
             Status::Usage
@@ -117,27 +97,21 @@ fn run_words<S: Solver, F: Shelf, O: Sink>(
 }
 
 /// Does what a command asks for: takes what its files give, else the status.
-fn run_command<S: Solver, F: Shelf, O: Sink>(
-    solver: &S,
+fn run_command<'a, R: Threads + Wait + Sync, G: Gate, F: Shelf, O: Sink>(
+    by: &ByCrew<'a, R, G>,
     command: Command<'_>,
     shelf: &mut F,
     out: &mut O,
     work: &mut Work,
 ) -> Status
     requires { HasPlan command }
-    ensures { Ends (with_workers (S.workers solver.now) (told_by command.entry))
+    ensures { Ends (with_workers as_asked (told_by command.entry))
         (world (F.state shelf.old) (O.state out.old) work.old)
         (world (F.state shelf.new) (O.state out.new) work.new) result }
 {
-    match input_of_files(
-        solver.alloc(),
-        command.model(),
-        command.earlier(),
-        shelf,
-        out,
-    ) {
+    match input_of_files(by.alloc, command.model(), command.earlier(), shelf, out) {
         Ok(input) => {
-            let status = run_on(solver, command, &input, shelf, out, work);
+            let status = run_on(by, command, &input, shelf, out, work);
             discard(input);
             status
         }
@@ -146,8 +120,8 @@ fn run_command<S: Solver, F: Shelf, O: Sink>(
 }
 
 /// Does what a command asks for with what its files gave.
-fn run_on<S: Solver, F: Shelf, O: Sink>(
-    solver: &S,
+fn run_on<'a, R: Threads + Wait + Sync, G: Gate, F: Shelf, O: Sink>(
+    by: &ByCrew<'a, R, G>,
     command: Command<'_>,
     input: &Input,
     shelf: &mut F,
@@ -157,19 +131,19 @@ fn run_on<S: Solver, F: Shelf, O: Sink>(
     requires lines { length input.now.reading.rule_lines.items
         ≡ length input.now.reading.model.rules }
     requires plan { HasPlan command }
-    ensures outcome { HasOwnOutcome (with_workers (S.workers solver.now) (told_by command.entry))
+    ensures outcome { HasOwnOutcome (with_workers as_asked (told_by command.entry))
         (world (F.state shelf.old) (O.state out.old) work.old)
         (world (F.state shelf.new) (O.state out.new) work.new)
         (lists_of input.now.reading.model) input.now.reading.rule_lines.items
         input.now.earlier.pairs result }
-    ensures files { LeavesFiles (with_workers (S.workers solver.now) (told_by command.entry))
+    ensures files { LeavesFiles (with_workers as_asked (told_by command.entry))
         (F.state shelf.old) (F.state shelf.new) result }
-    ensures work { LeavesWork (with_workers (S.workers solver.now) (told_by command.entry))
+    ensures work { LeavesWork (with_workers as_asked (told_by command.entry))
         work.old work.new result }
 {
-    let alloc = solver.alloc();
+    let alloc = by.alloc;
     match command {
-        Command::Solve(request) => solve(solver, request, input, shelf, out, work),
+        Command::Solve(request) => solve_by_crew(by, request, input, shelf, out, work),
         Command::Check(request) => check(alloc, input, request.cert, shelf, out),
         Command::Show { .. } => show(alloc, &input.reading.model, out),
         Command::Encode(_) => encode_input(alloc, input, out),
@@ -177,7 +151,7 @@ fn run_on<S: Solver, F: Shelf, O: Sink>(
 }
 
 /// Makes the problem of a model and an earlier realization, and prints its text.
-fn encode_input<O: Sink>(alloc: Global, input: &Input, out: &mut O) -> Status
+pub(crate) fn encode_input<O: Sink>(alloc: Global, input: &Input, out: &mut O) -> Status
     requires { length input.now.reading.rule_lines.items ≡ length input.now.reading.model.rules }
     ensures { HasProblemOutcome (HasEncodeOutcome (O.state out.old) (O.state out.new))
         (O.state out.old) (O.state out.new) (lists_of input.now.reading.model)

@@ -30,10 +30,11 @@ impl Program for Alone {
     }
 }
 
-/// The commands, with this option where a search names no number of workers.
+/// The commands, with this option, if any, where a search names no number of workers.
+#[derive(Drop)]
 pub(crate) struct Together<'a, R: Threads + Wait + Sync> {
     pub(crate) rt: &'a R,
-    pub(crate) workers: &'static str,
+    pub(crate) workers: Option<&'static str>,
 }
 
 impl<'a, R: Threads + Wait + Sync> Program for Together<'a, R> {
@@ -64,16 +65,39 @@ impl<'a, R: Threads + Wait + Sync> Program for Together<'a, R> {
     }
 }
 
-/// The words, with the option behind them where they ask for a search and name no number of workers.
-fn with_option(alloc: Global, words: &[String], option: &str) -> Result<Vec<String>, OutOfMemory> {
+/// The words, with the option behind the first where they ask for a search and name no number of
+/// workers.
+fn with_option(
+    alloc: Global,
+    words: &[String],
+    option: Option<&str>,
+) -> Result<Vec<String>, OutOfMemory> {
+    let (first, rest) = words.split_at(words.len().min(1));
     let mut given = Vec::new(alloc);
+    push_all(alloc, first, &mut given)?;
+    if searches(words) && !names_workers(words) {
+        push_option(alloc, option, &mut given)?;
+    }
+    push_all(alloc, rest, &mut given)?;
+    Ok(given)
+}
+
+fn push_all(alloc: Global, words: &[String], given: &mut Vec<String>) -> Result<(), OutOfMemory> {
     for word in words {
         given.push(String::from_str(alloc, word.as_str())?)?;
     }
-    if searches(words) && !names_workers(words) {
-        given.push(String::from_str(alloc, option)?)?;
+    Ok(())
+}
+
+fn push_option(
+    alloc: Global,
+    option: Option<&str>,
+    given: &mut Vec<String>,
+) -> Result<(), OutOfMemory> {
+    if let Some(word) = option {
+        given.push(String::from_str(alloc, word)?)?;
     }
-    Ok(given)
+    Ok(())
 }
 
 fn searches(words: &[String]) -> bool {

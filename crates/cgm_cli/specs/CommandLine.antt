@@ -151,8 +151,8 @@ command_line (word ∷ words) = command_of word (word ∷ words)
 -- ---- by how many workers
 
 -- one worker, however many are asked for
-abbrev pub one : ℕ → ℕ
-one asked = 1
+abbrev pub one_worker : ℕ → ℕ
+one_worker asked = 1
 
 -- as many workers as are asked for
 abbrev pub as_asked : ℕ → ℕ

@@ -75,7 +75,7 @@ pub record PrintsUnrealizable (cert : Option (List ℕ)) (before after : World) 
   pub certified : IsCertified cert entries before.shelf after.shelf
   pub printed : IsPrinted unrealizable before.sink after.sink
 
--- the budgets are spent, on a trail for each worker, which came behind those before; the last best of the entries was printed, and what the trails rest on is among them
+-- the budgets are spent: as many trails as workers came behind those before; the last best of the entries was printed, and what the trails rest on is among them
 pub record PrintsExhausted (want : Wanted) (before after : World) (m : Lists)
     (earlier : List Pair) : Type 0 where
   pub best : Option Found

@@ -2,7 +2,7 @@
 ghost use Rattle.std.specs.Prelude.{◌≡◌, length, map};
 ghost use Rattle.std.specs.String.{string_bytes};
 ghost use Rattle.cgm_model.specs.Model.{lists_of};
-ghost use Rattle.cgm_cli.specs.CommandLine.{command_for, one, with_workers};
+ghost use Rattle.cgm_cli.specs.CommandLine.{command_for, one_worker, with_workers};
 ghost use Rattle.cgm_cli.specs.Commands.{HasPlan, solving, told_by};
 ghost use Rattle.cgm_cli.specs.declared.command.Command.TheVariants as read;
 ghost use Rattle.cgm_cli.specs.Effects.{world};
@@ -31,12 +31,12 @@ pub fn run_quiet<F: Shelf, O: Sink>(
     out: &mut O,
     work: &mut Work,
 ) -> Status
-    ensures outcome { HasOutcome one (map string_bytes words.now)
+    ensures outcome { HasOutcome one_worker (map string_bytes words.now)
         (world (F.state shelf.old) (O.state out.old) work.old)
         (world (F.state shelf.new) (O.state out.new) work.new) result }
-    ensures files { AreFilesOf (command_for one (map string_bytes words.now))
+    ensures files { AreFilesOf (command_for one_worker (map string_bytes words.now))
         (F.state shelf.old) (F.state shelf.new) result }
-    ensures work { IsWorkOf (command_for one (map string_bytes words.now)) work.old work.new
+    ensures work { IsWorkOf (command_for one_worker (map string_bytes words.now)) work.old work.new
         result }
 {
     run_words(alloc, words, shelf, out, work)
@@ -50,7 +50,7 @@ fn run_words<F: Shelf, O: Sink>(
     out: &mut O,
     work: &mut Work,
 ) -> Status
-    ensures { Runs (command_for one (map string_bytes words.now))
+    ensures { Runs (command_for one_worker (map string_bytes words.now))
         (world (F.state shelf.old) (O.state out.old) work.old)
         (world (F.state shelf.new) (O.state out.new) work.new) result }
 {
@@ -73,7 +73,7 @@ fn run_command<F: Shelf, O: Sink>(
     work: &mut Work,
 ) -> Status
     requires { HasPlan command }
-    ensures { Ends (with_workers one (told_by command.entry))
+    ensures { Ends (with_workers one_worker (told_by command.entry))
         (world (F.state shelf.old) (O.state out.old) work.old)
         (world (F.state shelf.new) (O.state out.new) work.new) result }
 {
@@ -99,14 +99,14 @@ fn run_on<F: Shelf, O: Sink>(
     requires lines { length input.now.reading.rule_lines.items
         ≡ length input.now.reading.model.rules }
     requires plan { HasPlan command }
-    ensures outcome { HasOwnOutcome (with_workers one (told_by command.entry))
+    ensures outcome { HasOwnOutcome (with_workers one_worker (told_by command.entry))
         (world (F.state shelf.old) (O.state out.old) work.old)
         (world (F.state shelf.new) (O.state out.new) work.new)
         (lists_of input.now.reading.model) input.now.reading.rule_lines.items
         input.now.earlier.pairs result }
-    ensures files { LeavesFiles (with_workers one (told_by command.entry))
+    ensures files { LeavesFiles (with_workers one_worker (told_by command.entry))
         (F.state shelf.old) (F.state shelf.new) result }
-    ensures work { LeavesWork (with_workers one (told_by command.entry))
+    ensures work { LeavesWork (with_workers one_worker (told_by command.entry))
         work.old work.new result }
 {
     match command {
@@ -130,14 +130,14 @@ fn solve_by_one<F: Shelf, O: Sink>(
     requires lines { length input.now.reading.rule_lines.items
         ≡ length input.now.reading.model.rules }
     requires plan { HasPlan (read.Solve request) }
-    ensures outcome { HasOwnOutcome (with_workers one (solving request.entry))
+    ensures outcome { HasOwnOutcome (with_workers one_worker (solving request.entry))
         (world (F.state shelf.old) (O.state out.old) work.old)
         (world (F.state shelf.new) (O.state out.new) work.new)
         (lists_of input.now.reading.model) input.now.reading.rule_lines.items
         input.now.earlier.pairs result }
-    ensures files { LeavesFiles (with_workers one (solving request.entry))
+    ensures files { LeavesFiles (with_workers one_worker (solving request.entry))
         (F.state shelf.old) (F.state shelf.new) result }
-    ensures work { LeavesWork (with_workers one (solving request.entry))
+    ensures work { LeavesWork (with_workers one_worker (solving request.entry))
         work.old work.new result }
     ensures reads { (F.state shelf.new).read_faults ≡ (F.state shelf.old).read_faults }
 {

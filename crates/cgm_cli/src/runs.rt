@@ -25,35 +25,35 @@ use std::marker::Sync;
 use std::sync::Wait;
 use std::thread::Threads;
 
-/// Does all that the program does for the words after its own name, and answers its status.
-/// With several workers it waits for turns and for its workers, so what follows holds if it returns.
-/// The gate may hold a worker at some points, and touches no result.
+/// Does all that the program does for the words after its own name, and answers its status. It may
+/// wait for turns and for its workers, so its clauses hold if it returns, whatever the words ask
+/// for. The gate may hold a worker at some points, and touches no result.
 ///
 /// `solve MODEL --earlier=FILE --cert=FILE --workers=N --budget=N --restarts=N --seed=N` prints a
-/// realization of the model than whose vector no realization's is less (`Done`), or that there is none
-/// (`Unrealizable`). It runs as many workers as are given, over one log, and four where no number is.
-/// `Open` comes only where each of them made as many moves as its budget says, and no more restarts
-/// than it may. Then `work` gains a trail for each, by number, and the last best of an accepted log
-/// that isn't closed is printed, if any. Every lemma and every best on which a change of a trail rests
-/// stands in this log. So a budget that no trail can spend leaves nothing open. With `--cert` the named file holds exactly a certificate of
-/// entries that show the answer by themselves, for `Open` of that log; it is written before the
-/// report, and no other file changes.
+/// realization of the model than whose vector no realization's is less (`Done`), or that there is
+/// none (`Unrealizable`). It runs as many workers as are given, over one log, and four where no
+/// number is. `Open` comes only where each of them made as many moves as its budget says, and no
+/// more restarts than it may. Then `work` gains as many trails as workers, and the last best of an
+/// accepted log that isn't closed is printed, if any. Every lemma and every best on which a change
+/// of a trail rests stands in this log. So a budget that no trail can spend leaves nothing open.
+/// With `--cert` the named file holds exactly a certificate of entries that show the answer by
+/// themselves, for `Open` of that log; it is written before the report, and no other file changes.
 /// `check MODEL CERT --earlier=FILE` reads such a certificate, whoever made it, and prints what it
 /// shows: a least realization (`Done`), that there is none (`Unrealizable`), or the best of a
-/// certificate that leaves open which realization is least (`Open`).
-/// `encode MODEL --earlier=FILE` prints the text of the model's problem (`Done`). Without the option
-/// nothing is known of an earlier realization. `show MODEL` prints the model's canonical text (`Done`).
+/// certificate that leaves open which realization is least (`Open`). `encode MODEL --earlier=FILE`
+/// prints the text of the model's problem (`Done`). Without the option nothing is known of an
+/// earlier realization. `show MODEL` prints the model's canonical text (`Done`).
 ///
 /// Every other status is a refusal with one fault line, unless the sink itself failed: `Usage` for
-/// other words, `Text` for a model text whose first fault is of a kind, `Earlier` for such an earlier
-/// text, `Limit` for a text that passes a limit first, `Certificate` for a certificate whose first
-/// faulty line or first entry that isn't accepted is told, `Read` and `Write` for faults that the shelf
-/// and the sink count, and `Memory`. `solve`, `check` and `encode` also answer `Limit` for a model with
-/// a comparison whose measure passes the row limit, at the line of the first such rule. The model is
-/// read and judged first, then the earlier text, then the row limit, then the certificate. A file
-/// changes only where `solve` writes a certificate, with the statuses `Done`, `Unrealizable`, `Open`
-/// and `Write`. `work` stays, but for `solve` with the statuses `Open`, `Write` and `Memory`: there it
-/// may have gained trails.
+/// other words, `Text` for a model text whose first fault is of a kind, `Earlier` for such an
+/// earlier text, `Limit` for a text that passes a limit first, `Certificate` for a certificate
+/// whose first faulty line or first entry that isn't accepted is told, `Read` and `Write` for
+/// faults that the shelf and the sink count, and `Memory`. `solve`, `check` and `encode` also
+/// answer `Limit` for a model with a comparison whose measure passes the row limit, at the line of
+/// the first such rule. The model is read and judged first, then the earlier text, then the row
+/// limit, then the certificate. A file changes only where `solve` writes a certificate, with the
+/// statuses `Done`, `Unrealizable`, `Open` and `Write`. `work` stays, but for `solve` with the
+/// statuses `Open`, `Write` and `Memory`: there it may have gained trails.
 pub fn run<R: Threads + Wait + Sync, F: Shelf, O: Sink, G: Gate>(
     rt: &R,
     alloc: Global,

@@ -1,6 +1,6 @@
 -- What each worker was told is a front of the log at the end.
-use Rattle.std.proofs.Common.{◌≡◌, ℕ, ◌+◌, ◌-◌, ◌≤◌, ◌<◌, Bool, true, false, List, [], ◌∷◌, ◌++◌, length, refl, sym, ap, subst, ◌∙◌, inl, inr, ne_eqb, arith}
-use Rattle.std.specs.Prelude.{◌⊎◌, ◌==◌, ◌||◌, if◌then◌else◌, IfSome, IsTrue}
+use Rattle.std.proofs.Common.{◌≡◌, ℕ, ◌≤◌, Bool, true, false, List, [], ◌∷◌, ◌++◌, refl, sym, ap, subst, ◌∙◌, inl, inr, ne_eqb, arith}
+use Rattle.std.specs.Prelude.{◌==◌, ◌||◌, if◌then◌else◌, IsTrue}
 use Rattle.std.specs.Option.{option_map_or}
 use Rattle.std.specs.declared.option.Option.{Option}
 use Rattle.std.specs.declared.option.Option.TheVariants.{Some, None}
@@ -79,9 +79,9 @@ sees_other first other = inr (inl refl)
 -- ---- ends
 
 pub end_on : (p : Instance) (plan : Plan) (x y : PassState) (s : Stopped) (t : TrailState) → ((told : List Entry) → HasSeen x told → HasSeen y told) → IsEndBy p plan x s t → IsEndBy p plan y s t
-end_on p plan x y stopped.Final t keeps h = record { told = h.told; closed = h.closed; seen = keeps h.told h.seen }
+end_on p plan x y stopped.Final t keeps h = (h.0, record { told = h.1.told; closed = h.1.closed; seen = keeps h.1.told h.1.seen })
 end_on p plan x y stopped.Spent t keeps h = record { told = h.told; spent = h.spent; seen = keeps h.told h.seen }
-end_on p plan x y stopped.Memory t keeps h = tt
+end_on p plan x y stopped.Memory t keeps h = h
 
 pub ends_on : (p : Instance) (plan : Plan) (x y : PassState) (ss : List Stopped) (ts : List TrailState) → ((told : List Entry) → HasSeen x told → HasSeen y told) → AreEndsBy p plan x ss ts → AreEndsBy p plan y ss ts
 ends_on p plan x y [] [] keeps h = tt
@@ -96,9 +96,9 @@ ends_push p plan x (s' ∷ ss) [] s t h k = absurd h
 ends_push p plan x (s' ∷ ss) (t' ∷ ts) s t h k = (h.0, ends_push p plan x ss ts s t h.1 k)
 
 end_over : (p : Instance) (plan : Plan) (x : PassState) (log : List Entry) (s : Stopped) (t : TrailState) → ((told : List Entry) → HasSeen x told → BeginsWith log told) → IsEndBy p plan x s t → IsEndOver p plan log s t
-end_over p plan x log stopped.Final t front h = closed_longer log h.told (front h.told h.seen) h.closed
+end_over p plan x log stopped.Final t front h = (h.0, closed_longer log h.1.told (front h.1.told h.1.seen) h.1.closed)
 end_over p plan x log stopped.Spent t front h = spent_longer p plan log h.told t (front h.told h.seen) h.spent
-end_over p plan x log stopped.Memory t front h = tt
+end_over p plan x log stopped.Memory t front h = h
 
 pub ends_over : (p : Instance) (plan : Plan) (x : PassState) (log : List Entry) (ss : List Stopped) (ts : List TrailState) → ((told : List Entry) → HasSeen x told → BeginsWith log told) → AreEndsBy p plan x ss ts → AreEndsOver p plan log ss ts
 ends_over p plan x log [] [] front h = tt
@@ -109,9 +109,9 @@ ends_over p plan x log (s ∷ ss) (t ∷ ts) front h = (end_over p plan x log s 
 -- ---- one more, and the first
 
 own_end_seen : (p : Instance) (plan : Plan) (x other : PassState) (s : Stopped) (t : TrailState) → IsOwnEnd p plan other s t → IsEndBy p plan (joined_pass x other) s t
-own_end_seen p plan x other stopped.Final t h = record { told = other.told; closed = h; seen = sees_other x other }
+own_end_seen p plan x other stopped.Final t h = (h.0, record { told = other.told; closed = h.1; seen = sees_other x other })
 own_end_seen p plan x other stopped.Spent t h = record { told = other.told; spent = h; seen = sees_other x other }
-own_end_seen p plan x other stopped.Memory t h = tt
+own_end_seen p plan x other stopped.Memory t h = h
 
 pub ends_added : (p : Instance) (plan : Plan) (x other y : PassState) (ss ss' : List Stopped) (ts ts' : List TrailState) (s : Stopped) (t : TrailState) → y ≡ joined_pass x other → ss' ≡ ss ++ s ∷ [] → ts' ≡ ts ++ t ∷ [] → AreEndsBy p plan x ss ts → IsOwnEnd p plan other s t → AreEndsBy p plan y ss' ts'
 ends_added p plan x other y ss ss' ts ts' s t e f g h k =
@@ -120,9 +120,9 @@ ends_added p plan x other y ss ss' ts ts' s t e f g h k =
 
 -- the first of all
 end_by_own : (p : Instance) (plan : Plan) (pass : PassState) (s : Stopped) (t : TrailState) → IsOwnEnd p plan pass s t → IsEndBy p plan pass s t
-end_by_own p plan pass stopped.Final t h = record { told = pass.told; closed = h; seen = inl refl }
+end_by_own p plan pass stopped.Final t h = (h.0, record { told = pass.told; closed = h.1; seen = inl refl })
 end_by_own p plan pass stopped.Spent t h = record { told = pass.told; spent = h; seen = inl refl }
-end_by_own p plan pass stopped.Memory t h = tt
+end_by_own p plan pass stopped.Memory t h = h
 
 pub ends_begun : (p : Instance) (plan : Plan) (pass : PassState) (ss ss' : List Stopped) (ts ts' : List TrailState) (s : Stopped) (t : TrailState) → ss ≡ [] → ts ≡ [] → ss' ≡ ss ++ s ∷ [] → ts' ≡ ts ++ t ∷ [] → IsOwnEnd p plan pass s t → AreEndsBy p plan pass ss' ts'
 ends_begun p plan pass ss ss' ts ts' s t none nothing e f h =
@@ -132,10 +132,10 @@ ends_begun p plan pass ss ss' ts ts' s t none nothing e f h =
 pub own_end : {H : Type 0} (w : WorkerState H) (p : Instance) (plan : Plan) (pass : PassState) (s : Stopped) (t : TrailState) → IsWorker w → w.ended ≡ Some s → w.seat.problem ≡ p → w.plan ≡ plan → pass.told ≡ w.seat.told → t ≡ w.trail → (w.ended ≡ Some stopped.Spent → IsSpentTrail w.seat.problem w.plan w.seat.told w.trail) → IsOwnEnd p plan pass s t
 own_end w p plan pass stopped.Final t h e problem plan_is told trail spent =
     let at : IsAt w (Some stopped.Final) = subst (λ (o : Option Stopped). IsAt w o) e h.at in
-    subst (λ (xs : List Entry). IsClosed xs) (sym told) at
+    (rw (sym problem, sym plan_is, trail) h.trail, subst (λ (xs : List Entry). IsClosed xs) (sym told) at)
 own_end w p plan pass stopped.Spent t h e problem plan_is told trail spent =
     rw (sym problem, sym plan_is, told, trail) (spent e)
-own_end w p plan pass stopped.Memory t h e problem plan_is told trail spent = tt
+own_end w p plan pass stopped.Memory t h e problem plan_is told trail spent = rw (sym problem, sym plan_is, trail) h.trail
 
 -- ---- makers
 

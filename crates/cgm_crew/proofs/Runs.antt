@@ -1,6 +1,6 @@
 -- What runs left of the workers of a crew.
 use Rattle.std.proofs.Common.{◌≡◌, ℕ, ◌+◌, ◌<◌, List, [], ◌∷◌, ◌++◌, length, refl, sym, ap, subst, ◌∙◌, arith}
-use Rattle.std.specs.Prelude.{IfSome, Option, slice_index_or}
+use Rattle.std.specs.Prelude.{IsSomeAnd, Option, slice_index_or}
 use Rattle.std.specs.List.{All}
 use Rattle.std.proofs.lemmas.List.{get_or_append_left, get_or_push, length_push}
 use Rattle.cgm_crew.specs.declared.crews.Crew.{Crew}
@@ -21,7 +21,7 @@ other_ran turn crew w w' r h =
       other = record {
         problem = r.problem ∙ h.problem;
         plan_is = r.plan_is ∙ h.plan_is;
-        number = subst (λ (o : Option ℕ). IfSome o (λ k. k < crew.workers)) (sym r.number) h.number;
+        number = subst (λ (o : Option ℕ). IsSomeAnd o (λ k. k < crew.workers)) (sym r.number) h.number;
         table_is = ap (λ (z : PassState). z.table) r.home ∙ h.table_is;
       };
       stopped = r.stopped;

@@ -1,4 +1,4 @@
--- The workers that ended, before the log is closed: what each was told is known to the first pass.
+-- The workers that ended, before the turn is closed: what each was told is known to the first pass.
 use Rattle.std.specs.Prelude.{◌≡◌, ◌⊎◌, ℕ, ◌+◌, ◌≤◌, ◌<◌, List, [], ◌∷◌, vec_len, vec_capacity}
 use Rattle.cgm_atom.specs.Acceptance.{IsClosed}
 use Rattle.cgm_atom.specs.declared.entries.Entry.{Entry}
@@ -6,6 +6,7 @@ use Rattle.cgm_atom.specs.Instance.{Instance}
 use Rattle.cgm_search.specs.declared.plans.Plan.{Plan}
 use Rattle.cgm_search.specs.declared.plans.Stopped.{Stopped}
 use Rattle.cgm_search.specs.declared.plans.Stopped.TheVariants as stopped
+use Rattle.cgm_search.specs.Searching.{IsTrailOf}
 use Rattle.cgm_search.specs.Spending.{IsSpentTrail}
 use Rattle.cgm_trail.specs.TrailState.{TrailState}
 use Rattle.cgm_crew.specs.Crews.{plan_of}
@@ -46,15 +47,15 @@ pub record IsSpentBy (p : Instance) (plan : Plan) (first : PassState) (t : Trail
   pub seen : HasSeen first told
 
 abbrev pub IsEndBy : Instance → Plan → PassState → Stopped → TrailState → Type 0
-IsEndBy p plan first stopped.Final t = IsFinalBy first
+IsEndBy p plan first stopped.Final t = IsTrailOf p plan t × IsFinalBy first
 IsEndBy p plan first stopped.Spent t = IsSpentBy p plan first t
-IsEndBy p plan first stopped.Memory t = Unit {0}
+IsEndBy p plan first stopped.Memory t = IsTrailOf p plan t
 
 -- the same of its own pass
 abbrev pub IsOwnEnd : Instance → Plan → PassState → Stopped → TrailState → Type 0
-IsOwnEnd p plan pass stopped.Final t = IsClosed pass.told
+IsOwnEnd p plan pass stopped.Final t = IsTrailOf p plan t × IsClosed pass.told
 IsOwnEnd p plan pass stopped.Spent t = IsSpentTrail p plan pass.told t
-IsOwnEnd p plan pass stopped.Memory t = Unit {0}
+IsOwnEnd p plan pass stopped.Memory t = IsTrailOf p plan t
 
 abbrev pub AreEndsBy : Instance → Plan → PassState → List Stopped → List TrailState → Type 0
 AreEndsBy p plan first [] [] = Unit {0}

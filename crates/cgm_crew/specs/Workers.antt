@@ -1,5 +1,5 @@
 -- The workers of a crew before and after their runs.
-use Rattle.std.specs.Prelude.{◌≡◌, ℕ, ◌-◌, ◌<◌, IfSome, Some}
+use Rattle.std.specs.Prelude.{◌≡◌, ℕ, ◌-◌, ◌<◌, IsSomeAnd, Some}
 use Rattle.cgm_search.specs.declared.plans.Plan.{Plan}
 use Rattle.cgm_search.specs.declared.plans.Stopped.{Stopped}
 use Rattle.cgm_search.specs.Working.{IsWorker, WorkerState}
@@ -30,7 +30,7 @@ pub record IsLead (turn : TurnState) (crew : Crew) (w : WorkerState PassState) :
 pub record IsOther (turn : TurnState) (crew : Crew) (w : WorkerState PassState) : Type 0 where
   pub problem : w.seat.problem ≡ turn.problem
   pub plan_is : w.plan ≡ plan_of crew
-  pub number : IfSome w.seat.number (λ n. n < crew.workers)
+  pub number : IsSomeAnd w.seat.number (λ n. n < crew.workers)
   pub table_is : w.home.table ≡ turn.table
 
 -- what a run left of a worker

@@ -25,7 +25,7 @@ pub struct Crew {
     pub seed: u64,
 }
 
-/// The log of a crew, and by number how each worker's run ended, and its trail.
+/// The log of a crew, and as many ends as workers, each with its trail.
 #[derive(Drop)]
 pub struct CrewEnd {
     pub log: Log,
@@ -46,14 +46,15 @@ impl Crew {
     }
 }
 
-/// Runs the workers on the problem, over one log that begins empty, each in a thread of its own where
-/// one can be made. Each goes by the order of its own number.
+/// Runs the workers on the problem, over one log that begins empty, each in a thread of its own
+/// where one can be made. Each goes by the order of its own number.
 ///
-/// The log is accepted, and only the crew's numbers stand in it. A worker ends with `Final` only where
-/// the log is closed, and with `Spent` only where its trail is one of the problem that has as many
-/// moves as the budget says, and at most so many restarts; every lemma and every best that a change of
-/// this trail rests on stands in the log. A worker that ran out of memory takes nothing from what the
-/// others reach. Where a worker can't be made, none runs.
+/// The log is accepted, and only the crew's numbers stand in it. A worker ends with `Final` only
+/// where the log is closed, and with `Spent` only where its trail is one of the problem that has as
+/// many moves as the budget says, and at most so many restarts; every lemma and every best that a
+/// change of this trail rests on stands in the log. Each trail is one of the problem, with no more
+/// moves and restarts than the plan says. No clause says so: a worker that ran out of memory takes
+/// nothing from what the others reach, and where a worker can't be made, none runs.
 ///
 /// It waits for turns and for its workers, so this holds if it returns.
 /// Condition: the numbers of the crew are within their limits.

@@ -14,7 +14,7 @@ use cgm_turn::{Pass, Seated, Turn};
 use std::alloc::Global;
 use std::sync::Wait;
 
-/// By number how each worker's run ended, and its trail.
+/// How the workers' runs ended, each with its trail.
 #[derive(Drop)]
 pub(crate) struct Places {
     pub(crate) stopped: Vec<Stopped>,

@@ -59,8 +59,8 @@ fn seat_next<'t, R: Wait>(
     seat(rt, alloc, problem, turn, pass, crew.plan())
 }
 
-/// The workers: that of the first pass, and the others in the order of their numbers. All passes are
-/// split off before one of them runs.
+/// The workers: that of the first pass, and the others in the order of their numbers. All passes
+/// are split off before one of them runs.
 pub(crate) fn seat_all<'t, R: Wait>(
     rt: &'t R,
     alloc: Global,

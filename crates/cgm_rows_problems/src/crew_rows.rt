@@ -15,6 +15,14 @@ use std::thread::Threads;
 /// Two rows make variables 0 and 1 equal, and the second is the objective.
 const ONE: &str = "vars 0..1 0..1; row 1*1 -1*0 >= 0; row -1*1 1*0 >= 0; objectives 1";
 
+/// The problem of a goal with two tasks, one at the cost 7 and one at 5: the goal, the tasks, their
+/// refinements, the cost and the objective.
+const CHEAP: &str =
+    "vars 0..1 0..1 0..1 0..1 0..1 0..12 0..12; clause 3<=0 1>=1; clause 1<=0 3>=1; \
+    clause 3<=0 0>=1; clause 4<=0 2>=1; clause 2<=0 4>=1; clause 4<=0 0>=1; clause 0<=0 3>=1 4>=1; \
+    clause 0>=1; row 1*5 -7*1 -5*2 >= 0; row -1*5 7*1 5*2 >= 0; row 1*6 -1*5 >= 0; \
+    row -1*6 1*5 >= 0; objectives 6";
+
 /// How often a held worker looks whether it may go on.
 const LOOKS: u64 = 1_000_000_000;
 
@@ -29,6 +37,7 @@ fn hold(until: &AtomicBool, is_wrong: &AtomicBool) {
 }
 
 /// Holds worker 1 as its run starts until the run of worker 0 ends.
+#[derive(Drop)]
 struct AfterTheFirst {
     is_ended: AtomicBool,
     is_wrong: AtomicBool,
@@ -46,6 +55,7 @@ impl Gate for AfterTheFirst {
 }
 
 /// Holds each of two workers before its first trade until the other is there.
+#[derive(Drop)]
 struct AtOnce {
     is_first_there: AtomicBool,
     is_second_there: AtomicBool,
@@ -85,16 +95,17 @@ fn crew_of(workers: u32, budget: u64) -> Crew
     }
 }
 
-/// The end of a crew on the small problem.
+/// The end of a crew on the problem of a text.
 fn end_of<R: Threads + Wait + Sync, G: Gate>(
     rt: &R,
     alloc: Global,
+    text: &str,
     crew: Crew,
     gate: &G,
 ) -> Result<CrewEnd, Fail>
     requires { IsCrew crew }
 {
-    let problem = problem_of(alloc, ONE)?;
+    let problem = problem_of(alloc, text)?;
     match search_all(rt, alloc, &problem, crew, gate) {
         Ok(end) => Ok(end),
         Err(_) => Err(Fail::new("no memory")),
@@ -116,7 +127,7 @@ fn is_taken_up<R: Threads + Wait + Sync>(rt: &R, alloc: Global) -> Result<bool, 
         is_ended: AtomicBool::new(false),
         is_wrong: AtomicBool::new(false),
     };
-    let end = end_of(rt, alloc, crew_of(2, 1_000), &gate)?;
+    let end = end_of(rt, alloc, CHEAP, crew_of(2, 1_000), &gate)?;
     let moves = match end.trails.as_slice() {
         [first, second] => first.moves() >= 1 && second.moves() == 0,
         _ => false,
@@ -131,7 +142,7 @@ fn run_at_once<R: Threads + Wait + Sync>(rt: &R, alloc: Global) -> Result<bool, 
         is_second_there: AtomicBool::new(false),
         is_wrong: AtomicBool::new(false),
     };
-    let end = end_of(rt, alloc, crew_of(2, 1_000), &gate)?;
+    let end = end_of(rt, alloc, ONE, crew_of(2, 1_000), &gate)?;
     Ok(all_end(&end, Stopped::Final) && !gate.is_wrong.load(Ordering::SeqCst))
 }
 
@@ -144,7 +155,7 @@ fn end_alike<R: Threads + Wait + Sync>(
 ) -> Result<bool, Fail>
     requires { IsCrew crew }
 {
-    let end = end_of(rt, alloc, crew, &IdleGate)?;
+    let end = end_of(rt, alloc, ONE, crew, &IdleGate)?;
     let workers = crew.workers as usize;
     let places = end.stopped.len() == workers && end.trails.len() == workers;
     Ok(places && all_end(&end, how) && end.log.closed() == (how == Stopped::Final))
@@ -160,7 +171,7 @@ fn closing_lemma_taken_up(rt: HostRuntime) -> Result<(), Fail> {
 }
 
 #[test]
-fn workers_at_once(rt: HostRuntime) -> Result<(), Fail> {
+fn crew_at_once(rt: HostRuntime) -> Result<(), Fail> {
     assert!(rt; run_at_once(&rt, rt.alloc())?, "two workers at once");
     Ok(())
 }

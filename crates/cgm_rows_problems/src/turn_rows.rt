@@ -1,5 +1,5 @@
 // Turns: passes that trade one after another on one thread, and the log at the close.
-use crate::turns::{is_behind, is_kept, is_one_best, nest, offer, opened};
+use crate::turns::{is_behind, is_kept, is_one_best, nest, offer, opened, teach};
 use cgm_atom::Entry;
 use cgm_search::{IdleGate, Plan, Stopped, Worker};
 use cgm_turn::Seated;
@@ -10,8 +10,11 @@ use std::test::Fail;
 /// Two rows make variables 0 and 1 equal, and the second is the objective.
 const ONE: &str = "vars 0..1 0..1; row 1*1 -1*0 >= 0; row -1*1 1*0 >= 0; objectives 1";
 
-/// Whether pass 0 keeps its candidate, pass 1, which has seen nothing, is told of it and is behind it,
-/// and the log at the close has that one entry.
+/// By two clauses variable 0 is 1, and variable 1 is free.
+const FORCED: &str = "vars 0..1 0..1; clause 0>=1 1>=1; clause 0>=1 1<=0";
+
+/// Whether pass 0 keeps its candidate, pass 1, which has seen nothing, is told of it and is behind
+/// it, and the log at the close has that one entry.
 fn are_two<R: Wait>(rt: &R, alloc: Global) -> Result<bool, Fail> {
     let (problem, turn, mut first) = opened(alloc, ONE, 2)?;
     let mut second = turn.split(&mut first);
@@ -29,8 +32,8 @@ fn are_two<R: Wait>(rt: &R, alloc: Global) -> Result<bool, Fail> {
     )
 }
 
-/// Whether sixteen passes are out at once, the first among them, each is told all that came before it,
-/// and the log at the close has a best of each.
+/// Whether sixteen passes are out at once, the first among them, each is told all that came before
+/// it, and the log at the close has a best of each.
 fn are_sixteen<R: Wait>(rt: &R, alloc: Global) -> Result<bool, Fail> {
     let (problem, turn, mut first) = opened(alloc, "vars 0..20; objectives 0", 16)?;
     let others = nest(rt, alloc, &problem, &turn, &mut first, 1)?;
@@ -87,6 +90,29 @@ fn is_final<'t, R: Wait>(mut worker: Worker<Seated<'t, R>>) -> bool {
     stopped == Stopped::Final && seated.into_pass().seen() >= 2
 }
 
+/// Whether a worker at pass 0 uses, before its first decision, a lemma that pass 1 landed: it
+/// tightens variable 0 by it, decides variable 1, jumps, and is at its end. Without the lemma it
+/// decides that variable 0 is 0, and makes a move more at least.
+fn has_used_lemma<R: Wait>(rt: &R, alloc: Global) -> Result<bool, Fail> {
+    let (problem, turn, mut first) = opened(alloc, FORCED, 2)?;
+    let mut second = turn.split(&mut first);
+    teach(rt, alloc, &problem, &turn, &mut second, "0 0>=1 : c0 c1")?;
+    let plan = Plan {
+        budget: 8,
+        restarts: 0,
+        seed: 0,
+    };
+    match Worker::new(alloc, &problem, Seated::new(rt, &turn, first), 0, plan) {
+        Err(_) => Err(Fail::new("no memory")),
+        Ok(worker) => Ok(is_final_within(worker, 3)),
+    }
+}
+
+/// Whether a worker's run ends with a closed log, after so many moves at most.
+fn is_final_within<'t, R: Wait>(mut worker: Worker<Seated<'t, R>>, most: u64) -> bool {
+    worker.run(&IdleGate) == Stopped::Final && worker.spent() <= most
+}
+
 #[test]
 fn two_passes(rt: HostRuntime) -> Result<(), Fail> {
     assert!(rt; are_two(&rt, rt.alloc())?, "two passes");
@@ -108,5 +134,14 @@ fn unused_turn(rt: HostRuntime) -> Result<(), Fail> {
 #[test]
 fn worker_at_a_turn(rt: HostRuntime) -> Result<(), Fail> {
     assert!(rt; has_searched(&rt, rt.alloc())?, "a worker at a turn");
+    Ok(())
+}
+
+#[test]
+fn lemma_of_another_worker(rt: HostRuntime) -> Result<(), Fail> {
+    assert!(rt;
+        has_used_lemma(&rt, rt.alloc())?,
+        "the lemma of another worker"
+    );
     Ok(())
 }

@@ -1,9 +1,11 @@
 // Passes of a turn, on one thread. Each offers a candidate, which lands in its next turn.
-ghost use Rattle.std.specs.Prelude.{◌≡◌, ◌+◌, ◌^◌, ◌<◌, ◌≤◌, IsTrue, IfOk};
+ghost use Rattle.std.specs.Prelude.{◌≡◌, ◌+◌, ◌^◌, ◌<◌, ◌≤◌, [], IsTrue, IfOk};
 ghost use Rattle.cgm_turn.specs.Passes.{IsPassOf, IsSamePass, beginner};
 
 use crate::problems::problem_of;
+use crate::verdicts::lemma;
 use cgm_atom::{Entry, MAX_WORKERS, Problem, Seq, satisfied};
+use cgm_core::is_proper;
 use cgm_log::{Batch, Fate, Log, MAX_TRADES, Traded};
 use cgm_turn::{Pass, Turn};
 use std::alloc::Global;
@@ -64,6 +66,40 @@ pub(crate) fn offer<R: Wait>(
     }
 }
 
+/// Trades a lemma by a pass that has seen nothing: a bound, atoms, `:` and hints. It has to be
+/// proper.
+pub(crate) fn teach<R: Wait>(
+    rt: &R,
+    alloc: Global,
+    problem: &Problem,
+    turn: &Turn,
+    pass: &mut Pass,
+    words: &str,
+) -> Result<Traded, Fail>
+    requires own { IsPassOf turn.now pass.old }
+    requires problem { turn.now.problem ≡ problem.now }
+    requires unseen { pass.old.told ≡ [] }
+    ensures own { IsPassOf turn.now pass.new }
+    ensures same { IsSamePass pass.old pass.new }
+{
+    if !may_trade(pass) {
+        return Err(Fail::new("no trade left"));
+    }
+    let by = pass.number();
+    let batch = Batch {
+        by,
+        lemmas: Seq::of(vec![in alloc; lemma(alloc, by, words)?]?),
+        candidate: None,
+    };
+    if !is_proper(alloc, problem, &[], &batch)? {
+        return Err(Fail::new("no lemma of the problem"));
+    }
+    match turn.trade(rt, pass, batch) {
+        Ok(traded) => Ok(traded),
+        Err(_) => Err(Fail::new("no memory")),
+    }
+}
+
 /// Whether a candidate was kept with this ordinal, at this place, and so many entries were news.
 pub(crate) fn is_kept(traded: &Traded, ordinal: u64, place: u64, told: u64) -> bool {
     match traded {
@@ -81,8 +117,8 @@ fn has_ordinal(fate: &Option<Fate>, wanted: u64) -> bool {
     }
 }
 
-/// Whether a candidate is behind the best with this ordinal and these values, and so many entries were
-/// news.
+/// Whether a candidate is behind the best with this ordinal and these values, and so many entries
+/// were news.
 pub(crate) fn is_behind(traded: &Traded, wanted: u64, best: &[i64], told: u64) -> bool {
     match traded {
         Traded::Closed { .. } => false,
@@ -116,8 +152,8 @@ fn is_best(entry: &Entry, worker: u32, wanted: &[i64]) -> bool {
     }
 }
 
-/// Splits off the pass with this number and, while it is out, all further ones; each offers a candidate
-/// that is one better, the last one first. Whether each was kept at its place.
+/// Splits off the pass with this number and, while it is out, all further ones; each offers a
+/// candidate that is one better, the last one first. Whether each was kept at its place.
 pub(crate) fn nest<R: Wait>(
     rt: &R,
     alloc: Global,

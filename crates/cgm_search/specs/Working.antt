@@ -26,13 +26,13 @@ pub record WorkerState (H : Type 0) : Type 0 where
   pub plan : Plan
   pub trail : TrailState
   pub store : StoreState
-  -- the variables in the order of its decisions before the first restart, and in that of equal weights after it
+  -- the variables in the order that it splits by before the first restart, and in that of equal weights after it
   pub order : List Var
   pub later_order : List Var
   -- how its run ended; None before it
   pub ended : Option Stopped
 
--- its decisions go in the order of its own number and seed
+-- both lists that it decides by are in the order of its own number and seed
 pub record IsOrdered {H : Type 0} (w : WorkerState H) : Type 0 where
   pub first : w.order ≡ order_of (var_count w.seat.problem) w.plan.seed w.worker
   pub later : w.later_order ≡ order_of (var_count w.seat.problem) w.plan.seed w.worker

@@ -1,7 +1,7 @@
 //! What to decide next.
 ghost use Rattle.std.specs.Prelude.{◌≡◌, ◌+◌, ◌<◌, ◌≤◌, ◌↔◌, length, IsNone, IfOk, IfSome};
 ghost use Rattle.cgm_atom.specs.Instance.{var_count};
-ghost use Rattle.cgm_search.specs.Choosing.{IsChoiceOf, IsOwnOrder};
+ghost use Rattle.cgm_search.specs.Choosing.{IsChoiceOf, IsOwnHalf, IsOwnOrder};
 ghost use Rattle.cgm_split.specs.Halving.{IsLowerHalf, IsPoint};
 ghost use Rattle.cgm_trail.specs.TrailState.{IsOpenIn, box_of};
 
@@ -34,12 +34,13 @@ impl Choice {
         Ok(Choice { order, activity })
     }
 
-    /// The lower half of a variable that isn't fixed, or None where all are: by the first order until
-    /// the first restart, by the second after it.
+    /// The lower half of a variable that isn't fixed, or None where all are: by the first order
+    /// until the first restart, by the second after it.
     pub(crate) fn choose(&mut self, trail: &Trail) -> Option<Atom>
         requires { IsChoiceOf (length (box_of trail.now).lower) self.old }
         ensures none { IsNone result ↔ IsPoint (box_of trail.now) }
         ensures undecided { IfSome result (IsOpenIn (box_of trail.now)) }
+        ensures own { IfSome result (IsOwnHalf trail.now.restarts (box_of trail.now) self.old) }
         ensures same { self.new ≡ self.old }
     {
         let half = self.half_of(trail.restarts(), trail.state());
@@ -51,6 +52,7 @@ impl Choice {
         requires { IsChoiceOf (length state.now.lower) self.old }
         ensures none { IsNone result ↔ IsPoint state.now }
         ensures half { IfSome result (λ a. IsLowerHalf state.now a.var a) }
+        ensures own { IfSome result (IsOwnHalf restarts state.now self.old) }
         ensures same { self.new ≡ self.old }
     {
         if restarts == 0 {
@@ -59,9 +61,9 @@ impl Choice {
         self.activity.next(state)
     }
 
-    /// Makes the variable of each change that was resolved on heavier in the order after the first restart.
-    /// The hints are those of what was learned from a conflict, in the order of the trail: those of the
-    /// changes, and then that of the conflict.
+    /// Makes the variable of each change that was resolved on heavier in the order after the first
+    /// restart. The hints are those of what was learned from a conflict, in the order of the trail:
+    /// those of the changes, and then that of the conflict.
     pub(crate) fn raise_resolved(&mut self, trail: &Trail, hints: &[Hint])
         requires { length self.old.activity.weights ≡ var_count trail.now.problem }
         ensures order { self.new.order ≡ self.old.order }

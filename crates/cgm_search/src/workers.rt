@@ -19,14 +19,15 @@ use cgm_trail::Trail;
 use std::alloc::Global;
 use std::marker::Model;
 
-/// One worker of a search, with its trader. Until its run ended it has seen what its trader was told.
+/// One worker of a search, with its trader. Until its run ended it has seen what its trader was
+/// told.
 ///
 /// While it hasn't answered `Memory` and what it has seen isn't closed: each change of its trail
-/// that isn't a decision is one that narrowing by its hint makes from the box before it, and the hint
-/// names what it has seen. Its store has the problem's clauses, the cut of the last best that it has
-/// seen, and every lemma of at most eight atoms that it has seen. No lemma that it uses has a bound
-/// above the ordinal of that best. Its decisions go in the order that its own number and the seed draw,
-/// and each batch that it trades has its own number.
+/// that isn't a decision is one that narrowing by its hint makes from the box before it, and the
+/// hint names what it has seen. Its store has the problem's clauses, the cut of the last best that
+/// it has seen, and every lemma of at most eight atoms that it has seen. No lemma that it uses has
+/// a bound above the ordinal of that best. The lists that it decides by are in the order that its
+/// own number and the seed draw. Its number is its trader's, where that has one.
 #[derive(Drop)]
 pub struct Worker<T: Trader> {
     trader: T,
@@ -49,9 +50,9 @@ impl<T: Trader> Model for Worker<T> {
 impl<T: Trader> Worker<T> {
     /// A worker with this number over the problem. For want of memory the trader comes back.
     ///
-    /// Conditions: the trader's problem is `problem`; it was told nothing and may still make two trades
-    /// more than the budget says; the number is below 16, and the trader's where that has one; the
-    /// numbers of the plan are within their limits.
+    /// Conditions: the trader's problem is `problem`; it was told nothing and may still make two
+    /// trades more than the budget says; the number is below 16, and the trader's where that has
+    /// one; the numbers of the plan are within their limits.
     pub fn new(
         alloc: Global,
         problem: &Problem,
@@ -95,11 +96,11 @@ impl<T: Trader> Worker<T> {
     /// Searches until what the worker has seen is closed, its budget is spent, or memory runs out.
     /// Its first act is a trade with an empty batch.
     ///
-    /// `Final` exactly where what it has seen is closed, want of memory aside. `Spent` only where its
-    /// trail has as many moves as the budget says, and so never where the budget is at least
+    /// `Final` exactly where what it has seen is closed, want of memory aside. `Spent` only where
+    /// its trail has as many moves as the budget says, and so never where the budget is at least
     /// `(restarts + 1) * 2^(S + 1)`, S being the slack of the problem's bounds. It trades at most
-    /// two times more than the budget says. A further run answers the same, trades nothing and calls
-    /// no gate.
+    /// two times more than the budget says. A further run answers the same, trades nothing and
+    /// calls no gate.
     pub fn run<G: Gate>(&mut self, gate: &G) -> Stopped
         ensures ended { self.new.ended ≡ Some result }
         ensures valid { IsWorker self.new }
@@ -161,7 +162,8 @@ impl<T: Trader> Worker<T> {
         self.search.trail.moves()
     }
 
-    /// The trader and the trail. Takes no memory. Where the budget is spent, it is spent on this trail.
+    /// The trader and the trail. Takes no memory. Where the budget is spent, it is spent on this
+    /// trail.
     pub fn into_parts(self) -> (T, Trail)
         ensures problem { (T.seat result.0).problem ≡ self.seat.problem }
         ensures told { (T.seat result.0).told ≡ self.seat.told }

@@ -93,7 +93,7 @@ IsVerifyAnswer m pairs entries (Err Memory) = Unit {0}
 
 -- ---- solving
 
--- each of so many workers spent its budget, they left these entries, and their trails, by number, were added to the trails before
+-- so many trails, each of a spent budget over these entries, were added behind the trails before
 pub record IsSpentWork (p : Instance) (workers : ℕ) (plan : Plan) (entries : List Entry) (before after : List TrailState) (spent : List ℕ) : Type 0 where
   pub trails : List TrailState
   pub some : 1 ≤ workers

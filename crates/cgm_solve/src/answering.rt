@@ -13,8 +13,8 @@ use cgm_trail::{Trail, Work};
 use std::alloc::Global;
 use std::mem::drop;
 
-/// The answer of a closed log, or of one that isn't closed where every worker's budget is spent. Then
-/// the work gains their trails. Its entries are those of the log.
+/// The answer of a closed log, or of one that isn't closed where every worker's budget is spent.
+/// Then the work gains their trails. Its entries are those of the log.
 pub(crate) fn tell(
     alloc: Global,
     encoded: &Encoded,

@@ -21,16 +21,16 @@ use std::marker::Sync;
 use std::sync::Wait;
 use std::thread::Threads;
 
-/// Solves a model, with what is known of an earlier realization, by one worker with this plan. It waits
-/// for nobody.
+/// Solves a model, with what is known of an earlier realization, by one worker with this plan. It
+/// waits for nobody.
 ///
-/// `Realized` has a least realization with its vector, and `Unrealizable` says that there is none. The
-/// entries are then an accepted, closed log of the model's problem, which shows this by itself.
-/// `Exhausted` comes only where the worker made as many moves as its budget says. Its entries are an
-/// accepted log that isn't closed, and the best is their last best, if any. Then the work gains the
-/// worker's trail, and the entries have every lemma and every best that a change of this trail rests
-/// on. Otherwise the work stays. `Open` never comes. A certificate can write the entries of each answer.
-/// `SolveStop::Row` comes exactly where the model has no encoding.
+/// `Realized` has a least realization with its vector, and `Unrealizable` says that there is none.
+/// The entries are then an accepted, closed log of the model's problem, which shows this by itself.
+/// `Exhausted` comes only where the worker made as many moves as its budget says. Its entries are
+/// an accepted log that isn't closed, and the best is their last best, if any. Then the work gains
+/// the worker's trail, and the entries have every lemma and every best that a change of this trail
+/// rests on. Otherwise the work stays. `Open` never comes. A certificate can write the entries of
+/// each answer. `SolveStop::Row` comes exactly where the model has no encoding.
 ///
 /// Condition: the numbers of the plan are within their limits.
 pub fn solve_alone(
@@ -50,9 +50,10 @@ pub fn solve_alone(
     }
 }
 
-/// The same by a crew of workers, which search at once over one log. `Exhausted` comes only where each
-/// of them made as many moves as its budget says. Then the work gains their trails, by number, and
-/// `spent` has their moves. A worker that runs out of memory takes nothing from what the others reach.
+/// The same by a crew of workers, which search at once over one log. `Exhausted` comes only where
+/// each of them made as many moves as its budget says. Then the work gains as many trails as
+/// workers, and `spent` has their moves. A worker that runs out of memory takes nothing from what
+/// the others reach.
 ///
 /// It waits for turns and for its workers, so this holds if it returns.
 /// Condition: the numbers of the crew are within their limits.

@@ -9,7 +9,8 @@ pub(crate) struct Case<'a> {
 }
 
 impl<'a> Case<'a> {
-    /// Whether the case holds for a program that runs one worker alone, or for one that runs several.
+    /// Whether the case holds for a program that runs one worker alone, or for one that runs
+    /// several.
     pub(crate) fn holds_for(&self, is_alone: bool) -> bool {
         for step in self.steps.as_slice() {
             match step {
@@ -33,7 +34,8 @@ pub(crate) enum Step<'a> {
     Fail(FailingCall),
     /// The case holds for one worker alone.
     Alone,
-    /// The case holds for as many workers as its words say, and not for one that is run in their place.
+    /// The case holds for as many workers as its words say, and not for one that is run in their
+    /// place.
     Together,
     /// The program is run.
     Run(Run),

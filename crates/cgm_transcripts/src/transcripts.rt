@@ -67,16 +67,7 @@ fn run_request<P: Program, F: Shelf, O: Sink>(
     shelf: &mut F,
     out: &mut O,
 ) -> Result<Ending, Stop> {
-    let broken = refuse_files(alloc, request.broken.as_slice(), shelf, out)?;
-    let wrong = run_files(
-        alloc,
-        program,
-        WRONG,
-        request.wrong.as_slice(),
-        &request.only,
-        shelf,
-        out,
-    )?;
+    let (wrong, broken) = judge_faults(alloc, program, request, shelf, out)?;
     let cases = run_files(
         alloc,
         program,
@@ -87,6 +78,31 @@ fn run_request<P: Program, F: Shelf, O: Sink>(
         out,
     )?;
     Ok(ending_of(cases, wrong, broken))
+}
+
+/// Runs the wrong cases, and reads the texts that are to be no transcripts. Whether they are told
+/// is asked once, of the program that runs one worker; the others count none.
+fn judge_faults<P: Program, F: Shelf, O: Sink>(
+    alloc: Global,
+    program: &P,
+    request: &Request,
+    shelf: &mut F,
+    out: &mut O,
+) -> Result<(Tally, Tally), Stop> {
+    if !program.is_alone() {
+        return Ok((Tally::NONE, Tally::NONE));
+    }
+    let broken = refuse_files(alloc, request.broken.as_slice(), shelf, out)?;
+    let wrong = run_files(
+        alloc,
+        program,
+        WRONG,
+        request.wrong.as_slice(),
+        &request.only,
+        shelf,
+        out,
+    )?;
+    Ok((wrong, broken))
 }
 
 /// Prints how many there were, and how many of them were told.
@@ -117,8 +133,8 @@ fn print_text<O: Sink>(out: &mut O, text: &str) -> Result<(), Stop> {
     }
 }
 
-/// Reads texts that are to be no transcripts, and prints for each at which line it isn't one, and then
-/// their counts.
+/// Reads texts that are to be no transcripts, and prints for each at which line it isn't one, and
+/// then their counts.
 fn refuse_files<F: Shelf, O: Sink>(
     alloc: Global,
     names: &[String],

@@ -1,6 +1,6 @@
 use Rattle.std.proofs.Common.{ap, option_map, sym, ◌∙◌}
 use Rattle.cgm_model.specs.Model.{lists_of}
-use Rattle.cgm_cli.specs.CommandLine.{one, with_workers}
+use Rattle.cgm_cli.specs.CommandLine.{one_worker, with_workers}
 use Rattle.cgm_cli.specs.Commands.{told_by}
 use Rattle.cgm_cli.proofs.Ending.{earlier_kept, ends, ends_early, model_kept}
 use Rattle.cgm_cli.proofs.quiet.run_command.Goals as goal
@@ -8,7 +8,7 @@ use Rattle.cgm_cli.proofs.quiet.run_command.Goals as goal
 pub returns-in-Ok : goal.returns-in-Ok
 returns-in-Ok g c =
     let read = c.in-Ok.input in
-    let workers_for = one in
+    let workers_for = one_worker in
     let told = told_by c.args.command in
     ends (with_workers workers_for told)
     (g.F.Shelf.state c.args.shelf.now) (g.F.Shelf.state c.input_of_files.new.shelf) (g.F.Shelf.state c.run_on-status.new.shelf)
@@ -20,7 +20,7 @@ returns-in-Ok g c =
 
 pub returns-in-Err : goal.returns-in-Err
 returns-in-Err g c =
-    let workers_for = one in
+    let workers_for = one_worker in
     let told = told_by c.args.command in
     ends_early (with_workers workers_for told) (g.F.Shelf.state c.args.shelf.now) (g.F.Shelf.state c.input_of_files.new.shelf)
     (g.O.Sink.state c.args.out.now) (g.O.Sink.state c.input_of_files.new.out) c.args.work.now

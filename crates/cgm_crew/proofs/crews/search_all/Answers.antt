@@ -1,5 +1,4 @@
-use Rattle.std.proofs.Common.{◌≡◌, List, sym, subst, ◌∙◌, arith}
-use Rattle.cgm_atom.specs.declared.entries.Entry.{Entry}
+use Rattle.std.proofs.Common.{◌≡◌, subst, ◌∙◌, arith}
 use Rattle.cgm_atom.specs.Instance.{Instance}
 use Rattle.cgm_crew.specs.Crews.{AreEndsOver, plan_of}
 use Rattle.cgm_crew.proofs.Endings.{ends_over, front_of_log, others_made_none}

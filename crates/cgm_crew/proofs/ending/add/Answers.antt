@@ -1,5 +1,5 @@
-use Rattle.std.proofs.Common.{◌≡◌, ℕ, ◌<◌, sym, ap, subst, ◌∙◌, arith}
-use Rattle.std.specs.Prelude.{IfSome, Option}
+use Rattle.std.proofs.Common.{ℕ, ◌<◌, sym, ap, subst, ◌∙◌, arith}
+use Rattle.std.specs.Prelude.{IsSomeAnd, Option}
 use Rattle.cgm_crew.specs.Crews.{plan_of}
 use Rattle.cgm_crew.specs.Ends.{AreBelow}
 use Rattle.cgm_crew.proofs.Endings.{ends_added}
@@ -15,7 +15,7 @@ returns-clause-joining g c =
     let y = c.join.new.first in
     let h = c.requires.joining in
     let number : left.pass.number < workers =
-    subst (λ (o : Option ℕ). IfSome o (λ n. n < workers)) (sym c.parts-pass.ensures.number) c.requires.worker.other.number in
+    subst (λ (o : Option ℕ). IsSomeAnd o (λ n. n < workers)) (sym c.parts-pass.ensures.number) c.requires.worker.other.number in
     record {
       problem = ap (λ (z : PassState). z.problem) c.join.ensures ∙ h.problem;
       table_is = ap (λ (z : PassState). z.table) c.join.ensures ∙ h.table_is;

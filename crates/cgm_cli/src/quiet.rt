@@ -22,8 +22,8 @@ use cgm_solve::{SolveStop, solve_alone};
 use cgm_trail::Work;
 use std::alloc::Global;
 
-/// Does what `run` does, with one worker, whatever number of workers is given. It waits for nobody
-/// and always returns.
+/// Does what `run` does, with one worker, whatever number of workers is given. It waits for nobody and
+/// always returns.
 pub fn run_quiet<F: Shelf, O: Sink>(
     alloc: Global,
     words: &[String],
@@ -137,8 +137,8 @@ fn solve_by_one<F: Shelf, O: Sink>(
         input.now.earlier.pairs result }
     ensures files { LeavesFiles (with_workers one_worker (solving request.entry))
         (F.state shelf.old) (F.state shelf.new) result }
-    ensures work { LeavesWork (with_workers one_worker (solving request.entry)) work.old work.new
-        result }
+    ensures work { LeavesWork (with_workers one_worker (solving request.entry))
+        work.old work.new result }
     ensures reads { (F.state shelf.new).read_faults ≡ (F.state shelf.old).read_faults }
 {
     let m = &input.reading.model;

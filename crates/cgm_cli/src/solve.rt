@@ -51,8 +51,8 @@ pub(crate) fn solve_by_crew<'a, R: Threads + Wait + Sync, G: Gate, F: Shelf, O: 
         input.now.earlier.pairs result }
     ensures files { LeavesFiles (with_workers as_asked (solving request.entry))
         (F.state shelf.old) (F.state shelf.new) result }
-    ensures work { LeavesWork (with_workers as_asked (solving request.entry)) work.old work.new
-        result }
+    ensures work { LeavesWork (with_workers as_asked (solving request.entry))
+        work.old work.new result }
     ensures reads { (F.state shelf.new).read_faults ≡ (F.state shelf.old).read_faults }
 {
     let alloc = by.alloc;
@@ -65,8 +65,8 @@ pub(crate) fn solve_by_crew<'a, R: Threads + Wait + Sync, G: Gate, F: Shelf, O: 
     }
 }
 
-/// Makes the report of an answer. Then writes the certificate where a file is named for it, and
-/// prints the report.
+/// Makes the report of an answer. Then writes the certificate where a file is named for it, and prints
+/// the report.
 pub(crate) fn deliver<F: Shelf, O: Sink>(
     alloc: Global,
     model: &Model,

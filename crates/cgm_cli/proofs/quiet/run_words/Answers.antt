@@ -1,4 +1,4 @@
-use Rattle.std.proofs.Common.{map}
+use Rattle.std.proofs.Common.{ap, map, option_map, sym, ◌∙◌}
 use Rattle.std.specs.String.{string_bytes}
 use Rattle.cgm_cli.specs.CommandLine.{command_for, one_worker}
 use Rattle.cgm_cli.specs.Commands.{told_by}
@@ -11,12 +11,12 @@ returns-in-Ok-Some g c =
     runs_command one_worker (map string_bytes c.args.words.now) (told_by c.in-Ok-Some.command)
     (world (g.F.Shelf.state c.args.shelf.now) (g.O.Sink.state c.args.out.now) c.args.work.now)
     (world (g.F.Shelf.state c.run_command.new.shelf) (g.O.Sink.state c.run_command.new.out) c.run_command.new.work)
-    c.run_command.result c.in-Ok-Some.ensures.command c.run_command.ensures
+    c.run_command.result (sym (ap (option_map told_by) c.in-Ok-Some.field-0-is) ∙ c.in-Ok-Some.ensures.command) c.run_command.ensures
 
 pub returns-in-Ok-None : goal.returns-in-Ok-None
 returns-in-Ok-None g c =
     runs_nothing one_worker (map string_bytes c.args.words.now) (g.F.Shelf.state c.args.shelf.now)
-    (g.O.Sink.state c.args.out.now) (g.O.Sink.state c.tell.new.out) c.args.work.now c.in-Ok-None.ensures.command c.tell.ensures
+    (g.O.Sink.state c.args.out.now) (g.O.Sink.state c.tell.new.out) c.args.work.now (sym (ap (option_map told_by) c.in-Ok-None.field-0-is) ∙ c.in-Ok-None.ensures.command) c.tell.ensures
 
 pub returns-in-Err : goal.returns-in-Err
 returns-in-Err g c =

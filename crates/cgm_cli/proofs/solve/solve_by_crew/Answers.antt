@@ -1,5 +1,6 @@
-use Rattle.std.proofs.Common.{ℕ, inr, option_map, subst, sym}
+use Rattle.std.proofs.Common.{ℕ, inr, option_map, rules, subst, sym}
 use Rattle.cgm_model.specs.Model.{lists_of}
+use Rattle.cgm_crew.specs.Crews.{IsCrew}
 use Rattle.cgm_search.specs.declared.plans.Plan.{Plan}
 use Rattle.cgm_search.specs.Searching.{IsPlan}
 use Rattle.cgm_solve.specs.Answers.{IsSolved}
@@ -51,8 +52,9 @@ returns-in-Ok-clause-files g c =
 
 pub solve-requires : goal.solve-requires
 solve-requires g c =
-    record {
+    let crew : IsCrew c.crew-crew.result = record {
       some = rw c.crew-crew.ensures.workers c.requires.plan.1;
       few = rw c.crew-crew.ensures.workers c.requires.plan.2;
       plan = subst (λ (plan : Plan). IsPlan plan) (sym c.crew-crew.ensures.plan) c.requires.plan.0;
-    }
+    } in
+    (search rules, (search rules, crew))

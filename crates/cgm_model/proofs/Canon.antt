@@ -108,10 +108,10 @@ new_name m p w n t is others =
     other.1 (named_once m w n u t other.0 is))
 
 -- the tests of declared names
-record NameTests (p : Lists) (ns : List (List ℕ)) : Type 0 where
-  short : list_all is_short ns ≡ true
-  spelled : list_all is_name ns ≡ true
-  new : list_all (is_new p) ns ≡ true
+pub record NameTests (p : Lists) (ns : List (List ℕ)) : Type 0 where
+  pub short : list_all is_short ns ≡ true
+  pub spelled : list_all is_name ns ≡ true
+  pub new : list_all (is_new p) ns ≡ true
 
 no_name : (p : Lists) → NameTests p []
 no_name p = record { short = refl; spelled = refl; new = refl }
@@ -125,12 +125,12 @@ one_name m p w n t is others = record {
 
 -- ---- the counts
 
-record Counts (p : Lists) (s : Statement) : Type 0 where
-  statements : nat_lt (statement_count p) (limit_number limits.Statements) ≡ true
-  elements : nat_le (length (added p s).elements) (limit_number limits.Elements) ≡ true
-  refinements : nat_le (length (added p s).refinements) (limit_number limits.Refinements) ≡ true
-  nodes : nat_le (node_total (added p s).rules) (limit_number limits.FormulaNodes) ≡ true
-  objectives : nat_le (length (added p s).objectives) (limit_number limits.Objectives) ≡ true
+pub record Counts (p : Lists) (s : Statement) : Type 0 where
+  pub statements : nat_lt (statement_count p) (limit_number limits.Statements) ≡ true
+  pub elements : nat_le (length (added p s).elements) (limit_number limits.Elements) ≡ true
+  pub refinements : nat_le (length (added p s).refinements) (limit_number limits.Refinements) ≡ true
+  pub nodes : nat_le (node_total (added p s).rules) (limit_number limits.FormulaNodes) ≡ true
+  pub objectives : nat_le (length (added p s).objectives) (limit_number limits.Objectives) ≡ true
 
 counts : (m p : Lists) (s : Statement) → IsWellFormedModel m → statement_count p + 1 ≤ statement_count m → length (added p s).elements ≤ length m.elements → length (added p s).refinements ≤ length m.refinements → node_total (added p s).rules ≤ node_total m.rules → length (added p s).objectives ≤ length m.objectives → Counts p s
 counts m p s w statements elements refinements nodes objectives = record {
@@ -152,11 +152,11 @@ front_total rs qs zs e =
 in_order : (v : Variable) → v.lo ≤ℤ v.hi → int_le v.lo v.hi ≡ true
 in_order v h = sym (true_is_le v.lo v.hi (omega (arith, ints)))
 
-small_number : (k : ℤ) → unsigned_abs k ≤ limit_number limits.Coefficient → is_small k ≡ true
+pub small_number : (k : ℤ) → unsigned_abs k ≤ limit_number limits.Coefficient → is_small k ≡ true
 small_number k l = le-leb (unsigned_abs k) (limit_number limits.Coefficient) l
 
 -- of one that refines nothing
-other_passes : (p : Lists) (s : Statement) → NameTests p (declared_names s) → has_small_coefficients s ≡ true → has_small_bounds s ≡ true → has_ordered_bounds s ≡ true → source_list s ≡ [] → has_distinct_terms_each s ≡ true → has_new_interest p s ≡ true → target_kind p s ≡ None → Counts p s → Passes p s true
+pub other_passes : (p : Lists) (s : Statement) → NameTests p (declared_names s) → has_small_coefficients s ≡ true → has_small_bounds s ≡ true → has_ordered_bounds s ≡ true → source_list s ≡ [] → has_distinct_terms_each s ≡ true → has_new_interest p s ≡ true → target_kind p s ≡ None → Counts p s → Passes p s true
 other_passes p s n small bounds ordered sources terms interest target c = record {
   short = n.short;
   spelled = n.spelled;
@@ -179,13 +179,13 @@ other_passes p s n small bounds ordered sources terms interest target c = record
 }
 
 -- of one that declares nothing, refines nothing and has no numbers
-plain_passes : (p : Lists) (s : Statement) → declared_names s ≡ [] → has_small_coefficients s ≡ true → has_small_bounds s ≡ true → has_ordered_bounds s ≡ true → source_list s ≡ [] → has_distinct_terms_each s ≡ true → has_new_interest p s ≡ true → target_kind p s ≡ None → Counts p s → Passes p s true
+pub plain_passes : (p : Lists) (s : Statement) → declared_names s ≡ [] → has_small_coefficients s ≡ true → has_small_bounds s ≡ true → has_ordered_bounds s ≡ true → source_list s ≡ [] → has_distinct_terms_each s ≡ true → has_new_interest p s ≡ true → target_kind p s ≡ None → Counts p s → Passes p s true
 plain_passes p s none small bounds ordered sources terms interest target c =
     other_passes p s (subst (NameTests p) (sym none) (no_name p)) small bounds ordered sources terms interest target c
 
 -- ---- one group after another
 
-abbrev IsNext : Lists → Statement → Type 0
+abbrev pub IsNext : Lists → Statement → Type 0
 IsNext p s = IsProperStatement p s × IsAllowed p s
 
 module _ {X : Type 0} (make : X → Statement) (front : List X → Lists) (grows : (xs : List X) (x : X) → added (front xs) (make x) ≡ front (xs ++ x ∷ [])) where

@@ -252,7 +252,7 @@ tagged : ℕ → List Statement → List LineStatement
 tagged line [] = []
 tagged line (s ∷ ss) = on_line line s ∷ tagged (line + 1) ss
 
-abbrev AllHaveWidth : List Statement → Type 0
+abbrev pub AllHaveWidth : List Statement → Type 0
 AllHaveWidth ss = AllByRecursion HasWidth ss
 
 lead : (m p : Lists) (said : List LineStatement) (line : ℕ) (ss : List Statement) → model_of said ≡ p → IsWellFormedModel p → StatementsStandInOrder p ss → after p ss ≡ m → AllHaveWidth ss
@@ -286,6 +286,17 @@ header_plain = plain_all header_tokens ((omega arith, (refl, refl)), (record { s
 
 header_comes : ComesTo None (spelled_line header_tokens) header
 header_comes = subst (λ (r : Result (List Lexeme) _). AreLexemesJudged None r header) (sym (line_is_read header_tokens header_plain)) refl
+
+-- statements that stand in order, each on its own line behind the header, are a text of the lists that they give
+pub statements_back : (ss : List Statement) → StatementsStandInOrder no_lists ss → AllHaveWidth ss → IsTextOf (whole_line header_tokens ++ statement_lines (after no_lists ss) ss) (after no_lists ss)
+unfolding HasStatements
+statements_back ss stand wide =
+    let m = after no_lists ss in
+    let rest = statement_lines m ss in
+    let body_lead = lead m no_lists [] 2 ss refl IsWellFormed-none stand refl wide in
+    let whole : Lead model_text None 1 (lines (whole_line header_tokens ++ rest)) (gives (Some (tagged 2 ss))) =
+    subst (λ (bs : List (List ℕ)). Lead model_text None 1 bs (gives (Some (tagged 2 ss)))) (sym (line_first header_tokens rest header_plain)) (Ok (Some []), ((header, (header_comes, refl)), body_lead)) in
+    (tagged 2 ss, (whole, sym (all_tagged no_lists 2 ss)))
 
 pub text_back : (m : Lists) → IsWellFormedModel m → AllHaveWidth (statements_of m) → IsTextOf (canonical_text m) m
 unfolding HasStatements canonical_text

@@ -1,0 +1,11 @@
+pub mod CostRule
+pub mod Drawing
+pub mod InOrder
+pub mod Least
+pub mod Naming
+pub mod Reading
+pub mod Realizing
+pub mod Short
+pub mod Spelled
+pub mod Statements
+pub mod Writing

@@ -73,7 +73,7 @@ after_refused p s (e ∷ entries) zero why accepted refused =
 after_refused p s (e ∷ entries) (suc i) why accepted refused =
     after_refused p (state_with s e) entries i why accepted.1 refused
 
-not_refused : (p : Instance) (entries : List Entry) (step : ℕ) (why : BadStep) → IsAccepted p entries → IsRefusedAt p entries step why → ⊥
+pub not_refused : (p : Instance) (entries : List Entry) (step : ℕ) (why : BadStep) → IsAccepted p entries → IsRefusedAt p entries step why → ⊥
 unfolding IsAccepted state_of
 not_refused p entries zero why accepted refused = refused
 not_refused p entries (suc i) why accepted refused = after_refused p empty_state entries i why accepted refused.1

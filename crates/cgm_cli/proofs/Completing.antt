@@ -13,6 +13,7 @@ use Rattle.cgm_print.specs.Canonical.{canonical_text}
 use Rattle.cgm_evolve.specs.Pairs.{Pair}
 use Rattle.cgm_atom.specs.declared.entries.Entry.{Entry}
 use Rattle.cgm_encode.specs.Problem.{problem_of}
+use Rattle.cgm_gen.specs.Draws.{most_goals}
 use Rattle.cgm_encode.specs.ProblemText.{problem_text}
 use Rattle.cgm_atom.specs.Instance.{Instance}
 use Rattle.cgm_search.specs.declared.plans.Plan.{Plan}
@@ -23,9 +24,10 @@ use Rattle.cgm_cli.specs.Answers.{entries_of}
 use Rattle.cgm_cli.specs.CheckOutcome.{HasCertificateOutcome, HasCheckOutcome, HasEntriesOutcome, HasNoEntries}
 use Rattle.cgm_cli.specs.Effects.{Outside, World, outside_of}
 use Rattle.cgm_cli.specs.Inputs.{HasNoContent}
-use Rattle.cgm_cli.specs.Laws.{CheckCompletes, EncodeCompletes, IsEnough, IsOneOf, NothingFails, ShowCompletes, SolveCompletes}
+use Rattle.cgm_cli.specs.Laws.{CheckCompletes, EncodeCompletes, IsEnough, IsOneOf, NothingFails, ShowCompletes, SolveCompletes, TrialCompletes}
 use Rattle.cgm_cli.specs.Outcome.{HasEncodeOutcome, HasShowOutcome, HasTextOutcome}
 use Rattle.cgm_cli.specs.SolveOutcome.{HasSolveOutcome, IsCertificateCut, IsLost, Wanted, wanted}
+use Rattle.cgm_cli.specs.TrialOutcome.{HasTrialOutcome}
 use Rattle.cgm_cli.proofs.GoodInputs.{Lacks, of_input, of_model, read_failed}
 
 -- where no read fails, only memory is wanted
@@ -176,3 +178,33 @@ pub solve_completes : SolveCompletes
 solve_completes name file cert workers plan found left status m earlier good nothing outcome =
     solved (wanted workers plan cert) found left m earlier status nothing
     (of_input (HasSolveOutcome (wanted workers plan cert) found left) (outside_of found) (outside_of left) name file m earlier status good outcome)
+
+-- ---- `trial`
+
+abbrev of_trial : List Status
+of_trial = statuses.Done ∷ statuses.Open ∷ statuses.Memory ∷ []
+
+abbrev of_limit : List Status
+of_limit = statuses.Limit ∷ statuses.Memory ∷ []
+
+trial_within : (goals workers : ℕ) (plan : Plan) (found left : World) (status : Status) → goals ≤ most_goals → NothingFails found left → HasTrialOutcome goals workers plan found left status → IsOneOf status of_trial
+trial_within goals workers plan found left statuses.Done within nothing outcome = (0, omega arith, refl)
+trial_within goals workers plan found left statuses.Open within nothing outcome = (1, omega arith, refl)
+trial_within goals workers plan found left statuses.Memory within nothing outcome = (2, omega arith, refl)
+trial_within goals workers plan found left statuses.Write within nothing outcome = absurd (nothing.prints outcome.1.lost.failed)
+trial_within goals workers plan found left statuses.Limit within nothing outcome = absurd (lt_irrefl most_goals (lt_of_lt_of_le outcome.0 within))
+trial_within goals workers plan found left status within nothing outcome = absurd outcome
+
+trial_past : (goals workers : ℕ) (plan : Plan) (found left : World) (status : Status) → most_goals < goals → NothingFails found left → HasTrialOutcome goals workers plan found left status → IsOneOf status of_limit
+trial_past goals workers plan found left statuses.Limit past nothing outcome = (0, omega arith, refl)
+trial_past goals workers plan found left statuses.Memory past nothing outcome = (1, omega arith, refl)
+trial_past goals workers plan found left statuses.Done past nothing outcome = absurd (lt_irrefl most_goals (lt_of_lt_of_le past outcome.0))
+trial_past goals workers plan found left statuses.Open past nothing outcome = absurd (lt_irrefl most_goals (lt_of_lt_of_le past outcome.0))
+trial_past goals workers plan found left statuses.Write past nothing outcome = absurd (lt_irrefl most_goals (lt_of_lt_of_le past outcome.0))
+trial_past goals workers plan found left status past nothing outcome = absurd outcome
+
+pub trial_completes : TrialCompletes
+trial_completes goals workers plan found left status nothing outcome = (
+  λ within. trial_within goals workers plan found left status within nothing outcome,
+  λ past. trial_past goals workers plan found left status past nothing outcome,
+)

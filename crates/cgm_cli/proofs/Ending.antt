@@ -9,7 +9,7 @@ use Rattle.cgm_shelf.specs.Shelf.{OnlyReads, ShelfState}
 use Rattle.cgm_shelf.specs.Sink.{SinkState}
 use Rattle.cgm_trail.specs.TrailState.{TrailState}
 use Rattle.cgm_evolve.specs.Pairs.{Pair}
-use Rattle.cgm_cli.specs.CommandLine.{Command, solve, check, show, encode, command_for, command_line, earlier_file, model_file, with_workers}
+use Rattle.cgm_cli.specs.CommandLine.{Action, Command, solve, check, show, encode, command_for, command_line, earlier_file, model_file, on_files, searching_by, trial, with_workers}
 use Rattle.cgm_cli.specs.Effects.{IsTold, IsUntouched, World, outside, world}
 use Rattle.cgm_cli.specs.FaultLines.{memory_fault, usage_fault}
 use Rattle.cgm_cli.specs.Inputs.{HasNoInput, IsInputOf}
@@ -57,7 +57,7 @@ kept_work (show name) work status = refl
 -- ---- a command
 
 -- the files gave an input, without a word to the sink, and then this came of it
-pub ends : (command : Command) (old mid new : ShelfState) (sink quiet said : SinkState) (work done : List TrailState) (name : List ℕ) (file : Option (List ℕ)) (m : Lists) (lines : List ℕ) (pairs : List Pair) (status : Status) → name ≡ model_file command → file ≡ earlier_file command → OnlyReads old mid → quiet ≡ sink → IsInputOf old.files name file m lines pairs → HasOwnOutcome command (world mid quiet work) (world new said done) m lines pairs status → LeavesFiles command mid new status → LeavesWork command work done status → Ends command (world old sink work) (world new said done) status
+pub ends : (command : Command) (old mid new : ShelfState) (sink quiet said : SinkState) (work done : List TrailState) (name : List ℕ) (file : Option (List ℕ)) (m : Lists) (lines : List ℕ) (pairs : List Pair) (status : Status) → name ≡ model_file command → file ≡ earlier_file command → OnlyReads old mid → quiet ≡ sink → IsInputOf old.files name file m lines pairs → HasOwnOutcome command (world mid quiet work) (world new said done) m lines pairs status → LeavesFiles command mid new status → LeavesWork command work done status → Ends (on_files command) (world old sink work) (world new said done) status
 ends command old mid new sink quiet said work done name file m lines pairs status named other only same input own files left =
     let quietly : HasOwnOutcome command (world mid sink work) (world new said done) m lines pairs status = subst (λ s. HasOwnOutcome command (world mid s work) (world new said done) m lines pairs status) same own in
     let of_name : IsInputOf old.files (model_file command) file m lines pairs = subst (λ n. IsInputOf old.files n file m lines pairs) named input in
@@ -69,7 +69,7 @@ ends command old mid new sink quiet said work done name file m lines pairs statu
     }
 
 -- the files gave no input
-pub ends_early : (command : Command) (old new : ShelfState) (sink said : SinkState) (work : List TrailState) (name : List ℕ) (file : Option (List ℕ)) (status : Status) → name ≡ model_file command → file ≡ earlier_file command → OnlyReads old new → HasNoInput name file (outside old sink) (outside new said) status → Ends command (world old sink work) (world new said work) status
+pub ends_early : (command : Command) (old new : ShelfState) (sink said : SinkState) (work : List TrailState) (name : List ℕ) (file : Option (List ℕ)) (status : Status) → name ≡ model_file command → file ≡ earlier_file command → OnlyReads old new → HasNoInput name file (outside old sink) (outside new said) status → Ends (on_files command) (world old sink work) (world new said work) status
 ends_early command old new sink said work name file status named other only gone =
     let of_name : HasNoInput (model_file command) file (outside old sink) (outside new said) status = subst (λ n. HasNoInput n file (outside old sink) (outside new said) status) named gone in
     record {
@@ -94,32 +94,35 @@ earlier_kept workers_for (encode name file) = refl
 
 -- ---- the program
 
--- the command of the words was done
-pub runs_command : (workers_for : ℕ → ℕ) (words : List (List ℕ)) (command : Command) (found left : World) (status : Status) → Some command ≡ command_line words → Ends (with_workers workers_for command) found left status → Runs (command_for workers_for words) found left status
-runs_command workers_for words command found left status is ends =
-    subst (λ (line : Option Command). Runs (option_map (with_workers workers_for) line) found left status) is
+-- what the words ask for was done
+pub runs_action : (workers_for : ℕ → ℕ) (words : List (List ℕ)) (action : Action) (found left : World) (status : Status) → Some action ≡ command_line words → Ends (searching_by workers_for action) found left status → Runs (command_for workers_for words) found left status
+runs_action workers_for words action found left status is ends =
+    subst (λ (line : Option Action). Runs (option_map (searching_by workers_for) line) found left status) is
     (record { outcome = ends.outcome; files = ends.files; work = ends.work })
 
 -- the words are no command line, as was told
 pub runs_nothing : (workers_for : ℕ → ℕ) (words : List (List ℕ)) (shelf : ShelfState) (sink said : SinkState) (work : List TrailState) → None ≡ command_line words → IsTold usage_fault sink said → Runs (command_for workers_for words) (world shelf sink work) (world shelf said work) statuses.Usage
 runs_nothing workers_for words shelf sink said work is told =
-    subst (λ (line : Option Command). Runs (option_map (with_workers workers_for) line) (world shelf sink work) (world shelf said work) statuses.Usage) is
+    subst (λ (line : Option Action). Runs (option_map (searching_by workers_for) line) (world shelf sink work) (world shelf said work) statuses.Usage) is
     (record { outcome = told; files = record { same = refl; counted = refl }; work = refl })
 
-memory_wanted : (line : Option Command) (found left : World) → IsTold memory_fault found.sink left.sink → HasWordsOutcome line found left statuses.Memory
+memory_wanted : (line : Option Action) (found left : World) → IsTold memory_fault found.sink left.sink → HasWordsOutcome line found left statuses.Memory
 memory_wanted None found left told = told
-memory_wanted (Some command) found left told = inl (inl (inl told))
+memory_wanted (Some (on_files command)) found left told = inl (inl (inl told))
+memory_wanted (Some (trial goals workers plan)) found left told = told
 
-files_kept : (line : Option Command) (shelf : ShelfState) (status : Status) → AreFilesOf line shelf shelf status
+files_kept : (line : Option Action) (shelf : ShelfState) (status : Status) → AreFilesOf line shelf shelf status
 files_kept None shelf status = record { same = refl; counted = refl }
-files_kept (Some command) shelf status = kept_files command shelf shelf status (record { same = refl; counted = refl })
+files_kept (Some (on_files command)) shelf status = kept_files command shelf shelf status (record { same = refl; counted = refl })
+files_kept (Some (trial goals workers plan)) shelf status = record { same = refl; counted = refl }
 
-work_kept : (line : Option Command) (work : List TrailState) (status : Status) → IsWorkOf line work work status
+work_kept : (line : Option Action) (work : List TrailState) (status : Status) → IsWorkOf line work work status
 work_kept None work status = refl
-work_kept (Some command) work status = kept_work command work status
+work_kept (Some (on_files command)) work status = kept_work command work status
+work_kept (Some (trial goals workers plan)) work status = unchanged work work status refl
 
 -- want of memory was told, before anything else was done
-pub lacks_memory : (line : Option Command) (shelf : ShelfState) (sink said : SinkState) (work : List TrailState) (status : Status) → status ≡ statuses.Memory → IsTold memory_fault sink said → Runs line (world shelf sink work) (world shelf said work) status
+pub lacks_memory : (line : Option Action) (shelf : ShelfState) (sink said : SinkState) (work : List TrailState) (status : Status) → status ≡ statuses.Memory → IsTold memory_fault sink said → Runs line (world shelf sink work) (world shelf said work) status
 lacks_memory line shelf sink said work status is told = record {
   outcome = subst (λ s. HasWordsOutcome line (world shelf sink work) (world shelf said work) s) (sym is) (memory_wanted line (world shelf sink work) (world shelf said work) told);
   files = files_kept line shelf status;

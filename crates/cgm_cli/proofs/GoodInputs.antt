@@ -112,7 +112,7 @@ same_known told files (Some name) earlier read is has known =
 
 -- ---- the problem
 
-holds_each : {X : Type 0} (place : ℕ) (P : ℕ → X → Type 0) (xs : List X) (failing : ℕ) → EachFrom place P xs → FirstFailsFrom place P xs failing → ⊥
+pub holds_each : {X : Type 0} (place : ℕ) (P : ℕ → X → Type 0) (xs : List X) (failing : ℕ) → EachFrom place P xs → FirstFailsFrom place P xs failing → ⊥
 holds_each place P [] failing each fails = fails
 holds_each place P (x ∷ xs) failing each (inl here) = here.1 each.0
 holds_each place P (x ∷ xs) failing each (inr later) = holds_each (place + 1) P xs failing each.1 later.1

@@ -1,6 +1,7 @@
 pub mod Accepting
 pub mod Checking
 pub mod Completing
+pub mod Encodable
 pub mod Ending
 pub mod GoodInputs
 pub mod Numerals
@@ -8,3 +9,4 @@ pub mod RuleLines
 pub mod Shelves
 pub mod Solving
 pub mod Taking
+pub mod Trialling

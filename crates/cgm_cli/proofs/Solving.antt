@@ -1,5 +1,5 @@
 -- The report of what solves a model, the outcome after it was printed, and what is left of the trails.
-use Rattle.std.proofs.Common.{◌≡◌, ℕ, take, ◌∷◌, List, [], length, ℤ, IfSome, refl, sym, ap, ◌∙◌, subst, inl, inr, append-nil}
+use Rattle.std.proofs.Common.{◌≡◌, ℕ, take, List, [], length, ℤ, IfSome, refl, sym, ap, ◌∙◌, subst, inl, inr, append-nil}
 use Rattle.std.specs.declared.option.Option.{Option}
 use Rattle.std.specs.declared.option.Option.TheVariants.{None, Some}
 use Rattle.std.proofs.lemmas.List.{length-map}
@@ -164,13 +164,13 @@ unchanged old new statuses.Limit same = same
 unchanged old new statuses.Certificate same = same
 unchanged old new statuses.Read same = same
 
-extended : (m : Lists) (pairs : List Pair) (workers : ℕ) (plan : Plan) (old new : List TrailState) (answer : Answer) → IsSolved m pairs workers plan old new answer → AreTrailsExtended old new
+pub extended : (m : Lists) (pairs : List Pair) (workers : ℕ) (plan : Plan) (old new : List TrailState) (answer : Answer) → IsSolved m pairs workers plan old new answer → AreTrailsExtended old new
 extended m pairs workers plan old new (Realized found entries) solved = none_gained old new solved.2
 extended m pairs workers plan old new (Unrealizable entries) solved = none_gained old new solved.2
 extended m pairs workers plan old new (Exhausted best spent entries) solved = (solved.2.trails, solved.2.added)
 extended m pairs workers plan old new (Open best) solved = absurd solved
 
-work_of_answer : (m : Lists) (pairs : List Pair) (workers : ℕ) (plan : Plan) (old new : List TrailState) (answer : Answer) → IsSolved m pairs workers plan old new answer → IsWorkOfSearch old new (answer_status answer)
+pub work_of_answer : (m : Lists) (pairs : List Pair) (workers : ℕ) (plan : Plan) (old new : List TrailState) (answer : Answer) → IsSolved m pairs workers plan old new answer → IsWorkOfSearch old new (answer_status answer)
 work_of_answer m pairs workers plan old new (Realized found entries) solved = solved.2
 work_of_answer m pairs workers plan old new (Unrealizable entries) solved = solved.2
 work_of_answer m pairs workers plan old new (Exhausted best spent entries) solved = (solved.2.trails, solved.2.added)

@@ -8,7 +8,7 @@ use Rattle.clap.specs.Walk.{Row, Rule, Text, first_of}
 use Rattle.cgm_atom.specs.Limits.{max_workers}
 use Rattle.cgm_search.specs.declared.plans.Plan.{Plan}
 use Rattle.cgm_search.specs.Searching.{max_budget, max_restarts}
-use Rattle.cgm_cli.specs.Numbers.{number_or}
+use Rattle.cgm_cli.specs.Numbers.{number_or, numeral_in}
 
 -- ---- the words that each command takes
 
@@ -50,6 +50,11 @@ show_options = options_of (codes "show") (codes "model" ∷ []) []
 abbrev pub encode_options : App
 encode_options = options_of (codes "encode") (codes "model" ∷ []) (codes "earlier" ∷ [])
 
+-- `trial N --workers=N --seed=N`
+abbrev pub trial_options : App
+trial_options =
+    options_of (codes "trial") (codes "goals" ∷ []) (codes "workers" ∷ codes "seed" ∷ [])
+
 abbrev pub unless_faulty : Kinds → List Row → Option (List Row)
 unless_faulty [] rows = Some rows
 unless_faulty (fault ∷ faults) rows = None
@@ -85,8 +90,18 @@ plan_given rows =
     option_map (λ seed. record { budget = budget; restarts = restarts; seed = seed })
     (seed_given rows)) (restarts_given rows)) (budget_given rows)
 
+-- by which plan `trial` searches with this seed
+abbrev pub trial_plan : ℕ → Plan
+trial_plan seed = record { budget = 1000000000; restarts = 64; seed = seed }
+
+-- the number of goals of `trial`; none where what is given is no number of its range
+abbrev pub goals_given : List Row → Option ℕ
+goals_given rows =
+    option_and_then (numeral_in 0 (2 ^ 32 - 1)) (first_of (codes "goals") rows)
+
 -- ---- commands
 
+-- a command on files
 pub data Command : Type 0 where
   -- `solve`, with the names of the model's file, of the earlier realization's file and of the certificate's file, by so many workers with this plan
   solve : Text → Option Text → Option Text → ℕ → Plan → Command
@@ -133,7 +148,7 @@ encode_with rows =
     option_map (λ model. encode model (first_of (codes "earlier") rows))
     (first_of (codes "model") rows)
 
--- the command of the first word, which the words begin with
+-- the command on files of the first word, which the words begin with
 abbrev pub command_of : Text → List Text → Option Command
 command_of word words =
     if bytes_eq word (codes "solve") then option_and_then solve_with (given solve_options words)
@@ -144,9 +159,30 @@ command_of word words =
     then option_and_then encode_with (given encode_options words)
     else None
 
-abbrev pub command_line : List Text → Option Command
+-- ---- what the words ask for
+
+pub data Action : Type 0 where
+  -- a command on files
+  on_files : Command → Action
+  -- `trial`, with so many goals, by so many workers with this plan
+  trial : ℕ → ℕ → Plan → Action
+
+abbrev pub trial_with : List Row → Option Action
+trial_with rows =
+    option_and_then (λ goals.
+    option_and_then (λ workers.
+    option_map (λ seed. trial goals workers (trial_plan seed))
+    (seed_given rows)) (workers_given rows)) (goals_given rows)
+
+-- what the first word asks for, which the words begin with
+abbrev pub action_of : Text → List Text → Option Action
+action_of word words =
+    if bytes_eq word (codes "trial") then option_and_then trial_with (given trial_options words)
+    else option_map on_files (command_of word words)
+
+abbrev pub command_line : List Text → Option Action
 command_line [] = None
-command_line (word ∷ words) = command_of word (word ∷ words)
+command_line (word ∷ words) = action_of word (word ∷ words)
 
 -- ---- by how many workers
 
@@ -166,6 +202,11 @@ with_workers workers_for (check name cert file) = check name cert file
 with_workers workers_for (show name) = show name
 with_workers workers_for (encode name file) = encode name file
 
+-- the same of what the words ask for
+abbrev pub searching_by : (ℕ → ℕ) → Action → Action
+searching_by workers_for (on_files command) = on_files (with_workers workers_for command)
+searching_by workers_for (trial goals workers plan) = trial goals (workers_for workers) plan
+
 -- the command line of the words; none where they are none
-abbrev pub command_for : (ℕ → ℕ) → List Text → Option Command
-command_for workers_for words = option_map (with_workers workers_for) (command_line words)
+abbrev pub command_for : (ℕ → ℕ) → List Text → Option Action
+command_for workers_for words = option_map (searching_by workers_for) (command_line words)

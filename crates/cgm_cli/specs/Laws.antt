@@ -1,7 +1,7 @@
 -- Laws over the outcomes of commands: which statuses come where nothing fails, and that `check` accepts what `solve` wrote.
-use Rattle.std.specs.Prelude.{◌≡◌, ◌≢◌, ◌⊎◌, ℕ, ◌+◌, ◌*◌, ◌^◌, ◌≤◌, List, [], ◌∷◌, length, Contains, IsSome, IsSomeAnd, Option, None, Some}
+use Rattle.std.specs.Prelude.{◌≡◌, ◌≢◌, ◌⊎◌, ℕ, ◌+◌, ◌*◌, ◌^◌, ◌<◌, ◌≤◌, List, [], ◌∷◌, length, Contains, IsSome, IsSomeAnd, Option, None, Some}
 use Rattle.cgm_base.specs.declared.status.Status.{Status}
-use Rattle.cgm_base.specs.declared.status.Status.TheVariants.{Done, Unrealizable, Certificate, Open, Read, Write, Memory}
+use Rattle.cgm_base.specs.declared.status.Status.TheVariants.{Done, Unrealizable, Limit, Certificate, Open, Read, Write, Memory}
 use Rattle.cgm_base.specs.Words.{most_bytes}
 use Rattle.cgm_shelf.specs.Faults.{Rose}
 use Rattle.cgm_shelf.specs.Shelf.{Files, ShelfState}
@@ -14,10 +14,11 @@ use Rattle.cgm_search.specs.declared.plans.Plan.{Plan}
 use Rattle.cgm_encode.specs.declared.answer.Found.{Found}
 use Rattle.cgm_encode.specs.Encoding.{IsEncodable}
 use Rattle.cgm_encode.specs.Problem.{problem_of}
+use Rattle.cgm_gen.specs.Draws.{most_goals}
 use Rattle.cgm_report.specs.Answers.{exhausted, left_open}
-use Rattle.cgm_cli.specs.CommandLine.{solve, check, show, encode}
+use Rattle.cgm_cli.specs.CommandLine.{solve, check, show, encode, trial}
 use Rattle.cgm_cli.specs.Effects.{World, IsPrinted}
-use Rattle.cgm_cli.specs.Outcome.{HasCommandOutcome}
+use Rattle.cgm_cli.specs.Outcome.{HasActionOutcome, HasCommandOutcome}
 
 -- ---- which statuses come where nothing fails
 
@@ -91,6 +92,14 @@ ShowCompletes =
     → found.shelf.files ≡ Some told → HasModel told name m → NothingFails found left
     → HasCommandOutcome (show name) found left status
     → IsOneOf status (Done ∷ Memory ∷ [])
+
+-- `trial` of at most 2,000 goals answers, or leaves open what its budget doesn't reach, or wants memory; of more goals it tells the limit, or wants memory
+abbrev pub TrialCompletes : Type 0
+TrialCompletes =
+    (goals workers : ℕ) (plan : Plan) (found left : World) (status : Status)
+    → NothingFails found left → HasActionOutcome (trial goals workers plan) found left status
+    → (goals ≤ most_goals → IsOneOf status (Done ∷ Open ∷ Memory ∷ []))
+    × (most_goals < goals → IsOneOf status (Limit ∷ Memory ∷ []))
 
 -- ---- `check` over what `solve` wrote
 

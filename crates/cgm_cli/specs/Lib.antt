@@ -11,3 +11,4 @@ pub mod Numbers
 pub mod Outcome
 pub mod Placed
 pub mod SolveOutcome
+pub mod TrialOutcome

@@ -11,11 +11,12 @@ use Rattle.cgm_trail.specs.TrailState.{TrailState}
 use Rattle.cgm_encode.specs.Problem.{problem_of}
 use Rattle.cgm_encode.specs.ProblemText.{problem_text}
 use Rattle.cgm_cli.specs.CheckOutcome.{HasCheckOutcome}
-use Rattle.cgm_cli.specs.CommandLine.{Command, solve, check, show, encode, command_for, earlier_file, model_file}
+use Rattle.cgm_cli.specs.CommandLine.{Action, Command, solve, check, show, encode, command_for, earlier_file, model_file, on_files, trial}
 use Rattle.cgm_cli.specs.Effects.{World, IsCutOff, AreTrailsExtended, IsPrinted, IsTold, IsUnchanged, IsUntouched, outside_of}
 use Rattle.cgm_cli.specs.FaultLines.{memory_fault, usage_fault}
 use Rattle.cgm_cli.specs.Inputs.{HasInputOutcome, HasProblemOutcome}
 use Rattle.cgm_cli.specs.SolveOutcome.{HasSolveOutcome, wanted}
+use Rattle.cgm_cli.specs.TrialOutcome.{HasTrialOutcome}
 
 -- ---- the outcome of a command
 
@@ -49,11 +50,17 @@ HasOwnOutcome (encode name file) found left m rule_lines earlier status =
 HasOwnOutcome (show name) found left m rule_lines earlier status =
     HasShowOutcome found.sink left.sink m status
 
--- the outcome of a command: of its files, and of what they gave
+-- the outcome of a command on files: of its files, and of what they gave
 abbrev pub HasCommandOutcome : Command → World → World → Status → Type 0
 HasCommandOutcome command found left status =
     HasInputOutcome (HasOwnOutcome command found left) (model_file command) (earlier_file command)
     (outside_of found) (outside_of left) status
+
+-- the outcome of what is asked for: a command on files, or `trial`
+abbrev pub HasActionOutcome : Action → World → World → Status → Type 0
+HasActionOutcome (on_files command) found left status = HasCommandOutcome command found left status
+HasActionOutcome (trial goals workers plan) found left status =
+    HasTrialOutcome goals workers plan found left status
 
 -- ---- the outcome for the words
 
@@ -64,9 +71,9 @@ HasUsageOutcome old new Memory = IsTold memory_fault old new
 HasUsageOutcome old new status = ⊥
 
 -- the outcome of a command line; none where the words are no command line
-abbrev pub HasWordsOutcome : Option Command → World → World → Status → Type 0
+abbrev pub HasWordsOutcome : Option Action → World → World → Status → Type 0
 HasWordsOutcome None found left status = HasUsageOutcome found.sink left.sink status
-HasWordsOutcome (Some command) found left status = HasCommandOutcome command found left status
+HasWordsOutcome (Some action) found left status = HasActionOutcome action found left status
 
 -- the outcome for the words, where workers_for says how many workers search where so many are asked for
 abbrev pub HasOutcome : (ℕ → ℕ) → List (List ℕ) → World → World → Status → Type 0
@@ -97,10 +104,15 @@ LeavesFiles (check name cert file) old new status = IsUntouched old new
 LeavesFiles (encode name file) old new status = IsUntouched old new
 LeavesFiles (show name) old new status = IsUntouched old new
 
+-- `trial` touches no file
+abbrev pub LeavesFilesAfter : Action → ShelfState → ShelfState → Status → Type 0
+LeavesFilesAfter (on_files command) old new status = LeavesFiles command old new status
+LeavesFilesAfter (trial goals workers plan) old new status = IsUntouched old new
+
 -- the same of a command line; none where the words are no command line
-abbrev pub AreFilesOf : Option Command → ShelfState → ShelfState → Status → Type 0
+abbrev pub AreFilesOf : Option Action → ShelfState → ShelfState → Status → Type 0
 AreFilesOf None old new status = IsUntouched old new
-AreFilesOf (Some command) old new status = LeavesFiles command old new status
+AreFilesOf (Some action) old new status = LeavesFilesAfter action old new status
 
 -- ---- what is left of the trails
 
@@ -117,21 +129,25 @@ LeavesWork (check name cert file) old new status = IsUnchanged old new
 LeavesWork (encode name file) old new status = IsUnchanged old new
 LeavesWork (show name) old new status = IsUnchanged old new
 
+abbrev pub LeavesWorkAfter : Action → List TrailState → List TrailState → Status → Type 0
+LeavesWorkAfter (on_files command) old new status = LeavesWork command old new status
+LeavesWorkAfter (trial goals workers plan) old new status = IsWorkOfSearch old new status
+
 -- the same of a command line; none where the words are no command line
-abbrev pub IsWorkOf : Option Command → List TrailState → List TrailState → Status → Type 0
+abbrev pub IsWorkOf : Option Action → List TrailState → List TrailState → Status → Type 0
 IsWorkOf None old new status = IsUnchanged old new
-IsWorkOf (Some command) old new status = LeavesWork command old new status
+IsWorkOf (Some action) old new status = LeavesWorkAfter action old new status
 
 -- ---- the whole
 
--- the command ends, from the world that it found to the world that it left, with this status
-pub record Ends (command : Command) (found left : World) (status : Status) : Type 0 where
-  pub outcome : HasCommandOutcome command found left status
-  pub files : LeavesFiles command found.shelf left.shelf status
-  pub work : LeavesWork command found.work left.work status
+-- what is asked for ends, from the world that it found to the world that it left, with this status
+pub record Ends (action : Action) (found left : World) (status : Status) : Type 0 where
+  pub outcome : HasActionOutcome action found left status
+  pub files : LeavesFilesAfter action found.shelf left.shelf status
+  pub work : LeavesWorkAfter action found.work left.work status
 
--- the program ends so where its words give this command, or none
-pub record Runs (line : Option Command) (found left : World) (status : Status) : Type 0 where
+-- the program ends so where its words ask for this, or are no command line
+pub record Runs (line : Option Action) (found left : World) (status : Status) : Type 0 where
   pub outcome : HasWordsOutcome line found left status
   pub files : AreFilesOf line found.shelf left.shelf status
   pub work : IsWorkOf line found.work left.work status

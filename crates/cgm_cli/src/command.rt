@@ -5,12 +5,12 @@ ghost use Rattle.clap.specs.Words.{found_of, rows_of};
 ghost use Rattle.cgm_atom.specs.Limits.{max_workers};
 ghost use Rattle.cgm_crew.specs.Crews.{plan_of};
 ghost use Rattle.cgm_search.specs.Searching.{IsPlan};
-ghost use Rattle.cgm_cli.specs.CommandLine.{check_options, check_with, command_line, command_of, earlier_file, encode_options, encode_with, given, model_file, number_given, plan_given, show_options, show_with, solve_options, solve_with, workers_given};
-ghost use Rattle.cgm_cli.specs.Commands.{HasPlan, told_by};
+ghost use Rattle.cgm_cli.specs.CommandLine.{action_of, check_options, check_with, command_line, command_of, earlier_file, encode_options, encode_with, given, goals_given, model_file, number_given, plan_given, seed_given, show_options, show_with, solve_options, solve_with, trial_options, trial_plan, trial_with, workers_given};
+ghost use Rattle.cgm_cli.specs.Commands.{HasActionPlan, HasPlan, asked_by, told_by};
 
-use crate::numbers::number_or;
+use crate::numbers::{number_or, numeral_in};
 use crate::options::{
-    check_options, encode_options, given, show_options, solve_options, text_given,
+    check_options, encode_options, given, show_options, solve_options, text_given, trial_options,
 };
 use cgm_base::OutOfMemory;
 use cgm_search::{MAX_BUDGET, MAX_RESTARTS, Plan};
@@ -59,7 +59,15 @@ pub(crate) struct EncodeRequest<'w> {
     pub(crate) earlier: Option<&'w str>,
 }
 
-/// What the words ask for, with names of files.
+/// `trial N`: the generated model of so many goals, solved by so many workers, each with this plan.
+#[derive(Clone, Copy)]
+pub(crate) struct TrialRequest {
+    pub(crate) goals: u32,
+    pub(crate) workers: u64,
+    pub(crate) plan: Plan,
+}
+
+/// A command on files, with their names.
 #[derive(Clone, Copy)]
 pub(crate) enum Command<'w> {
     Solve(SolveRequest<'w>),
@@ -69,6 +77,20 @@ pub(crate) enum Command<'w> {
     Encode(EncodeRequest<'w>),
 }
 
+/// So many workers, each with this plan.
+fn crew_of(workers: u64, plan: Plan) -> Crew
+    requires { workers ≤ max_workers }
+    ensures workers { result.workers ≡ workers }
+    ensures plan { plan_of result ≡ plan }
+{
+    Crew {
+        workers: workers as u32,
+        budget: plan.budget,
+        restarts: plan.restarts,
+        seed: plan.seed,
+    }
+}
+
 impl<'w> SolveRequest<'w> {
     /// The workers that are asked for, and how each of them searches.
     pub(crate) fn crew(self) -> Crew
@@ -76,12 +98,18 @@ impl<'w> SolveRequest<'w> {
         ensures workers { result.workers ≡ self.entry.workers }
         ensures plan { plan_of result ≡ self.entry.plan }
     {
-        Crew {
-            workers: self.workers as u32,
-            budget: self.plan.budget,
-            restarts: self.plan.restarts,
-            seed: self.plan.seed,
-        }
+        crew_of(self.workers, self.plan)
+    }
+}
+
+impl TrialRequest {
+    /// The workers that are asked for, and how each of them searches.
+    pub(crate) fn crew(self) -> Crew
+        requires { self.workers ≤ max_workers }
+        ensures workers { result.workers ≡ self.workers }
+        ensures plan { plan_of result ≡ self.plan }
+    {
+        crew_of(self.workers, self.plan)
     }
 }
 
@@ -111,22 +139,49 @@ impl<'w> Command<'w> {
     }
 }
 
-/// The command of the words; none where they are no command line.
-pub(crate) fn command_in<'w>(
+/// What the words ask for.
+#[derive(Clone, Copy)]
+pub(crate) enum Action<'w> {
+    /// A command on files.
+    OnFiles(Command<'w>),
+    Trial(TrialRequest),
+}
+
+/// What the words ask for; none where they are no command line.
+pub(crate) fn action_in<'w>(
     alloc: Global,
     words: &'w [String],
-) -> Result<Option<Command<'w>>, OutOfMemory>
+) -> Result<Option<Action<'w>>, OutOfMemory>
     ensures command { IfOk result
-        (λ found. option_map told_by found ≡ command_line (map string_bytes words.now)) }
-    ensures plan { IfOk result (λ found. IfSome found HasPlan) }
+        (λ found. option_map asked_by found ≡ command_line (map string_bytes words.now)) }
+    ensures plan { IfOk result (λ found. IfSome found HasActionPlan) }
 {
     match words {
         [] => Ok(None),
-        [word, ..] => command_of(alloc, word.as_str(), words),
+        [word, ..] => action_of(alloc, word.as_str(), words),
     }
 }
 
-/// The command of this word, which the words begin with.
+/// What this word asks for, which the words begin with.
+fn action_of<'w>(
+    alloc: Global,
+    word: &str,
+    words: &'w [String],
+) -> Result<Option<Action<'w>>, OutOfMemory>
+    ensures command { IfOk result
+        (λ found. option_map asked_by found ≡ action_of word.now (map string_bytes words.now)) }
+    ensures plan { IfOk result (λ found. IfSome found HasActionPlan) }
+{
+    if word == "trial" {
+        return trial_in(alloc, words);
+    }
+    match command_of(alloc, word, words)? {
+        None => Ok(None),
+        Some(command) => Ok(Some(Action::OnFiles(command))),
+    }
+}
+
+/// The command on files of this word, which the words begin with.
 fn command_of<'w>(
     alloc: Global,
     word: &str,
@@ -209,7 +264,7 @@ fn plan_given(matches: &ArgMatches<'_>) -> Option<Plan>
 {
     let budget = number_given(matches, "budget", 0, MAX_BUDGET, BUDGET)?;
     let restarts = number_given(matches, "restarts", 0, MAX_RESTARTS as u64, RESTARTS)?;
-    let seed = number_given(matches, "seed", 0, u64::MAX, SEED)?;
+    let seed = seed_given(matches)?;
     Some(Plan {
         budget,
         restarts: restarts as u32,
@@ -284,5 +339,57 @@ fn encode_with<'w>(matches: &ArgMatches<'w>) -> Option<Command<'w>>
             let earlier = text_given(matches, "earlier");
             Some(Command::Encode(EncodeRequest { model, earlier }))
         }
+    }
+}
+
+fn trial_in<'w>(alloc: Global, words: &'w [String]) -> Result<Option<Action<'w>>, OutOfMemory>
+    ensures command { IfOk result (λ found. option_map asked_by found
+        ≡ option_and_then trial_with (given trial_options (map string_bytes words.now))) }
+    ensures plan { IfOk result (λ found. IfSome found HasActionPlan) }
+{
+    match given(trial_options(alloc)?, words)? {
+        None => Ok(None),
+        Some(matches) => Ok(trial_with(&matches)),
+    }
+}
+
+fn trial_with<'w>(matches: &ArgMatches<'w>) -> Option<Action<'w>>
+    ensures command { option_map asked_by result ≡ trial_with (rows_of (found_of matches.now)) }
+    ensures plan { IfSome result HasActionPlan }
+{
+    let goals = goals_given(matches)?;
+    let workers = workers_given(matches)?;
+    let seed = seed_given(matches)?;
+    Some(Action::Trial(TrialRequest {
+        goals,
+        workers,
+        plan: trial_plan(seed),
+    }))
+}
+
+/// How many goals `trial` is given.
+fn goals_given(matches: &ArgMatches<'_>) -> Option<u32>
+    ensures { result ≡ goals_given (rows_of (found_of matches.now)) }
+{
+    let text = text_given(matches, "goals")?;
+    let goals = numeral_in(0, u64::from(u32::MAX), text)?;
+    Some(goals as u32)
+}
+
+fn seed_given(matches: &ArgMatches<'_>) -> Option<u64>
+    ensures { result ≡ seed_given (rows_of (found_of matches.now)) }
+{
+    number_given(matches, "seed", 0, u64::MAX, SEED)
+}
+
+/// The plan of `trial`: the budget and the restarts are those where none are given.
+fn trial_plan(seed: u64) -> Plan
+    ensures plan { result ≡ trial_plan seed }
+    ensures within { IsPlan result }
+{
+    Plan {
+        budget: BUDGET,
+        restarts: RESTARTS as u32,
+        seed,
     }
 }

@@ -23,7 +23,7 @@ pub(crate) struct Input {
 pub(crate) fn discard(_input: Input) {}
 
 /// The same for a reading.
-fn discard_reading(_reading: Reading) {}
+pub(crate) fn discard_reading(_reading: Reading) {}
 
 /// The model of the named file, and the earlier realization of the other file where one is named, or
 /// the status after it was told why there is none. Without that file nothing is known of an earlier

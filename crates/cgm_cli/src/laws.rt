@@ -1,5 +1,5 @@
 //! Laws over the outcomes of commands. Each function does nothing: its contract is the law.
-ghost use Rattle.cgm_cli.specs.Laws.{CertificatesAreAccepted, CheckCompletes, EncodeCompletes, ShowCompletes, SolveCompletes};
+ghost use Rattle.cgm_cli.specs.Laws.{CertificatesAreAccepted, CheckCompletes, EncodeCompletes, ShowCompletes, SolveCompletes, TrialCompletes};
 
 /// Where the files have a model with a problem, and neither the shelf nor the sink fails, `solve`
 /// answers `Done`, `Unrealizable` or `Open`, or wants memory. `Open` comes only where the budget can be
@@ -23,6 +23,12 @@ pub fn encode_completes()
 /// `show` answers `Done`, or wants memory.
 pub fn show_completes()
     ensures { ShowCompletes }
+{}
+
+/// Where neither the shelf nor the sink fails, `trial` answers `Done` or `Open` for at most 2,000 goals
+/// and `Limit` for more, or wants memory.
+pub fn trial_completes()
+    ensures { TrialCompletes }
 {}
 
 /// A later `check`, for the same bytes of the model and the earlier text and the certificate that

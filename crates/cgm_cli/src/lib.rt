@@ -18,6 +18,7 @@ mod runs;
 mod show;
 mod solve;
 mod solvers;
+mod trial;
 
 pub use program::{exit_code, run_program, words_after_name};
 pub use quiet::run_quiet;

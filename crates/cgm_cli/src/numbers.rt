@@ -28,7 +28,7 @@ fn is_between(least: u64, greatest: u64, number: u64) -> bool
 }
 
 /// The number that a text writes, where it is one to twenty digits and lies in the range.
-fn numeral_in(least: u64, greatest: u64, text: &str) -> Option<u64>
+pub(crate) fn numeral_in(least: u64, greatest: u64, text: &str) -> Option<u64>
     ensures number { result ≡ numeral_in least greatest text.now }
     ensures within { IfSome result (λ number. number ≤ greatest) }
     ensures at_least { IfSome result (λ number. least ≤ number) }

@@ -3,7 +3,7 @@ ghost use Rattle.std.specs.Prelude.{◌≡◌, IfOk, true, [], ◌∷◌, codes,
 ghost use Rattle.std.specs.String.{string_bytes};
 ghost use Rattle.clap.specs.Words.{app_of, first_of, found_of, is_simple_and_free, rows_of, with_rule};
 ghost use Rattle.cgm_cli.specs.Adding.{with_numbers};
-ghost use Rattle.cgm_cli.specs.CommandLine.{check_options, encode_options, given, option, options_of, positional, show_options, solve_options};
+ghost use Rattle.cgm_cli.specs.CommandLine.{check_options, encode_options, given, option, options_of, positional, show_options, solve_options, trial_options};
 
 use cgm_base::OutOfMemory;
 use clap::error::ErrorKind;
@@ -85,6 +85,16 @@ pub(crate) fn encode_options<'w>(alloc: Global) -> Result<Command<'w>, OutOfMemo
 {
     let with_model = model_options(alloc, "encode")?;
     with_option(alloc, with_model, "earlier")
+}
+
+/// `trial N --workers=N --seed=N`
+pub(crate) fn trial_options<'w>(alloc: Global) -> Result<Command<'w>, OutOfMemory>
+    ensures { IfOk result (λ options. app_of options ≡ trial_options) }
+{
+    let options = Command::new(alloc, "trial").disable_help_flag(true);
+    let with_goals = with_positional(alloc, options, "goals")?;
+    let with_workers = with_option(alloc, with_goals, "workers")?;
+    with_option(alloc, with_workers, "seed")
 }
 
 /// What the words, of which the first is the command's, give to each name; none where they aren't

@@ -2,20 +2,21 @@
 ghost use Rattle.std.specs.Prelude.{◌≡◌, length, map};
 ghost use Rattle.std.specs.String.{string_bytes};
 ghost use Rattle.cgm_model.specs.Model.{lists_of};
-ghost use Rattle.cgm_cli.specs.CommandLine.{as_asked, command_for, with_workers};
-ghost use Rattle.cgm_cli.specs.Commands.{HasPlan, told_by};
+ghost use Rattle.cgm_cli.specs.CommandLine.{as_asked, command_for, on_files, searching_by, with_workers};
+ghost use Rattle.cgm_cli.specs.Commands.{HasActionPlan, HasPlan, asked_by, told_by};
 ghost use Rattle.cgm_cli.specs.Effects.{world};
 ghost use Rattle.cgm_cli.specs.Inputs.{HasProblemOutcome};
 ghost use Rattle.cgm_cli.specs.Outcome.{AreFilesOf, Ends, HasEncodeOutcome, HasOutcome, HasOwnOutcome, IsWorkOf, LeavesFiles, LeavesWork, Runs};
 
 use crate::check::check;
-use crate::command::{Command, command_in};
+use crate::command::{Action, Command, action_in};
 use crate::encoding::{encoding_of, print_encoding};
 use crate::input::{Input, discard, input_of_files};
 use crate::print::{tell, tell_memory};
 use crate::show::show;
 use crate::solve::solve_by_crew;
 use crate::solvers::ByCrew;
+use crate::trial::trial_by_crew;
 use cgm_base::Status;
 use cgm_search::Gate;
 use cgm_shelf::{Shelf, Sink};
@@ -43,6 +44,10 @@ use std::thread::Threads;
 /// certificate that leaves open which realization is least (`Open`). `encode MODEL --earlier=FILE`
 /// prints the text of the model's problem (`Done`). Without the option nothing is known of an
 /// earlier realization. `show MODEL` prints the model's canonical text (`Done`).
+/// `trial N --workers=N --seed=N` generates a model of N goals, solves it with the default budget
+/// and restarts, checks the entries that show the answer, and prints its least cost and that it is
+/// least (`Done`), or what a spent budget leaves (`Open`). It reads and writes no file. `Limit`
+/// comes exactly for more than 2,000 goals.
 ///
 /// Every other status is a refusal with one fault line, unless the sink itself failed: `Usage` for
 /// other words, `Text` for a model text whose first fault is of a kind, `Earlier` for such an
@@ -52,8 +57,8 @@ use std::thread::Threads;
 /// answer `Limit` for a model with a comparison whose measure passes the row limit, at the line of
 /// the first such rule. The model is read and judged first, then the earlier text, then the row
 /// limit, then the certificate. A file changes only where `solve` writes a certificate, with the
-/// statuses `Done`, `Unrealizable`, `Open` and `Write`. `work` stays, but for `solve` with the
-/// statuses `Open`, `Write` and `Memory`: there it may have gained trails.
+/// statuses `Done`, `Unrealizable`, `Open` and `Write`. `work` stays, but for `solve` and
+/// `trial` with the statuses `Open`, `Write` and `Memory`: there it may have gained trails.
 pub fn run<R: Threads + Wait + Sync, F: Shelf, O: Sink, G: Gate>(
     rt: &R,
     alloc: Global,
@@ -86,13 +91,32 @@ fn run_words<'a, R: Threads + Wait + Sync, G: Gate, F: Shelf, O: Sink>(
         (world (F.state shelf.old) (O.state out.old) work.old)
         (world (F.state shelf.new) (O.state out.new) work.new) result }
 {
-    match command_in(by.alloc, words) {
-        Ok(Some(command)) => run_command(by, command, shelf, out, work),
+    match action_in(by.alloc, words) {
+        Ok(Some(action)) => run_action(by, action, shelf, out, work),
         Ok(None) => {
             tell(out, b"fault usage\n");
             Status::Usage
         }
         Err(_) => tell_memory(out),
+    }
+}
+
+/// Does what was read of the words.
+fn run_action<'a, R: Threads + Wait + Sync, G: Gate, F: Shelf, O: Sink>(
+    by: &ByCrew<'a, R, G>,
+    action: Action<'_>,
+    shelf: &mut F,
+    out: &mut O,
+    work: &mut Work,
+) -> Status
+    requires { HasActionPlan action }
+    ensures { Ends (searching_by as_asked (asked_by action.entry))
+        (world (F.state shelf.old) (O.state out.old) work.old)
+        (world (F.state shelf.new) (O.state out.new) work.new) result }
+{
+    match action {
+        Action::OnFiles(command) => run_command(by, command, shelf, out, work),
+        Action::Trial(request) => trial_by_crew(by, request, out, work),
     }
 }
 
@@ -105,7 +129,7 @@ fn run_command<'a, R: Threads + Wait + Sync, G: Gate, F: Shelf, O: Sink>(
     work: &mut Work,
 ) -> Status
     requires { HasPlan command }
-    ensures { Ends (with_workers as_asked (told_by command.entry))
+    ensures { Ends (on_files (with_workers as_asked (told_by command.entry)))
         (world (F.state shelf.old) (O.state out.old) work.old)
         (world (F.state shelf.new) (O.state out.new) work.new) result }
 {

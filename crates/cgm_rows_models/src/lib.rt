@@ -1,6 +1,6 @@
 //! Worked examples over models and by the whole program, as tests: assignments and the rules that they
-//! break, encoding and back, what entries show, lines of reports, earlier texts that are printed, and
-//! small calls; limits that only long texts meet, counts that no text tells, how runs over transcripts
+//! break, encoding and back, what entries show, lines of reports, earlier texts that are printed,
+//! generated texts, and small calls; limits that only long texts meet, counts that no text tells, how runs over transcripts
 //! end, crews held at their gates, and the shelves and sinks by themselves.
 #![tactic(auto)]
 
@@ -18,6 +18,8 @@ mod earlier_rows;
 mod encoding_rows;
 #[cfg(test)]
 mod encodings;
+#[cfg(test)]
+mod generated_rows;
 #[cfg(test)]
 mod limit_rows;
 #[cfg(test)]

@@ -3,33 +3,24 @@ use crate::runs::{owned_words, run_with};
 use cgm_base::{OutOfMemory, Status};
 use cgm_shelf::{MemShelf, MemSink};
 use cgm_trail::Work;
-use cgm_transcripts::{Ending, Program, run_transcripts};
+use cgm_transcripts::{Ending, Searcher, run_transcripts};
 use std::alloc::Global;
 use std::rt::Files;
 use std::test::Fail;
 
-/// The commands, with one worker.
-struct Commands;
-
-impl Program for Commands {
-    fn is_alone(&self) -> bool {
-        true
-    }
-
-    fn run(
-        &self,
-        alloc: Global,
-        words: &[String],
-        shelf: &mut MemShelf,
-        sink: &mut MemSink,
-    ) -> Status {
-        let mut work = Work::new(alloc);
-        run_with(alloc, words, shelf, sink, &mut work)
-    }
+/// Runs the commands, with one worker.
+fn run_commands(
+    alloc: Global,
+    words: &[String],
+    shelf: &mut MemShelf,
+    sink: &mut MemSink,
+) -> Status {
+    let mut work = Work::new(alloc);
+    run_with(alloc, words, shelf, sink, &mut work)
 }
 
-/// The transcripts: one whose case agrees, one whose case differs, one with a case of each kind, and
-/// a text that is none.
+/// The transcripts: one whose case agrees, one whose case differs, one with a case of each kind, two
+/// whose case differs where one worker or a crew searches, and a text that is none.
 const TEXTS: &[(&str, &str)] = &[
     (
         "good",
@@ -43,47 +34,138 @@ const TEXTS: &[(&str, &str)] = &[
         "two",
         "case one\nrun fly\nstatus 7\nprints\n\ncase second\nrun fly\nstatus 2\nprints\n  fault usage\n",
     ),
+    (
+        "alone",
+        "case one\nalone\nrun fly\nstatus 7\nprints\n  fault usage\n",
+    ),
+    (
+        "together",
+        "case one\ntogether\nrun fly\nstatus 7\nprints\n  fault usage\n",
+    ),
     ("broken", "case one\nruns\n"),
 ];
 
 const USAGE: &str = "usage: cgm_cases [FILE..] [--wrong FILE..] [--broken FILE..] [--only NAME]\n";
 
-/// Words, how they end, and with what their output ends.
-const ROWS: &[(&str, Ending, &str)] = &[
+/// Words, who searches, how they end, and with what their output ends.
+const ROWS: &[(&str, Searcher, Ending, &str)] = &[
     (
         "good",
+        Searcher::Alone,
         Ending::Agree,
         "0 broken texts, 0 told\n0 wrong cases, 0 told\n1 cases, 0 differ\n",
     ),
-    ("wrong", Ending::Differ, "\n1 cases, 1 differ\n"),
-    ("good wrong", Ending::Differ, "\n2 cases, 1 differ\n"),
+    (
+        "wrong",
+        Searcher::Alone,
+        Ending::Differ,
+        "\n1 cases, 1 differ\n",
+    ),
+    (
+        "good wrong",
+        Searcher::Alone,
+        Ending::Differ,
+        "\n2 cases, 1 differ\n",
+    ),
     (
         "good --wrong wrong",
+        Searcher::Alone,
         Ending::Agree,
         "\n1 wrong cases, 1 told\n1 cases, 0 differ\n",
     ),
     (
         "good --wrong good",
+        Searcher::Alone,
         Ending::Differ,
         "\n1 wrong cases, 0 told\n1 cases, 0 differ\n",
     ),
     (
         "good --broken broken",
+        Searcher::Alone,
         Ending::Agree,
         "1 broken texts, 1 told\n0 wrong cases, 0 told\n1 cases, 0 differ\n",
     ),
     (
         "good --broken good",
+        Searcher::Alone,
         Ending::Differ,
         "1 broken texts, 0 told\n0 wrong cases, 0 told\n1 cases, 0 differ\n",
     ),
-    ("broken", Ending::Unfit, "broken: line 2: no directive\n"),
-    ("nowhere", Ending::Unfit, "nowhere can't be read\n"),
-    ("two", Ending::Differ, "\n2 cases, 1 differ\n"),
-    ("two --only second", Ending::Agree, "\n1 cases, 0 differ\n"),
-    ("good --only other", Ending::Unfit, "\n0 cases, 0 differ\n"),
-    ("good --only", Ending::Unfit, USAGE),
-    ("good --no", Ending::Unfit, USAGE),
+    (
+        "broken",
+        Searcher::Alone,
+        Ending::Unfit,
+        "broken: line 2: no directive\n",
+    ),
+    (
+        "nowhere",
+        Searcher::Alone,
+        Ending::Unfit,
+        "nowhere can't be read\n",
+    ),
+    (
+        "two",
+        Searcher::Alone,
+        Ending::Differ,
+        "\n2 cases, 1 differ\n",
+    ),
+    (
+        "two --only second",
+        Searcher::Alone,
+        Ending::Agree,
+        "\n1 cases, 0 differ\n",
+    ),
+    (
+        "good --only other",
+        Searcher::Alone,
+        Ending::Unfit,
+        "\n0 cases, 0 differ\n",
+    ),
+    ("good --only", Searcher::Alone, Ending::Unfit, USAGE),
+    ("good --no", Searcher::Alone, Ending::Unfit, USAGE),
+    (
+        "alone",
+        Searcher::Alone,
+        Ending::Differ,
+        "\n1 cases, 1 differ\n",
+    ),
+    (
+        "together",
+        Searcher::Alone,
+        Ending::Agree,
+        "\n1 cases, 0 differ\n",
+    ),
+    ("good", Searcher::Crew, Ending::Agree, "1 cases, 0 differ\n"),
+    (
+        "wrong",
+        Searcher::Crew,
+        Ending::Differ,
+        "\n1 cases, 1 differ\n",
+    ),
+    (
+        "good --wrong good",
+        Searcher::Crew,
+        Ending::Agree,
+        "1 cases, 0 differ\n",
+    ),
+    (
+        "good --broken good",
+        Searcher::Crew,
+        Ending::Agree,
+        "1 cases, 0 differ\n",
+    ),
+    (
+        "alone",
+        Searcher::Crew,
+        Ending::Agree,
+        "1 cases, 0 differ\n",
+    ),
+    (
+        "together",
+        Searcher::Crew,
+        Ending::Differ,
+        "\n1 cases, 1 differ\n",
+    ),
 ];
 
 /// A shelf with the transcripts.
@@ -95,43 +177,63 @@ fn shelf_of_texts(alloc: Global) -> Result<MemShelf, OutOfMemory> {
     Ok(shelf)
 }
 
-/// Whether these words end so, and their output ends with this text.
+/// Whether these words end so where this one searches, and their output ends with this text.
 fn is_ended<R: Files + AllocGlobal + Clone + Drop>(
     rt: &R,
     words: &str,
+    searcher: Searcher,
     ending: Ending,
     printed: &str,
 ) -> Result<bool, OutOfMemory> {
     let owned = owned_words(rt.alloc(), words)?;
-    is_ended_by(rt, owned.as_slice(), ending, printed)
-}
-
-fn is_ended_by<R: Files + AllocGlobal + Clone + Drop>(
-    rt: &R,
-    words: &[String],
-    ending: Ending,
-    printed: &str,
-) -> Result<bool, OutOfMemory> {
     let mut shelf = shelf_of_texts(rt.alloc())?;
-    Ok(is_ended_over(rt, words, &mut shelf, ending, printed))
+    let mut sink = MemSink::new(rt.alloc(), 4096, Vec::new(rt.alloc()));
+    let ended = run_transcripts(
+        rt,
+        &run_commands,
+        searcher,
+        owned.as_slice(),
+        &mut shelf,
+        &mut sink,
+    );
+    Ok(ended == ending && sink.written().ends_with(printed.as_bytes()))
 }
 
-fn is_ended_over<R: Files + AllocGlobal + Clone + Drop>(
+/// A sink that fails leaves no case agreed.
+fn is_unfit_unprinted<R: Files + AllocGlobal + Clone + Drop>(
     rt: &R,
-    words: &[String],
-    shelf: &mut MemShelf,
-    ending: Ending,
-    printed: &str,
-) -> bool {
-    let mut sink = MemSink::new(rt.alloc(), 4096, Vec::new(rt.alloc()));
-    let ended = run_transcripts(rt, &Commands, words, shelf, &mut sink);
-    ended == ending && sink.written().ends_with(printed.as_bytes())
+    searcher: Searcher,
+) -> Result<bool, OutOfMemory> {
+    let owned = owned_words(rt.alloc(), "good")?;
+    let mut shelf = shelf_of_texts(rt.alloc())?;
+    let mut failing = Vec::new(rt.alloc());
+    failing.push(1)?;
+    let mut sink = MemSink::new(rt.alloc(), 4096, failing);
+    let ended = run_transcripts(
+        rt,
+        &run_commands,
+        searcher,
+        owned.as_slice(),
+        &mut shelf,
+        &mut sink,
+    );
+    Ok(ended == Ending::Unfit)
 }
 
 #[test]
 fn each_ending(rt: HostRuntime) -> Result<(), Fail> {
-    for (words, ending, printed) in ROWS {
-        assert!(rt; is_ended(&rt, words, *ending, printed)?, "at {words}");
+    for (words, searcher, ending, printed) in ROWS {
+        assert!(rt;
+            is_ended(&rt, words, *searcher, *ending, printed)?,
+            "at {words}"
+        );
     }
+    Ok(())
+}
+
+#[test]
+fn no_output_is_unfit(rt: HostRuntime) -> Result<(), Fail> {
+    assert!(rt; is_unfit_unprinted(&rt, Searcher::Alone)?);
+    assert!(rt; is_unfit_unprinted(&rt, Searcher::Crew)?);
     Ok(())
 }

@@ -1,6 +1,8 @@
 //! Cases: files, runs of the program over them, and what each run must give.
 ghost use Rattle.std.specs.Prelude.{IfOk, ◌≤◌};
 
+use crate::searcher::Searcher;
+
 /// A case of a transcript.
 #[derive(Drop)]
 pub(crate) struct Case<'a> {
@@ -9,13 +11,12 @@ pub(crate) struct Case<'a> {
 }
 
 impl<'a> Case<'a> {
-    /// Whether the case holds for a program that runs one worker alone, or for one that runs
-    /// several.
-    pub(crate) fn holds_for(&self, is_alone: bool) -> bool {
+    /// Whether the case holds where this one searches.
+    pub(crate) fn holds_for(&self, searcher: Searcher) -> bool {
         for step in self.steps.as_slice() {
-            match step {
-                Step::Alone if !is_alone => return false,
-                Step::Together if is_alone => return false,
+            match (step, searcher) {
+                (Step::Alone, Searcher::Crew) => return false,
+                (Step::Together, Searcher::Alone) => return false,
                 _ => {}
             }
         }

@@ -1,7 +1,7 @@
 //! The counts of the program, and how it ends.
 ghost use Rattle.std.specs.Prelude.{◌≡◌, ◌↔◌, ◌+◌, ◌-◌, ◌^◌, min};
 ghost use Rattle.std.specs.Bool.{OnFalse, OnTrue};
-ghost use Rattle.cgm_transcripts.specs.Ending.{IsWell};
+ghost use Rattle.cgm_transcripts.specs.Ending.{IsUnrun, IsWell, ending_code};
 ghost use Rattle.cgm_transcripts.specs.declared.ending.Ending.TheVariants as endings;
 
 /// How many cases or texts were told, as different or as no transcript, and how many were not.
@@ -28,6 +28,15 @@ impl Tally {
         }
     }
 
+    /// Adds what another one counted, up to the last number.
+    pub(crate) fn add(&mut self, other: Tally)
+        ensures told { self.new.told ≡ min (self.old.told + other.told) (2 ^ 64 - 1) }
+        ensures untold { self.new.untold ≡ min (self.old.untold + other.untold) (2 ^ 64 - 1) }
+    {
+        self.told = self.told.saturating_add(other.told);
+        self.untold = self.untold.saturating_add(other.untold);
+    }
+
     /// How many were counted.
     pub(crate) fn all(self) -> u64 {
         self.told.saturating_add(self.untold)
@@ -48,7 +57,7 @@ pub enum Ending {
 impl Ending {
     /// The program's exit status.
     pub fn code(self) -> u8
-        ensures { (result ≡ 0) ↔ (self ≡ endings.Agree) }
+        ensures { result ≡ ending_code self }
     {
         match self {
             Ending::Agree => 0,
@@ -60,7 +69,8 @@ impl Ending {
 
 /// How the program ends after these cases, wrong cases and broken texts.
 pub(crate) fn ending_of(cases: Tally, wrong: Tally, broken: Tally) -> Ending
-    ensures { (result ≡ endings.Agree) ↔ IsWell cases wrong broken }
+    ensures agree { (result ≡ endings.Agree) ↔ IsWell cases wrong broken }
+    ensures unfit { (result ≡ endings.Unfit) ↔ IsUnrun cases wrong broken }
 {
     if cases.told > 0 {
         return Ending::Differ;

@@ -11,15 +11,15 @@ mod escapes;
 mod flaw;
 mod folder;
 mod listing;
-mod program;
 mod request;
 mod run_reader;
 mod scene;
+mod searcher;
 mod stop;
 mod telling;
 mod transcripts;
 mod values;
 
 pub use ending::Ending;
-pub use program::Program;
+pub use searcher::Searcher;
 pub use transcripts::run_transcripts;

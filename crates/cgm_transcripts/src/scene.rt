@@ -2,7 +2,6 @@
 use crate::case::{Call, Case, FailingCall, Piece, Run, Step};
 use crate::comparison::{Ended, first_difference};
 use crate::folder::{Folder, LARGE};
-use crate::program::Program;
 use crate::telling::{Told, tell_difference};
 use cgm_base::{OutOfMemory, Status};
 use cgm_shelf::{MemShelf, MemSink};
@@ -21,11 +20,13 @@ struct Scene {
 }
 
 /// Runs a case to its first difference, and tells that one; none where the case agrees.
-pub(crate) fn run_case<P: Program>(
+pub(crate) fn run_case<P: Fn(Global, &[String], &mut MemShelf, &mut MemSink) -> Status>(
     alloc: Global,
     program: &P,
     case: &Case<'_>,
-) -> Result<Option<Told>, OutOfMemory> {
+) -> Result<Option<Told>, OutOfMemory>
+    requires { P.IsAlwaysCallable program.now }
+{
     let mut scene = Scene::new(alloc);
     let told = scene.take_steps(program, case.steps.as_slice());
     discard(scene);
@@ -59,11 +60,13 @@ impl Scene {
     }
 
     /// Takes steps up to the first difference, and tells that one.
-    fn take_steps<P: Program>(
+    fn take_steps<P: Fn(Global, &[String], &mut MemShelf, &mut MemSink) -> Status>(
         &mut self,
         program: &P,
         steps: &[Step<'_>],
-    ) -> Result<Option<Told>, OutOfMemory> {
+    ) -> Result<Option<Told>, OutOfMemory>
+        requires { P.IsAlwaysCallable program.now }
+    {
         for step in steps {
             match self.take_step(program, step) {
                 Ok(None) => {}
@@ -73,11 +76,13 @@ impl Scene {
         Ok(None)
     }
 
-    fn take_step<P: Program>(
+    fn take_step<P: Fn(Global, &[String], &mut MemShelf, &mut MemSink) -> Status>(
         &mut self,
         program: &P,
         step: &Step<'_>,
-    ) -> Result<Option<Told>, OutOfMemory> {
+    ) -> Result<Option<Told>, OutOfMemory>
+        requires { P.IsAlwaysCallable program.now }
+    {
         match step {
             Step::Run(run) => return self.play(program, run),
             Step::File(file) => self.folder.set(file.name, file.bytes.as_slice())?,
@@ -108,7 +113,13 @@ impl Scene {
     }
 
     /// Runs the program over the folder's files, and tells what differs first.
-    fn play<P: Program>(&mut self, program: &P, run: &Run) -> Result<Option<Told>, OutOfMemory> {
+    fn play<P: Fn(Global, &[String], &mut MemShelf, &mut MemSink) -> Status>(
+        &mut self,
+        program: &P,
+        run: &Run,
+    ) -> Result<Option<Told>, OutOfMemory>
+        requires { P.IsAlwaysCallable program.now }
+    {
         self.folder.add_names(run.words.as_slice())?;
         let mut shelf = self.next_shelf();
         let told = self.play_over(program, run, &mut shelf);
@@ -130,15 +141,17 @@ impl Scene {
     }
 
     /// Puts the folder's files onto the shelf, and runs the program over it.
-    fn play_over<P: Program>(
+    fn play_over<P: Fn(Global, &[String], &mut MemShelf, &mut MemSink) -> Status>(
         &mut self,
         program: &P,
         run: &Run,
         shelf: &mut MemShelf,
-    ) -> Result<Option<Told>, OutOfMemory> {
+    ) -> Result<Option<Told>, OutOfMemory>
+        requires { P.IsAlwaysCallable program.now }
+    {
         self.folder.put_all(shelf)?;
         let mut sink = self.next_sink();
-        let status = program.run(self.alloc, run.words.as_slice(), shelf, &mut sink);
+        let status = program(self.alloc, run.words.as_slice(), shelf, &mut sink);
         let told = self.judge(run, status, sink.written(), shelf);
         discard_sink(sink);
         told

@@ -4,13 +4,13 @@ use crate::case_reader::cases_of;
 use crate::ending::{Ending, Tally, ending_of};
 use crate::flaw::Flaw;
 use crate::listing::take_folder;
-use crate::program::Program;
 use crate::request::{Request, discard, take_words};
 use crate::scene::run_case;
+use crate::searcher::Searcher;
 use crate::stop::{Stop, print_stop};
 use crate::telling::Told;
-use cgm_base::OutOfMemory;
-use cgm_shelf::{ReadStop, Shelf, Sink, read_whole, write_whole};
+use cgm_base::{OutOfMemory, Status};
+use cgm_shelf::{MemShelf, MemSink, ReadStop, Shelf, Sink, read_whole, write_whole};
 use std::alloc::Global;
 use std::rt::Files;
 
@@ -23,17 +23,40 @@ const WRONG: Counted = ("wrong cases", "told");
 
 const CASES: Counted = ("cases", "differ");
 
+/// Which cases of a transcript are run: those that hold where this one searches, and with a name only
+/// those of this name.
+#[derive(Clone, Copy)]
+struct Selection<'r> {
+    searcher: Searcher,
+    only: &'r Option<String>,
+}
+
+impl<'r> Selection<'r> {
+    /// Whether the case has the name that is asked for, if one is.
+    fn names(self, case: &Case<'_>) -> bool {
+        match self.only {
+            Some(name) => case.name == name.as_str(),
+            None => true,
+        }
+    }
+}
+
 /// Runs a program on the cases that the words ask for, prints each that differs and the counts, and
-/// says how it ends.
-pub fn run_transcripts<R: Files + AllocGlobal + Clone + Drop, P: Program, F: Shelf, O: Sink>(
-    rt: &R,
-    program: &P,
-    words: &[String],
-    shelf: &mut F,
-    out: &mut O,
-) -> Ending {
+/// says how it ends. The program may be called at any time, by words, a shelf and a sink; `searcher`
+/// says who searches in it.
+pub fn run_transcripts<
+    R: Files + AllocGlobal + Clone + Drop,
+    P: Fn(Global, &[String], &mut MemShelf, &mut MemSink) -> Status,
+    F: Shelf,
+    O: Sink,
+>(rt: &R, program: &P, searcher: Searcher, words: &[String], shelf: &mut F, out: &mut O) -> Ending
+    requires { P.IsAlwaysCallable program.now }
+{
     let mut request = Request::new(rt.alloc());
-    let ending = answer(rt, program, words, &mut request, shelf, out);
+    let ending = match fill(rt, words, &mut request) {
+        Ok(()) => run_request(rt.alloc(), program, searcher, &request, shelf, out),
+        Err(stop) => Err(stop),
+    };
     discard(request);
     match ending {
         Ok(ending) => ending,
@@ -44,64 +67,60 @@ pub fn run_transcripts<R: Files + AllocGlobal + Clone + Drop, P: Program, F: She
     }
 }
 
-/// Asks for what the words say, and runs it.
-fn answer<R: Files + AllocGlobal + Clone + Drop, P: Program, F: Shelf, O: Sink>(
+/// Asks for what the words say, and where they name no file for the files of the folder.
+fn fill<R: Files + AllocGlobal + Clone + Drop>(
     rt: &R,
-    program: &P,
     words: &[String],
     request: &mut Request,
-    shelf: &mut F,
-    out: &mut O,
-) -> Result<Ending, Stop> {
+) -> Result<(), Stop> {
     take_words(rt.alloc(), words, request)?;
     if request.is_empty() {
         take_folder(rt, request)?;
     }
-    run_request(rt.alloc(), program, request, shelf, out)
+    Ok(())
 }
 
-fn run_request<P: Program, F: Shelf, O: Sink>(
+/// Judges the wrong cases and the broken texts, if it is the one to judge them, and runs the cases.
+fn run_request<P: Fn(Global, &[String], &mut MemShelf, &mut MemSink) -> Status, F: Shelf, O: Sink>(
     alloc: Global,
     program: &P,
+    searcher: Searcher,
     request: &Request,
     shelf: &mut F,
     out: &mut O,
-) -> Result<Ending, Stop> {
-    let (wrong, broken) = judge_faults(alloc, program, request, shelf, out)?;
-    let cases = run_files(
-        alloc,
-        program,
-        CASES,
-        request.files.as_slice(),
-        &request.only,
-        shelf,
-        out,
-    )?;
+) -> Result<Ending, Stop>
+    requires { P.IsAlwaysCallable program.now }
+{
+    let (wrong, broken) = match searcher {
+        Searcher::Alone => judge_faults(alloc, program, request, shelf, out)?,
+        Searcher::Crew => (Tally::NONE, Tally::NONE),
+    };
+    let only = &request.only;
+    let selection = Selection { searcher, only };
+    let files = request.files.as_slice();
+    let cases = run_files(alloc, program, selection, files, shelf, out)?;
+    print_counts(alloc, out, CASES, cases)?;
     Ok(ending_of(cases, wrong, broken))
 }
 
-/// Runs the wrong cases, and reads the texts that are to be no transcripts. Whether they are told
-/// is asked once, of the program that runs one worker; the others count none.
-fn judge_faults<P: Program, F: Shelf, O: Sink>(
+/// Runs the wrong cases, and reads the texts that are to be no transcripts.
+fn judge_faults<P: Fn(Global, &[String], &mut MemShelf, &mut MemSink) -> Status, F: Shelf, O: Sink>(
     alloc: Global,
     program: &P,
     request: &Request,
     shelf: &mut F,
     out: &mut O,
-) -> Result<(Tally, Tally), Stop> {
-    if !program.is_alone() {
-        return Ok((Tally::NONE, Tally::NONE));
-    }
+) -> Result<(Tally, Tally), Stop>
+    requires { P.IsAlwaysCallable program.now }
+{
     let broken = refuse_files(alloc, request.broken.as_slice(), shelf, out)?;
-    let wrong = run_files(
-        alloc,
-        program,
-        WRONG,
-        request.wrong.as_slice(),
-        &request.only,
-        shelf,
-        out,
-    )?;
+    print_counts(alloc, out, BROKEN, broken)?;
+    let searcher = Searcher::Alone;
+    let only = &request.only;
+    let selection = Selection { searcher, only };
+    let files = request.wrong.as_slice();
+    let wrong = run_files(alloc, program, selection, files, shelf, out)?;
+    print_counts(alloc, out, WRONG, wrong)?;
     Ok((wrong, broken))
 }
 
@@ -111,11 +130,10 @@ fn print_counts<O: Sink>(
     out: &mut O,
     (what, did): Counted,
     tally: Tally,
-) -> Result<Tally, Stop> {
+) -> Result<(), Stop> {
     let all = tally.all();
     let told = tally.told;
-    print(out, format!(in alloc; "{all} {what}, {told} {did}\n"))?;
-    Ok(tally)
+    print(out, format!(in alloc; "{all} {what}, {told} {did}\n"))
 }
 
 /// Prints a line, where there was memory for it.
@@ -133,8 +151,7 @@ fn print_text<O: Sink>(out: &mut O, text: &str) -> Result<(), Stop> {
     }
 }
 
-/// Reads texts that are to be no transcripts, and prints for each at which line it isn't one, and
-/// then their counts.
+/// Reads texts that are to be no transcripts, and prints for each at which line it isn't one.
 fn refuse_files<F: Shelf, O: Sink>(
     alloc: Global,
     names: &[String],
@@ -145,7 +162,7 @@ fn refuse_files<F: Shelf, O: Sink>(
     for name in names {
         tally.count(refuse_file(alloc, name.as_str(), shelf, out)?);
     }
-    print_counts(alloc, out, BROKEN, tally)
+    Ok(tally)
 }
 
 /// Prints at which line a file isn't a transcript, and says whether it isn't one.
@@ -184,44 +201,40 @@ fn tell_flaw<O: Sink>(alloc: Global, name: &str, flaw: Flaw, out: &mut O) -> Res
     }
 }
 
-/// Runs the cases of transcripts, and prints each that differs, and then their counts.
-fn run_files<P: Program, F: Shelf, O: Sink>(
+/// Runs the selected cases of transcripts, and prints each that differs.
+fn run_files<P: Fn(Global, &[String], &mut MemShelf, &mut MemSink) -> Status, F: Shelf, O: Sink>(
     alloc: Global,
     program: &P,
-    counted: Counted,
+    selection: Selection<'_>,
     names: &[String],
-    only: &Option<String>,
     shelf: &mut F,
     out: &mut O,
-) -> Result<Tally, Stop> {
+) -> Result<Tally, Stop>
+    requires { P.IsAlwaysCallable program.now }
+{
     let mut tally = Tally::NONE;
     for name in names {
-        let text = bytes_of(alloc, name.as_str(), shelf, out)?;
-        run_text(
-            alloc,
-            program,
-            name.as_str(),
-            text.as_slice(),
-            only,
-            out,
-            &mut tally,
-        )?;
+        let name = name.as_str();
+        let text = bytes_of(alloc, name, shelf, out)?;
+        let of_text = run_text(alloc, program, selection, name, text.as_slice(), out)?;
+        tally.add(of_text);
     }
-    print_counts(alloc, out, counted, tally)
+    Ok(tally)
 }
 
-/// Runs the cases of a file's text.
-fn run_text<P: Program, O: Sink>(
+/// Runs the selected cases of a file's text.
+fn run_text<P: Fn(Global, &[String], &mut MemShelf, &mut MemSink) -> Status, O: Sink>(
     alloc: Global,
     program: &P,
+    selection: Selection<'_>,
     name: &str,
     text: &[u8],
-    only: &Option<String>,
     out: &mut O,
-    tally: &mut Tally,
-) -> Result<(), Stop> {
+) -> Result<Tally, Stop>
+    requires { P.IsAlwaysCallable program.now }
+{
     match cases_of(alloc, text) {
-        Ok(cases) => run_cases(alloc, program, name, cases.as_slice(), only, out, tally),
+        Ok(cases) => run_cases(alloc, program, selection, name, cases.as_slice(), out),
         Err(flaw) => {
             tell_flaw(alloc, name, flaw, out)?;
             Err(Stop::Told)
@@ -229,41 +242,39 @@ fn run_text<P: Program, O: Sink>(
     }
 }
 
-/// Runs the chosen cases of a file.
-fn run_cases<P: Program, O: Sink>(
+/// Runs the selected cases of a file.
+fn run_cases<P: Fn(Global, &[String], &mut MemShelf, &mut MemSink) -> Status, O: Sink>(
     alloc: Global,
     program: &P,
+    selection: Selection<'_>,
     name: &str,
     cases: &[Case<'_>],
-    only: &Option<String>,
     out: &mut O,
-    tally: &mut Tally,
-) -> Result<(), Stop> {
+) -> Result<Tally, Stop>
+    requires { P.IsAlwaysCallable program.now }
+{
+    let mut tally = Tally::NONE;
     for case in cases {
-        if is_chosen(only, case) {
-            tally.count(tell_case(alloc, program, name, case, out)?);
+        if selection.names(case) {
+            tally.count(tell_case(alloc, program, selection.searcher, name, case, out)?);
         }
     }
-    Ok(())
+    Ok(tally)
 }
 
-/// Whether the case is to be run.
-fn is_chosen(only: &Option<String>, case: &Case<'_>) -> bool {
-    match only {
-        Some(name) => case.name == name.as_str(),
-        None => true,
-    }
-}
-
-/// Runs a case, prints what differs first, and says whether something does.
-fn tell_case<P: Program, O: Sink>(
+/// Runs a case that holds where this one searches, prints what differs first, and says whether
+/// something does.
+fn tell_case<P: Fn(Global, &[String], &mut MemShelf, &mut MemSink) -> Status, O: Sink>(
     alloc: Global,
     program: &P,
+    searcher: Searcher,
     file: &str,
     case: &Case<'_>,
     out: &mut O,
-) -> Result<bool, Stop> {
-    if !case.holds_for(program.is_alone()) {
+) -> Result<bool, Stop>
+    requires { P.IsAlwaysCallable program.now }
+{
+    if !case.holds_for(searcher) {
         return Ok(false);
     }
     match run_case(alloc, program, case) {

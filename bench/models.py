@@ -105,7 +105,7 @@ def earlier(count):
 
 
 class Draws:
-    """Numbers from 1 to 100, by the generator that the program's own `trial` is to use."""
+    """Numbers from 1 to 100, by the generator that the program's own `trial` uses."""
 
     def __init__(self, seed):
         self.mask = (1 << 64) - 1
